@@ -1,0 +1,10 @@
+-- The lesser and the greater of two integers. Definitions only.
+use mathlib.Core.Bool.{cond}
+use lib.IntN.{ℤ}
+use lib.Signed.{leZ}
+
+unfoldable pub minℤ : ℤ → ℤ → ℤ
+minℤ a b = cond (leZ a b) a b
+
+unfoldable pub maxℤ : ℤ → ℤ → ℤ
+maxℤ a b = cond (leZ a b) b a
