@@ -1,0 +1,12 @@
+pub mod Compare
+pub mod Grid
+pub mod Bracket
+pub mod Sign
+pub mod Directed
+pub mod Closest
+pub mod Refusal
+pub mod Nearest
+pub mod Pattern
+pub mod Shift
+pub mod Jam
+pub mod Floor

@@ -1,0 +1,4 @@
+pub mod Format
+pub mod Rounding
+pub mod Property
+pub mod Pattern

@@ -1,0 +1,21 @@
+-- What a bit pattern without its sign stands for. Definitions only.
+-- Of the pattern n, the exponent field is n / 2 ^ (prec - 1) and the fraction n % 2 ^ (prec - 1).
+use Prim.Native.Nat.{ℕ, zero, suc, _+_, _*_, _/_, _%_, _^_}
+use Rattle.rounding.specs.Format.{Format, half}
+use Rattle.rounding.specs.Rounding.{expo}
+
+-- exponent field e, fraction m, with P = 2 ^ (prec - 1): m units for e = 0, else (P + m) * 2 ^ (e - 1)
+abbrev pub value : ℕ → ℕ → ℕ → ℕ
+value P zero m = m
+value P (suc e) m = (P + m) * 2 ^ e
+
+unfoldable pub val : Format → ℕ → ℕ
+val f n = value (half f) (n / half f) (n % half f)
+
+-- the patterns of numbers are those below it: the next exponent field is all ones
+abbrev pub limit : Format → ℕ
+limit f = (f .top + 2) * half f
+
+-- the pattern of a magnitude that is a number
+unfoldable pub place : Format → ℕ → ℕ
+place f v = expo f v * half f + v / 2 ^ expo f v

@@ -1,0 +1,45 @@
+-- The three roundings, by property, and the bound of an error. Definitions only.
+use mathlib.Core.Path.{_≡_}
+use mathlib.Core.Option.{Option, none, some}
+use Prim.Native.Nat.{ℕ, _+_, _-_, _*_, _^_, _≤_}
+use lib.IntN.{ℤ, pos, negℤ, natAbs, _*ℤ_, _-ℤ_}
+use Rattle.algebra.specs.Order.{_≼_, _≺_}
+use Rattle.rounding.specs.Format.{Format, MAX, Form, Num}
+use Rattle.rounding.specs.Rounding.{ex, step}
+
+-- ---- the least number not below X / D, the greatest not above it
+pub record IsUp (f : Format) (D : ℕ) (X v : ℤ) : Type 0 where
+  pub num : Num f v
+  pub above : X ≼ v *ℤ pos D
+  pub least : (w : ℤ) → Num f w → X ≼ w *ℤ pos D → v ≼ w
+
+pub record IsDown (f : Format) (D : ℕ) (X v : ℤ) : Type 0 where
+  pub num : Num f v
+  pub below : v *ℤ pos D ≼ X
+  pub greatest : (w : ℤ) → Num f w → w *ℤ pos D ≼ X → w ≼ v
+
+abbrev pub UpTo : Format → ℕ → ℤ → Option ℤ → Type 0
+UpTo f D X (some v) = IsUp f D X v
+UpTo f D X none = pos (MAX f * D) ≺ X
+
+abbrev pub DownTo : Format → ℕ → ℤ → Option ℤ → Type 0
+DownTo f D X (some v) = IsDown f D X v
+DownTo f D X none = X ≺ negℤ (pos (MAX f * D))
+
+-- ---- how far v is from X / D, in the numerator
+abbrev pub off : ℕ → ℤ → ℤ → ℕ
+off D X v = natAbs (v *ℤ pos D -ℤ X)
+
+-- ---- the nearest number: none is nearer, also none that would be above the largest; and where it is half a step off, so that another is as near, its significand is even
+pub record IsNear (f : Format) (D : ℕ) (X v : ℤ) : Type 0 where
+  pub num : Num f v
+  pub closer : (w : ℤ) → Form f (natAbs w) → off D X v ≤ off D X w
+  pub even : 2 * off D X v ≡ step f D (natAbs X) → (m : ℕ) × (natAbs v ≡ 2 ^ ex f D (natAbs X) * (2 * m))
+
+abbrev pub NearTo : Format → ℕ → ℤ → Option ℤ → Type 0
+NearTo f D X (some v) = IsNear f D X v
+NearTo f D X none = 2 * (MAX f * D) + 2 ^ f .top * D ≤ 2 * natAbs X
+
+-- ---- an error: at most |X| / P, and a unit less the least fraction
+pub record Err (P D : ℕ) (X v : ℤ) : Type 0 where
+  pub bound : P * off D X v ≤ natAbs X + P * (D - 1)
