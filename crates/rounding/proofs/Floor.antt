@@ -13,18 +13,9 @@ use lib.Signed.{shrZ}
 use lib.Ieee.Nearest.{closest}
 use Rattle.algebra.proofs.Linear.{reading, le, lt, eq, lin-eq}
 use Rattle.rounding.specs.Rounding.{sticky, ceil, signed}
+use Rattle.rounding.specs.Quotient.{rem, ceilS, bit}
 use Rattle.rounding.proofs.Bracket.{ceil-split}
 use Rattle.rounding.proofs.Closest.{closest-split}
-
--- the remainder of the floor, from 0 up to m - 1
-abbrev pub rem : ℤ → ℕ → ℕ
-rem (pos n) m = n % m
-rem (negsuc n) m = m - suc (n % m)
-
--- s / m rounded up
-abbrev pub ceilS : ℤ → ℕ → ℤ
-ceilS (pos n) m = pos (ceil n m)
-ceilS (negsuc n) m = negℤ (pos (suc n / m))
 
 suc-split : {G : Type 0} (n m : ℕ) → 0 < m → (suc (n % m) < m → suc n / m ≡ n / m → suc n % m ≡ suc (n % m) → G) → (suc (n % m) ≡ m → suc n / m ≡ suc (n / m) → suc n % m ≡ 0 → G) → G
 suc-split {G} n m h F H = ⊎-elim carry inside (eq-or-lt-of-le (mod-lt n h))
@@ -89,10 +80,6 @@ down-floor (negsuc n) m h = ap (λ x. negℤ (pos x)) (sym next)
         (λ l e r. ceil-split (suc n) m (λ z c. omega arith) (λ z c. omega arith))
 
 -- ---- the nearest: one more where the remainder is above half of m, or is half of m and c is odd
-abbrev pub bit : Bool → ℕ
-bit true = 1
-bit false = 0
-
 abbrev pub bump : ℤ → ℕ → ℕ
 bump s m = bit (ltb m (2 * rem s m + natAbs (shrZ s m) % 2))
 

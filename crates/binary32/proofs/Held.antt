@@ -1,0 +1,113 @@
+-- Laws of what a pattern holds: an operation on patterns is the operation on the numbers that they hold, and a number's pattern holds it.
+use mathlib.Core.Path.{_≡_, refl, sym, ap, ap₂, _∙_, subst}
+use mathlib.Core.Bool.{Bool, true, false, cond}
+use mathlib.Core.Option.{Option, none, some, bind}
+use Prim.Native.Nat.{ℕ, suc, _+_, _*_, _%_, _^_, _≤_, _<_}
+use native.Mathlib.Omega.{arith}
+use native.Mathlib.Nat.{mod-eq-of-lt, le-trans, le-of-eq}
+use lib.Dec.{leb}
+use lib.IntN.{ℤ, pos, negsuc, negℤ}
+use borrow.Author.Tests.{lt-ltb, ltb-true, lt-leb, le-leb}
+use Rattle.rounding.specs.Format.{binary32, MAX, Form, Num}
+use Rattle.rounding.specs.Pattern.{val, place}
+use Rattle.rounding.proofs.Pattern.{val-max, val-form}
+use Rattle.rounding.proofs.Sign.{num-neg}
+use Rattle.binary32.specs.Number.{signedBy, valueOf, finite, Finite, finites, held, patternOf, hold}
+use Rattle.binary32.specs.Operations.{with₂}
+use Rattle.binary32.proofs.Places.{val-place}
+
+-- ---- finite patterns
+
+pub finite-is : (p : ℕ) → finite p ≡ true → Finite p
+finite-is p t = ltb-true (p % 2 ^ 31) (255 * 2 ^ 23) t
+
+pub is-finite : (p : ℕ) → Finite p → finite p ≡ true
+is-finite p h = lt-ltb (p % 2 ^ 31) (255 * 2 ^ 23) h
+
+pub finites-first : (a b : ℕ) → finites a b ≡ true → finite a ≡ true
+finites-first a b t = go (finite a) t
+  where
+    go : (x : Bool) → cond x (finite b) false ≡ true → x ≡ true
+    go true t = refl
+    go false t = t
+
+pub finites-second : (a b : ℕ) → finites a b ≡ true → finite b ≡ true
+finites-second a b t = sym (ap (λ x. cond x (finite b) false) (finites-first a b t)) ∙ t
+
+-- ---- what two patterns hold
+
+pub held-finite : (p : ℕ) → finite p ≡ true → held p ≡ some (valueOf p)
+unfolding held
+held-finite p t = ap (λ x. cond x (some (valueOf p)) none) t
+
+pub held-none : (p : ℕ) → finite p ≡ false → held p ≡ none
+unfolding held
+held-none p t = ap (λ x. cond x (some (valueOf p)) none) t
+
+module _ (op : ℤ → ℤ → Option ℤ) (a b : ℕ) where
+  pub with-some : finites a b ≡ true → with₂ op a b ≡ op (valueOf a) (valueOf b)
+  unfolding with₂ bind
+  with-some t =
+      ap₂ (λ u v. bind u λ x. bind v λ y. op x y) (held-finite a (finites-first a b t)) (held-finite b (finites-second a b t))
+
+  pub with-none : finites a b ≡ false → with₂ op a b ≡ none
+  unfolding with₂ held bind
+  with-none t = go (finite a) (finite b) t
+    where
+      go : (x y : Bool) → cond x y false ≡ false → bind (cond x (some (valueOf a)) none) (λ u. bind (cond y (some (valueOf b)) none) λ v. op u v) ≡ none
+      go true true e = absurd (no (sym e))
+        where
+          no : false ≡ true → ⊥
+          no e = subst (λ x. cond x ⊥ (Unit {0})) e tt
+      go true false e = refl
+      go false y e = refl
+
+-- ---- a number's pattern is finite and has its value; a finite pattern's value is a number
+
+place-low : {n : ℕ} → Form binary32 n → n ≤ MAX binary32 → place binary32 n < 255 * 2 ^ 23
+place-low {n} F h = val-max binary32 (place binary32 n) .0 (le-trans (le-of-eq (val-place binary32 F)) h)
+
+value-low : (q : ℕ) → q < 2 ^ 31 → valueOf q ≡ pos (val binary32 q)
+unfolding valueOf
+value-low q h = ap₂ (λ t n. signedBy t (val binary32 n)) (lt-leb (2 ^ 31) q h) (mod-eq-of-lt h)
+
+value-high : (q : ℕ) → q < 2 ^ 31 → valueOf (2 ^ 31 + q) ≡ negℤ (pos (val binary32 q))
+unfolding valueOf
+value-high q h = ap₂ (λ t n. signedBy t (val binary32 n)) (le-leb (2 ^ 31) (2 ^ 31 + q) (omega arith)) (rest q h)
+  where
+    rest : (q : ℕ) → q < 2 ^ 31 → (2 ^ 31 + q) % 2 ^ 31 ≡ q
+    rest q h = omega arith
+
+pub pattern-value : {v : ℤ} → Num binary32 v → valueOf (patternOf v) ≡ v
+pattern-value {v = pos n} N =
+    let l : place binary32 n < 255 * 2 ^ 23 = place-low (N .form) (N .within) in
+    value-low (place binary32 n) (omega arith) ∙ ap pos (val-place binary32 (N .form))
+pattern-value {v = negsuc k} N =
+    let l : place binary32 (suc k) < 255 * 2 ^ 23 = place-low (N .form) (N .within) in
+    value-high (place binary32 (suc k)) (omega arith) ∙ ap (λ x. negℤ (pos x)) (val-place binary32 (N .form))
+
+pub pattern-finite : {v : ℤ} → Num binary32 v → Finite (patternOf v)
+pattern-finite {v = pos n} N = let l : place binary32 n < 255 * 2 ^ 23 = place-low (N .form) (N .within) in omega arith
+pattern-finite {v = negsuc k} N = let l : place binary32 (suc k) < 255 * 2 ^ 23 = place-low (N .form) (N .within) in omega arith
+
+pub value-num : (p : ℕ) → Finite p → Num binary32 (valueOf p)
+unfolding valueOf
+value-num p h = go (leb (2 ^ 31) p)
+  where
+    positive : Num binary32 (pos (val binary32 (p % 2 ^ 31)))
+    positive = record { form = val-form binary32 (p % 2 ^ 31); within = val-max binary32 (p % 2 ^ 31) .1 h }
+
+    go : (t : Bool) → Num binary32 (signedBy t (val binary32 (p % 2 ^ 31)))
+    go true = num-neg positive
+    go false = positive
+
+-- ---- what is held comes back
+
+-- a partial result that is a number of the format, or none
+unfoldable pub Fits : Option ℤ → Type 0
+Fits m = (v : ℤ) → m ≡ some v → Num binary32 v
+
+pub held-hold : (z : ℕ) → finite z ≡ false → (m : Option ℤ) → Fits m → held (hold z m) ≡ m
+unfolding Fits
+held-hold z t none h = held-none z t
+held-hold z t (some v) h = held-finite (patternOf v) (is-finite (patternOf v) (pattern-finite (h v refl))) ∙ ap some (pattern-value (h v refl))

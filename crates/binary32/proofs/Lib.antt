@@ -1,0 +1,15 @@
+pub mod Ints
+pub mod Values
+pub mod Places
+pub mod Shifted
+pub mod Signs
+pub mod Cutting
+pub mod Rests
+pub mod Packing
+pub mod Products
+pub mod Far
+pub mod Sums
+pub mod Held
+pub mod Negation
+pub mod Exacts
+pub mod Numbers

@@ -1,0 +1,108 @@
+-- Patterns of numbers, and a shifted significand's pattern as what a rounding holds.
+use mathlib.Core.Path.{_≡_, refl, sym, ap, _∙_, subst}
+use mathlib.Core.Option.{Option, none, some}
+use mathlib.Core.Bool.{Bool, true, false, cond, not}
+use Prim.Native.Nat.{ℕ, zero, suc, _+_, _-_, _*_, _/_, _^_, _≤_, _<_, min}
+use lib.IntN.{ℤ, pos, negℤ}
+use lib.Dec.{T, ltb, ltb→lt, nltb→le}
+use lib.Ieee.{size}
+use mathlib.Core.Logic.{_⊎_, inl, inr, ⊎-elim}
+use native.Mathlib.Omega.{arith}
+use native.Mathlib.Nat.{mul-div-cancel, lt-of-mul-lt-mul-right, le-of-mul-le-mul-right}
+use lib.Pow.{pow-pos}
+use Rattle.rounding.specs.Format.{Format, binary32, half, Form}
+use Rattle.rounding.specs.Rounding.{expo, negate}
+use Rattle.rounding.proofs.Grid.{expo-hi, expo-lo, on-grid}
+use Rattle.rounding.specs.Pattern.{val, place}
+use Rattle.rounding.proofs.Pattern.{val-pattern, val-form, val-injective, val-lt}
+use Rattle.binary32.specs.Number.{patternOf, hold}
+use Rattle.binary32.specs.Steps.{packed}
+
+module _ (f : Format) where
+  pub val-place : {v : ℕ} → Form f v → val f (place f v) ≡ v
+  unfolding place
+  val-place {v} F = go (on-grid (expo f v) F (expo-lo f v))
+    where
+      go : (c : ℕ) × (v ≡ c * 2 ^ expo f v) → val f (expo f v * half f + v / 2 ^ expo f v) ≡ v
+      go (c, e) =
+          ap (λ x. val f (expo f v * half f + x)) (ap (λ x. x / 2 ^ expo f v) e ∙ mul-div-cancel c (pow-pos (expo f v))) ∙ val-pattern f (expo f v) c c≤ big ∙ sym e
+        where
+          c≤ : c ≤ 2 ^ f .prec
+          c≤ = omega (arith, lt-of-mul-lt-mul-right (2 ^ expo f v) {m = c} {n = 2 ^ f .prec} (omega (arith, expo-hi f v)))
+
+          big : (expo f v ≡ 0) ⊎ (half f ≤ c)
+          big = ⊎-elim inl (λ l. inr (le-of-mul-le-mul-right {k = 2 ^ expo f v} (omega (arith, l)) (pow-pos (expo f v)))) (expo-lo f v)
+
+  pub place-val : (n : ℕ) → place f (val f n) ≡ n
+  place-val n = val-injective f (val-place (val-form f n))
+
+-- the pattern of minus a number
+pub neg-place : (n : ℕ) → 0 < n → patternOf (negℤ (pos (val binary32 n))) ≡ 2 ^ 31 + n
+neg-place n h = go (val binary32 n) (val-lt binary32 h) refl
+  where
+    go : (v : ℕ) → val binary32 0 < v → v ≡ val binary32 n → patternOf (negℤ (pos v)) ≡ 2 ^ 31 + n
+    go zero l e = absurd (no l)
+      where
+        no : val binary32 0 < 0 → ⊥
+        no l = omega arith
+    go (suc k) l e = ap (λ x. 2 ^ 31 + place binary32 x) e ∙ ap (λ x. 2 ^ 31 + x) (place-val binary32 n)
+
+-- ---- c * 2 ^ j units, by the place of its pattern
+abbrev pub at : ℕ → ℕ → ℕ
+at j c = j * 2 ^ 23 + c
+
+abbrev pub past : ℕ
+past = 255 * 2 ^ 23
+
+-- the number at q, if there is one
+abbrev pub whole : ℕ → Option ℤ
+whole q = cond (ltb q past) (some (pos (val binary32 q))) none
+
+-- by the test of a place
+view : (G : Bool → Type 0) (q : ℕ) → (q < past → G true) → (past ≤ q → G false) → G (ltb q past)
+view G q F H = go (ltb q past) (ltb→lt q past) (nltb→le q past)
+  where
+    go : (t : Bool) → (T t → q < past) → (T (not t) → past ≤ q) → G t
+    go true y n = F (y tt)
+    go false y n = H (n tt)
+
+pub plus : (j c below z : ℕ) → packed (pos c) j below z ≡ hold z (whole (at j c))
+unfolding packed
+plus j c below z =
+    view (λ t. cond t (at j c) z ≡ hold z (cond t (some (pos (val binary32 (at j c)))) none)) (at j c) (λ l. sym (place-val binary32 (at j c))) (λ l. refl)
+
+pub minus : (j c above z : ℕ) → (j ≡ 0) ⊎ (2 ^ 23 ≤ c) → packed (negℤ (pos c)) j z above ≡ hold z (negate (whole (at j c)))
+unfolding packed val place expo size
+minus j zero above z (inl e) = subst (λ x. packed (pos 0) x z above ≡ hold z (negate (whole (at x 0)))) (sym e) refl
+minus j zero above z (inr l) = absurd (no l)
+  where
+    no : 2 ^ 23 ≤ 0 → ⊥
+    no l = omega arith
+minus j (suc k) above z s =
+    view (λ t. cond t (2 ^ 31 + at j (suc k)) z ≡ hold z (negate (cond t (some (pos (val binary32 (at j (suc k))))) none))) (at j (suc k))
+    (λ l. sym (neg-place (at j (suc k)) (omega arith))) (λ l. refl)
+
+-- the largest number in the place of one that is too large
+low-cap : (q : ℕ) → q < past → q ≡ min q (past - 1)
+low-cap q l = omega arith
+
+high-cap : (q : ℕ) → past ≤ q → past - 1 ≡ min q (past - 1)
+high-cap q l = omega arith
+
+pub cap-plus : (j c below : ℕ) → packed (pos c) j below (past - 1) ≡ patternOf (pos (val binary32 (min (at j c) (past - 1))))
+unfolding packed
+cap-plus j c below =
+    view (λ t. cond t (at j c) (past - 1) ≡ min (at j c) (past - 1)) (at j c) (low-cap (at j c)) (high-cap (at j c))
+    ∙ sym (place-val binary32 (min (at j c) (past - 1)))
+
+pub cap-minus : (j c above : ℕ) → (j ≡ 0) ⊎ (2 ^ 23 ≤ c) → packed (negℤ (pos c)) j (2 ^ 31 + (past - 1)) above ≡ patternOf (negℤ (pos (val binary32 (min (at j c) (past - 1)))))
+unfolding packed val place expo size
+cap-minus j zero above (inl e) = subst (λ x. packed (pos 0) x (2 ^ 31 + (past - 1)) above ≡ patternOf (negℤ (pos (val binary32 (min (at x 0) (past - 1)))))) (sym e) refl
+cap-minus j zero above (inr l) = absurd (no l)
+  where
+    no : 2 ^ 23 ≤ 0 → ⊥
+    no l = omega arith
+cap-minus j (suc k) above s =
+    view (λ t. cond t (2 ^ 31 + at j (suc k)) (2 ^ 31 + (past - 1)) ≡ 2 ^ 31 + min (at j (suc k)) (past - 1)) (at j (suc k))
+    (λ l. ap (λ x. 2 ^ 31 + x) (low-cap (at j (suc k)) l)) (λ l. ap (λ x. 2 ^ 31 + x) (high-cap (at j (suc k)) l))
+    ∙ sym (neg-place (min (at j (suc k)) (past - 1)) (omega arith))

@@ -1,0 +1,47 @@
+use mathlib.Core.Path.{_≡_, sym, _∙_}
+use mathlib.Core.Bool.{true}
+use Prim.Native.Nat.{_-_, _^_}
+use lib.IntN.{_+ℤ_}
+use Rattle.binary32.specs.Number.{finites}
+use Rattle.binary32.specs.Operations.{lifted}
+use Rattle.binary32.proofs.Held.{finite-is, finites-first, finites-second}
+use Rattle.binary32.proofs.Exacts.{rounds-value, rounds-none}
+use borrow.Author.Needs.{needs}
+use Rattle.binary32.proofs.exact.total.Statement.{statement}
+use Rattle.binary32.proofs.exact.total.Tie as tie
+
+both-finite-requires : tie.Need-both-finite-requires
+both-finite-requires c κs = search needs
+
+-- both patterns are finite
+told : (c : tie.Then1) → finites (c .before .before .args .a) (c .before .before .args .b) ≡ true
+told c = sym (c .before .both-finite .ensures) ∙ c .if1 .taken
+
+decode-requires : tie.Need-decode-requires
+decode-requires c κs = finite-is (c .before .before .args .a) (finites-first (c .before .before .args .a) (c .before .before .args .b) (told c))
+
+decode-requires-2 : tie.Need-decode-requires-2
+decode-requires-2 c κs = finite-is (c .before .before .before .args .b) (finites-second (c .before .before .before .args .a) (c .before .before .before .args .b) (told (c .before)))
+
+plus-requires : tie.Need-plus-requires
+plus-requires c κs = search needs
+
+returns : tie.Need-returns
+returns c =
+    let d = c .before in
+    let s = d .before .before .before .before in
+    rounds-value (2 ^ (149 - s .args .lift)) _+ℤ_ (s .args .a) (s .args .b) (told (d .before .before)) (d .before .decode .ensures) (d .decode2 .ensures) (c .plus .ensures)
+
+returns-2 : tie.Need-returns-2
+returns-2 c = rounds-none (lifted (c .before .before .args .lift)) (c .before .before .args .a) (c .before .before .args .b) (sym (c .before .both-finite .ensures) ∙ c .if1 .left)
+
+pub total-spec : {M : Type 1} → statement M
+total-spec =
+    tie.close
+    (tie.spec
+    both-finite-requires
+    decode-requires
+    decode-requires-2
+    plus-requires
+    returns
+    returns-2)

@@ -1,0 +1,23 @@
+use Prim.Native.Nat.{_^_}
+use lib.Signed.{shrZ, mag-shr}
+use mir.Syntax.{w64}
+use mir.Val.{SFits}
+use mir.ValLaws.{toZ-ofZ, sfits-le}
+use borrow.Author.Needs.{needs}
+use Rattle.binary32.proofs.funnel.floor.Statement.{statement}
+use Rattle.binary32.proofs.funnel.floor.Tie as tie
+
+fits : (c : tie.Start) → SFits w64 (shrZ (c .args .w) (2 ^ c .args .n))
+fits c = sfits-le (mag-shr (c .args .w) (2 ^ c .args .n)) (c .fits .w)
+
+cast-result : tie.Need-cast-result
+cast-result c = search needs
+
+shr-result : tie.Need-shr-result
+shr-result c = search needs
+
+returns : tie.Need-returns
+returns c = simp (toZ-ofZ w64 _ (c .fits .w), toZ-ofZ w64 _ (fits c))
+
+pub floor-spec : {M : Type 1} → statement M
+floor-spec = tie.close (tie.spec cast-result shr-result returns)

@@ -1,0 +1,17 @@
+use mathlib.Core.Path.{ap, _∙_}
+use Rattle.binary32.specs.Number.{holdDown}
+use borrow.Author.Needs.{needs}
+use Rattle.binary32.proofs.partial.add_down.Statement.{statement}
+use Rattle.binary32.proofs.partial.add_down.Tie as tie
+
+total-requires : tie.Need-total-requires
+total-requires c κs = search needs
+
+down-of-requires : tie.Need-down-of-requires
+down-of-requires c κs = search needs
+
+returns : tie.Need-returns
+returns c = c .down-of .ensures ∙ ap holdDown (c .before .total .ensures .downs)
+
+pub add-down-spec : {M : Type 1} → statement M
+add-down-spec = tie.close (tie.spec total-requires down-of-requires returns)

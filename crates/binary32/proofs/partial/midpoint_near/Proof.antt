@@ -1,0 +1,17 @@
+use mathlib.Core.Path.{ap, _∙_}
+use Rattle.binary32.specs.Number.{holdNear}
+use borrow.Author.Needs.{needs}
+use Rattle.binary32.proofs.partial.midpoint_near.Statement.{statement}
+use Rattle.binary32.proofs.partial.midpoint_near.Tie as tie
+
+total-requires : tie.Need-total-requires
+total-requires c κs = search needs
+
+near-of-requires : tie.Need-near-of-requires
+near-of-requires c κs = search needs
+
+returns : tie.Need-returns
+returns c = c .near-of .ensures ∙ ap holdNear (c .before .total .ensures .nears)
+
+pub midpoint-near-spec : {M : Type 1} → statement M
+midpoint-near-spec = tie.close (tie.spec total-requires near-of-requires returns)

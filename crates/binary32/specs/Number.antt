@@ -1,0 +1,57 @@
+-- What a binary32 pattern stands for, in units of 2^-149, and the pattern of a number. Definitions only (01, "Numbers").
+use mathlib.Core.Bool.{Bool, true, false, cond}
+use mathlib.Core.Option.{Option, none, some}
+use Prim.Native.Nat.{ℕ, suc, _+_, _-_, _*_, _%_, _^_, _<_}
+use lib.Dec.{leb, ltb}
+use lib.IntN.{ℤ, pos, negsuc, negℤ}
+use Rattle.rounding.specs.Format.{binary32}
+use Rattle.rounding.specs.Pattern.{val, place}
+
+-- ---- from a pattern to its number
+
+abbrev pub signedBy : Bool → ℕ → ℤ
+signedBy true n = negℤ (pos n)
+signedBy false n = pos n
+
+-- the sign is the highest of 32 bits; below it stand the exponent field and the fraction (`val`)
+unfoldable pub valueOf : ℕ → ℤ
+valueOf p = signedBy (leb (2 ^ 31) p) (val binary32 (p % 2 ^ 31))
+
+-- exponent field 255 stands for no number
+abbrev pub finite : ℕ → Bool
+finite p = ltb (p % 2 ^ 31) (255 * 2 ^ 23)
+
+abbrev pub Finite : ℕ → Type 0
+Finite p = p % 2 ^ 31 < 255 * 2 ^ 23
+
+abbrev pub finites : ℕ → ℕ → Bool
+finites a b = cond (finite a) (finite b) false
+
+-- the number that a pattern holds, or none
+unfoldable pub held : ℕ → Option ℤ
+held p = cond (finite p) (some (valueOf p)) none
+
+-- the pattern with the other sign
+unfoldable pub negated : ℕ → ℕ
+negated p = cond (ltb p (2 ^ 31)) (p + 2 ^ 31) (p - 2 ^ 31)
+
+-- ---- from a number to its pattern: zero has the pattern 0, never that of minus zero
+
+abbrev pub patternOf : ℤ → ℕ
+patternOf (pos v) = place binary32 v
+patternOf (negsuc n) = 2 ^ 31 + place binary32 (suc n)
+
+-- where there is no number: a pattern of exponent field 255, named z
+abbrev pub hold : ℕ → Option ℤ → ℕ
+hold z (some v) = patternOf v
+hold z none = z
+
+-- rounding down has no number below all, rounding up none above all: minus infinity, infinity
+abbrev pub holdDown : Option ℤ → ℕ
+holdDown = hold 0xFF800000
+
+abbrev pub holdUp : Option ℤ → ℕ
+holdUp = hold 0x7F800000
+
+abbrev pub holdNear : Option ℤ → ℕ
+holdNear = hold 0x7F800000

@@ -1,0 +1,91 @@
+-- The operations: the exact value, rounded once. Definitions only (01, "Numbers").
+use mathlib.Core.Bool.{cond}
+use mathlib.Core.Option.{Option, none, some, bind}
+use Prim.Native.Nat.{ℕ, _-_, _^_}
+use lib.IntN.{ℤ, _+ℤ_, _-ℤ_, _*ℤ_}
+use Rattle.rounding.specs.Format.{Format, binary32}
+use Rattle.rounding.specs.Rounding.{up, down, near}
+use Rattle.binary32.specs.Number.{valueOf, finite, finites, held, patternOf}
+use Rattle.binary32.specs.declared.Rounded.{Rounded}
+use Rattle.binary32.specs.declared.Rounded.the-variants.{Number, NotFinite, Overflow}
+
+-- `up`, `down` or `near`
+abbrev pub Way : Type 0
+Way = Format → ℕ → ℤ → Option ℤ
+
+-- ---- of two numbers, in units: a sum or a difference is a whole number of units, a midpoint of halves, a product of 2^-149 of a unit
+
+abbrev pub add : Way → ℤ → ℤ → Option ℤ
+add way x y = way binary32 1 (x +ℤ y)
+
+abbrev pub sub : Way → ℤ → ℤ → Option ℤ
+sub way x y = way binary32 1 (x -ℤ y)
+
+abbrev pub mul : Way → ℤ → ℤ → Option ℤ
+mul way x y = way binary32 (2 ^ 149) (x *ℤ y)
+
+abbrev pub midpoint : Way → ℤ → ℤ → Option ℤ
+midpoint way x y = way binary32 2 (x +ℤ y)
+
+-- a sum at lift 149, a midpoint at lift 148: one operation with the unit as a parameter
+abbrev pub lifted : ℕ → Way → ℤ → ℤ → Option ℤ
+lifted lift way x y = way binary32 (2 ^ (149 - lift)) (x +ℤ y)
+
+-- ---- of two patterns that hold a number or none
+unfoldable pub with₂ : (ℤ → ℤ → Option ℤ) → ℕ → ℕ → Option ℤ
+with₂ op a b = bind (held a) λ x. bind (held b) λ y. op x y
+
+-- ---- of two patterns, with the refusals: 3 for exponent field 255, 5 where no finite number is right
+
+abbrev pub answerOf : Option ℤ → Rounded
+answerOf (some v) = Number (patternOf v)
+answerOf none = Overflow
+
+unfoldable pub answer : (ℤ → ℤ → Option ℤ) → ℕ → ℕ → Rounded
+answer op a b = cond (finites a b) (answerOf (op (valueOf a) (valueOf b))) NotFinite
+
+-- the paper's number of an answer; 0 where it is not refused
+abbrev pub refusalOf : Rounded → ℕ
+refusalOf (Number p) = 0
+refusalOf NotFinite = 3
+refusalOf Overflow = 5
+
+-- the same from a result r that holds a number or none
+unfoldable pub checkedOf : ℕ → ℕ → ℕ → Rounded
+checkedOf a b r = cond (finites a b) (cond (finite r) (Number r) Overflow) NotFinite
+
+abbrev pub addDown : ℕ → ℕ → Rounded
+addDown = answer (add down)
+
+abbrev pub addUp : ℕ → ℕ → Rounded
+addUp = answer (add up)
+
+abbrev pub addNear : ℕ → ℕ → Rounded
+addNear = answer (add near)
+
+abbrev pub subDown : ℕ → ℕ → Rounded
+subDown = answer (sub down)
+
+abbrev pub subUp : ℕ → ℕ → Rounded
+subUp = answer (sub up)
+
+abbrev pub subNear : ℕ → ℕ → Rounded
+subNear = answer (sub near)
+
+abbrev pub mulDown : ℕ → ℕ → Rounded
+mulDown = answer (mul down)
+
+abbrev pub mulUp : ℕ → ℕ → Rounded
+mulUp = answer (mul up)
+
+abbrev pub mulNear : ℕ → ℕ → Rounded
+mulNear = answer (mul near)
+
+abbrev pub midpointDown : ℕ → ℕ → Rounded
+midpointDown = answer (midpoint down)
+
+abbrev pub midpointUp : ℕ → ℕ → Rounded
+midpointUp = answer (midpoint up)
+
+abbrev pub midpointNear : ℕ → ℕ → Rounded
+midpointNear = answer (midpoint near)

@@ -1,0 +1,143 @@
+-- What the inner steps of an operation give. Definitions only, for the contracts of functions that no other crate sees.
+use mathlib.Core.Path.{_≡_}
+use mathlib.Core.Bool.{Bool, true, false, cond}
+use mathlib.Core.Option.{Option, none}
+use Prim.Native.Nat.{ℕ, zero, suc, _+_, _-_, _*_, _^_, _≤_, _<_}
+use lib.Dec.{ltb}
+use lib.IntN.{ℤ, pos, negsuc, natAbs, _+ℤ_, _*ℤ_}
+use lib.Signed.{shrZ}
+use lib.Ieee.Nearest.{closest}
+use Rattle.rounding.specs.Format.{binary32}
+use Rattle.rounding.specs.Rounding.{up, down, near, signed}
+use Rattle.rounding.specs.Quotient.{ceilS}
+use Rattle.binary32.specs.declared.parts.Parts.{Parts}
+use Rattle.binary32.specs.declared.funnel.Ways.{Ways}
+use Rattle.binary32.specs.declared.partial.Both.{Both}
+use Rattle.binary32.specs.declared.exact.Exact.{Exact}
+use Rattle.binary32.specs.declared.exact.Exact.the-variants.{Value, Unknown}
+use Rattle.binary32.specs.Number.{valueOf, holdDown, holdUp, holdNear}
+use Rattle.binary32.specs.Operations.{Way, with₂}
+
+-- ---- a number taken apart
+
+-- its value
+unfoldable pub of : Parts → ℤ
+of x = x .sig *ℤ pos (2 ^ (x .exp))
+
+-- of at most 24 digits, and of all 24 where it is shifted
+pub record Short (x : Parts) : Type 0 where
+  pub few : natAbs (x .sig) < 2 ^ 24
+  pub low : x .exp ≤ 253
+  pub full : 0 < x .exp → 2 ^ 23 ≤ natAbs (x .sig)
+
+-- a pattern's number
+pub record Decoded (p : ℕ) (x : Parts) : Type 0 where
+  pub value : of x ≡ valueOf p
+  pub short : Short x
+
+-- ---- rounding
+
+-- what can be rounded: s * 2 ^ e
+pub record Small (s : ℤ) (e : ℕ) : Type 0 where
+  pub short : natAbs s < 2 ^ 61
+  pub low : e ≤ 600
+
+-- w / m, three ways
+pub record Split (w : ℤ) (m shift : ℕ) (r : Ways) : Type 0 where
+  pub downs : r .down ≡ shrZ w m
+  pub ups : r .up ≡ ceilS w m
+  pub nears : r .near ≡ signed w (closest (natAbs w) m)
+  pub shifts : r .shift ≡ shift
+
+-- a significand and its shift as a pattern, or one of two patterns by its sign
+abbrev pub put : ℤ → ℕ → ℕ
+put (pos c) t = t
+put (negsuc c) t = 2 ^ 31 + t
+
+abbrev pub side : ℤ → ℕ → ℕ → ℕ
+side (pos c) below above = above
+side (negsuc c) below above = below
+
+unfoldable pub packed : ℤ → ℕ → ℕ → ℕ → ℕ
+packed c j below above = cond (ltb (j * 2 ^ 23 + natAbs c) (255 * 2 ^ 23)) (put c (j * 2 ^ 23 + natAbs c)) (side c below above)
+
+-- X / 2 ^ 149 units, three ways
+pub record IsCut (X : ℤ) (r : Ways) : Type 0 where
+  pub downs : packed (r .down) (r .shift) 0xFF800000 0x7F7FFFFF ≡ holdDown (down binary32 (2 ^ 149) X)
+  pub ups : packed (r .up) (r .shift) 0xFF7FFFFF 0x7F800000 ≡ holdUp (up binary32 (2 ^ 149) X)
+  pub nears : packed (r .near) (r .shift) 0x7F800000 0x7F800000 ≡ holdNear (near binary32 (2 ^ 149) X)
+  pub down-few : natAbs (r .down) ≤ 2 ^ 24
+  pub up-few : natAbs (r .up) ≤ 2 ^ 24
+  pub near-few : natAbs (r .near) ≤ 2 ^ 24
+  pub low : r .shift ≤ 500
+
+-- the rounding of what a funnel is handed: 2^-149 of x units
+unfoldable pub exact : Way → Parts → Option ℤ
+exact way x = way binary32 (2 ^ 149) (of x)
+
+-- both directed roundings
+pub record BothOf (low high : Option ℤ) (r : Both) : Type 0 where
+  pub lower : r .down ≡ holdDown low
+  pub upper : r .up ≡ holdUp high
+
+-- ---- exact values, up to what no rounding sees
+
+pub record Same (D : ℕ) (X : ℤ) (x : Parts) : Type 0 where
+  pub downs : exact down x ≡ down binary32 D X
+  pub ups : exact up x ≡ up binary32 D X
+  pub nears : exact near x ≡ near binary32 D X
+  pub small : Small (x .sig) (x .exp)
+
+pub record Factors (x y : Parts) : Type 0 where
+  pub first : Short x
+  pub second : Short y
+
+abbrev pub ProductIs : Parts → Parts → Parts → Type 0
+ProductIs x y r = Same (2 ^ 149) (of x *ℤ of y) r
+
+pub record Summands (x y : Parts) (lift : ℕ) : Type 0 where
+  pub first : Short x
+  pub second : Short y
+  pub lifts : lift ≤ 149
+
+abbrev pub SumIs : Parts → Parts → ℕ → Parts → Type 0
+SumIs x y lift r = Same (2 ^ (149 - lift)) (of x +ℤ of y) r
+
+-- two summands, the first with the larger exponent
+pub record Larger (x y : Parts) (lift : ℕ) : Type 0 where
+  pub first : Short x
+  pub second : Short y
+  pub lifts : lift ≤ 149
+  pub order : y .exp ≤ x .exp
+
+-- the value of an operation on two patterns, rounded
+abbrev pub exactly : Way → Exact → Option ℤ
+exactly way (Value x) = exact way x
+exactly way Unknown = none
+
+abbrev pub Safe : Exact → Type 0
+Safe (Value x) = Small (x .sig) (x .exp)
+Safe Unknown = Unit {0}
+
+pub record Rounds (op : Way → ℤ → ℤ → Option ℤ) (a b : ℕ) (r : Exact) : Type 0 where
+  pub downs : exactly down r ≡ with₂ (op down) a b
+  pub ups : exactly up r ≡ with₂ (op up) a b
+  pub nears : exactly near r ≡ with₂ (op near) a b
+  pub safe : Safe r
+
+-- the sign of a number
+abbrev pub sgn : ℤ → ℤ
+sgn (pos zero) = pos 0
+sgn (pos (suc n)) = pos 1
+sgn (negsuc n) = negsuc 0
+
+-- two summands in the order of their exponents
+abbrev pub choose : Bool → Parts → Parts → Parts
+choose true x y = y
+choose false x y = x
+
+unfoldable pub earlier : Parts → Parts → Parts
+earlier x y = choose (ltb (x .exp) (y .exp)) x y
+
+unfoldable pub later : Parts → Parts → Parts
+later x y = choose (ltb (x .exp) (y .exp)) y x

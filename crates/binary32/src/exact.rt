@@ -1,0 +1,112 @@
+// Exact values of operations, before they are rounded: in 61 digits, or a value that no rounding tells from the exact one.
+ghost use mathlib.Core.Path.{_≡_};
+ghost use Prim.Native.Nat.{_-_, _^_, _≤_, _<_};
+ghost use lib.IntN.{pos, natAbs, _+ℤ_, _*ℤ_};
+ghost use Rattle.binary32.specs.Operations.{mul, lifted};
+ghost use Rattle.binary32.specs.Steps.{Factors, Summands, Larger, Same, ProductIs, SumIs, Rounds, sgn, earlier, later, of};
+use crate::parts::Parts;
+use crate::parts::both_finite;
+use crate::parts::decode;
+use crate::parts::power;
+
+// An exact value, or one that has the same roundings; none where an operand holds no number.
+pub enum Exact {
+    Value(Parts),
+    Unknown,
+}
+
+// x × y
+pub fn times(x: Parts, y: Parts) -> Parts
+    requires { ⌜ Factors x y ⌝ }
+    ensures { λ r. ⌜ ProductIs x y r ⌝ }
+{
+    Parts {
+        sig: x.sig * y.sig,
+        exp: x.exp + y.exp,
+    }
+}
+
+fn sign(x: i64) -> i64
+    ensures { λ r. ⌜ r ≡ sgn x ⌝ }
+{
+    if x < 0 {
+        return -1;
+    }
+    if x == 0 {
+        return 0;
+    }
+    1
+}
+
+// x × 2^n + y
+fn placed(x: i64, n: u32, y: i64) -> i64
+    requires { ⌜ (natAbs x < 2 ^ 24) × (natAbs y < 2 ^ 24) × (n ≤ 36) ⌝ }
+    ensures { λ r. ⌜ r ≡ x *ℤ pos (2 ^ n) +ℤ y ⌝ }
+{
+    x * power(n) + y
+}
+
+// x + y, or, where y is far smaller, x and y's sign 36 places below: no rounding tells the two apart.
+fn joined(x: Parts, y: Parts, lift: u32) -> Parts
+    requires { ⌜ Larger x y lift ⌝ }
+    ensures { λ r. ⌜ Same (2 ^ (149 - lift)) (of x +ℤ of y) r ⌝ }
+{
+    let d = x.exp - y.exp;
+    if d <= 36 {
+        return Parts {
+            sig: placed(x.sig, d, y.sig),
+            exp: y.exp + lift,
+        };
+    }
+    Parts {
+        sig: placed(x.sig, 36, sign(y.sig)),
+        exp: x.exp - 36 + lift,
+    }
+}
+
+// The two in the order of their exponents, the larger first.
+fn first(x: Parts, y: Parts) -> Parts
+    ensures { λ r. ⌜ r ≡ earlier x y ⌝ }
+{
+    if x.exp < y.exp {
+        return y;
+    }
+    x
+}
+
+fn second(x: Parts, y: Parts) -> Parts
+    ensures { λ r. ⌜ r ≡ later x y ⌝ }
+{
+    if x.exp < y.exp {
+        return x;
+    }
+    y
+}
+
+// (x + y) × 2^(lift - 149) units
+fn plus(x: Parts, y: Parts, lift: u32) -> Parts
+    requires { ⌜ Summands x y lift ⌝ }
+    ensures { λ r. ⌜ SumIs x y lift r ⌝ }
+{
+    joined(first(x, y), second(x, y), lift)
+}
+
+pub fn product(a: u32, b: u32) -> Exact
+    ensures { λ r. ⌜ Rounds mul a b r ⌝ }
+{
+    if both_finite(a, b) {
+        return Exact::Value(times(decode(a), decode(b)));
+    }
+    Exact::Unknown
+}
+
+// a + b with lift 149, their midpoint with 148.
+pub fn total(a: u32, b: u32, lift: u32) -> Exact
+    requires { ⌜ lift ≤ 149 ⌝ }
+    ensures { λ r. ⌜ Rounds (lifted lift) a b r ⌝ }
+{
+    if both_finite(a, b) {
+        return Exact::Value(plus(decode(a), decode(b), lift));
+    }
+    Exact::Unknown
+}

@@ -1,0 +1,147 @@
+// The one place where values are rounded: sig × 2^exp × 2^-149 units, by one count of leading zeros and one signed shift.
+// The shift rounds down, a negative value too; up and nearest step one further where digits were lost:
+//
+//     lost digits r of w / 2^n     down    up       to nearest
+//     r = 0                        c       c        c
+//     0 < r < 2^n / 2              c       c + 1    c
+//     r = 2^n / 2                  c       c + 1    c or c + 1, the even one
+//     2^n / 2 < r                  c       c + 1    c + 1
+ghost use mathlib.Core.Path.{_≡_};
+ghost use Prim.Native.Nat.{_*_, _^_, _≤_, _<_, min};
+ghost use lib.IntN.{pos, natAbs, _+ℤ_, _*ℤ_};
+ghost use lib.Signed.{shrZ};
+ghost use Rattle.rounding.specs.Rounding.{up, down, near};
+ghost use Rattle.rounding.specs.Quotient.{bit, rem};
+ghost use Rattle.binary32.specs.Number.{holdDown, holdUp, holdNear};
+ghost use Rattle.binary32.specs.Steps.{packed, Split, IsCut, Small, exact, BothOf};
+use crate::partial::Both;
+use crate::parts::Parts;
+use crate::parts::magnitude;
+use crate::parts::power;
+
+// The significands of the three roundings, each to be shifted up by the same number of places.
+pub struct Ways {
+    pub down: i64,
+    pub up: i64,
+    pub near: i64,
+    pub shift: u32,
+}
+
+fn least(a: u32, b: u32) -> u32
+    ensures { λ r. ⌜ r ≡ min a b ⌝ }
+{
+    if a <= b { a } else { b }
+}
+
+// c, or the next above it.
+fn next(c: i64, more: bool) -> i64
+    requires { ⌜ natAbs c < 2 ^ 62 ⌝ }
+    ensures { λ r. ⌜ r ≡ c +ℤ pos (bit more) ⌝ }
+{
+    if more { c + 1 } else { c }
+}
+
+// w / 2^n rounded down: the shift keeps the sign, and a negative number that loses digits steps one further down.
+fn floor(w: i64, n: u32) -> i64
+    requires { ⌜ (natAbs w < 2 ^ 61) × (n ≤ 62) ⌝ }
+    ensures { λ r. ⌜ r ≡ shrZ w (2 ^ n) ⌝ }
+{
+    w >> n
+}
+
+// What the shift lost.
+fn rest(w: i64, c: i64, n: u32) -> u64
+    requires { ⌜ (natAbs w < 2 ^ 61) × (n ≤ 62) × (c ≡ shrZ w (2 ^ n)) ⌝ }
+    ensures { λ r. ⌜ r ≡ rem w (2 ^ n) ⌝ }
+{
+    (w - c * power(n)) as u64
+}
+
+// w / 2^n, rounded three ways.
+fn split(w: i64, n: u32, shift: u32) -> Ways
+    requires { ⌜ (natAbs w < 2 ^ 61) × (n ≤ 62) ⌝ }
+    ensures { λ r. ⌜ Split w (2 ^ n) shift r ⌝ }
+{
+    let c = floor(w, n);
+    let r = rest(w, c, n);
+    let odd = magnitude(c) % 2;
+    let up = next(c, 0 < r);
+    let near = next(c, (1u64 << n) < 2 * r + odd);
+    Ways {
+        down: c,
+        up: up,
+        near: near,
+        shift: shift,
+    }
+}
+
+// s × 2^e × 2^-149 units, rounded three ways: s is first shifted up to 61 digits, so that the shift down is never negative.
+fn cut(s: i64, e: u32) -> Ways
+    requires { ⌜ Small s e ⌝ }
+    ensures { λ r. ⌜ IsCut (s *ℤ pos (2 ^ e)) r ⌝ }
+{
+    if s == 0 {
+        return Ways {
+            down: 0,
+            up: 0,
+            near: 0,
+            shift: 0,
+        };
+    }
+    let zeros = u64::leading_zeros(magnitude(s));
+    let top = 64 - zeros + e;
+    let kept = least(top, 173);
+    split(s * power(zeros - 3), least(210 - kept, 62), top - kept)
+}
+
+// The pattern of c × 2^shift units; else one of the two patterns for a value that is too large.
+fn pack(c: i64, shift: u32, below: u32, above: u32) -> u32
+    requires { ⌜ (natAbs c ≤ 2 ^ 24) × (shift ≤ 500) ⌝ }
+    ensures { λ r. ⌜ r ≡ packed c shift below above ⌝ }
+{
+    let t = shift * 0x80_0000 + magnitude(c) as u32;
+    if t < 0x7F80_0000 {
+        if c < 0 {
+            return 0x8000_0000 + t;
+        }
+        return t;
+    }
+    if c < 0 {
+        return below;
+    }
+    above
+}
+
+pub fn round_down(x: Parts) -> u32
+    requires { ⌜ Small (x .sig) (x .exp) ⌝ }
+    ensures { λ r. ⌜ r ≡ holdDown (exact down x) ⌝ }
+{
+    let c = cut(x.sig, x.exp);
+    pack(c.down, c.shift, 0xFF80_0000, 0x7F7F_FFFF)
+}
+
+pub fn round_up(x: Parts) -> u32
+    requires { ⌜ Small (x .sig) (x .exp) ⌝ }
+    ensures { λ r. ⌜ r ≡ holdUp (exact up x) ⌝ }
+{
+    let c = cut(x.sig, x.exp);
+    pack(c.up, c.shift, 0xFF7F_FFFF, 0x7F80_0000)
+}
+
+pub fn round_near(x: Parts) -> u32
+    requires { ⌜ Small (x .sig) (x .exp) ⌝ }
+    ensures { λ r. ⌜ r ≡ holdNear (exact near x) ⌝ }
+{
+    let c = cut(x.sig, x.exp);
+    pack(c.near, c.shift, 0x7F80_0000, 0x7F80_0000)
+}
+
+pub fn round_both(x: Parts) -> Both
+    requires { ⌜ Small (x .sig) (x .exp) ⌝ }
+    ensures { λ r. ⌜ BothOf (exact down x) (exact up x) r ⌝ }
+{
+    let c = cut(x.sig, x.exp);
+    let down = pack(c.down, c.shift, 0xFF80_0000, 0x7F7F_FFFF);
+    let up = pack(c.up, c.shift, 0xFF7F_FFFF, 0x7F80_0000);
+    Both { down: down, up: up }
+}

@@ -1,0 +1,114 @@
+// The numbers of binary32 on 32-bit patterns: each operation takes the exact value of its operands and rounds it once.
+// Minus zero is read as zero, and a zero result is the pattern 0. Whole numbers alone are used, no machine floats.
+ghost use mathlib.Core.Path.{_≡_};
+ghost use Rattle.binary32.specs.Operations.{addDown, addUp, addNear, subDown, subUp, subNear, mulDown, mulUp, mulNear, midpointDown, midpointUp, midpointNear, checkedOf};
+
+mod exact;
+mod funnel;
+pub mod partial;
+mod parts;
+
+// The format: precision, smallest exponent (one unit is 2^-149) and largest number.
+pub struct Binary32 {
+    pub bits: u32,
+}
+
+impl Binary32 {
+    pub const PRECISION: u32 = 24;
+
+    pub const SMALLEST_EXPONENT: u32 = 149;
+
+    pub const LARGEST: u32 = 0x7F7F_FFFF;
+}
+
+// An operation's answer: a number's pattern; 3, an operand has exponent field 255; 5, no finite number is right.
+pub enum Rounded {
+    Number(u32),
+    NotFinite,
+    Overflow,
+}
+
+// The answer of an operation on a and b, where r is its result as a pattern that holds a number or none.
+fn checked(a: u32, b: u32, r: u32) -> Rounded
+    ensures { λ z. ⌜ z ≡ checkedOf a b r ⌝ }
+{
+    if !parts::both_finite(a, b) {
+        return Rounded::NotFinite;
+    }
+    if parts::is_finite(r) {
+        return Rounded::Number(r);
+    }
+    Rounded::Overflow
+}
+
+pub fn add_down(a: u32, b: u32) -> Rounded
+    ensures { λ r. ⌜ r ≡ addDown a b ⌝ }
+{
+    checked(a, b, partial::add_down(a, b))
+}
+
+pub fn add_up(a: u32, b: u32) -> Rounded
+    ensures { λ r. ⌜ r ≡ addUp a b ⌝ }
+{
+    checked(a, b, partial::add_up(a, b))
+}
+
+pub fn add_near(a: u32, b: u32) -> Rounded
+    ensures { λ r. ⌜ r ≡ addNear a b ⌝ }
+{
+    checked(a, b, partial::add_near(a, b))
+}
+
+pub fn sub_down(a: u32, b: u32) -> Rounded
+    ensures { λ r. ⌜ r ≡ subDown a b ⌝ }
+{
+    checked(a, b, partial::sub_down(a, b))
+}
+
+pub fn sub_up(a: u32, b: u32) -> Rounded
+    ensures { λ r. ⌜ r ≡ subUp a b ⌝ }
+{
+    checked(a, b, partial::sub_up(a, b))
+}
+
+pub fn sub_near(a: u32, b: u32) -> Rounded
+    ensures { λ r. ⌜ r ≡ subNear a b ⌝ }
+{
+    checked(a, b, partial::sub_near(a, b))
+}
+
+pub fn mul_down(a: u32, b: u32) -> Rounded
+    ensures { λ r. ⌜ r ≡ mulDown a b ⌝ }
+{
+    checked(a, b, partial::mul_down(a, b))
+}
+
+pub fn mul_up(a: u32, b: u32) -> Rounded
+    ensures { λ r. ⌜ r ≡ mulUp a b ⌝ }
+{
+    checked(a, b, partial::mul_up(a, b))
+}
+
+pub fn mul_near(a: u32, b: u32) -> Rounded
+    ensures { λ r. ⌜ r ≡ mulNear a b ⌝ }
+{
+    checked(a, b, partial::mul_near(a, b))
+}
+
+pub fn midpoint_down(a: u32, b: u32) -> Rounded
+    ensures { λ r. ⌜ r ≡ midpointDown a b ⌝ }
+{
+    checked(a, b, partial::midpoint_down(a, b))
+}
+
+pub fn midpoint_up(a: u32, b: u32) -> Rounded
+    ensures { λ r. ⌜ r ≡ midpointUp a b ⌝ }
+{
+    checked(a, b, partial::midpoint_up(a, b))
+}
+
+pub fn midpoint_near(a: u32, b: u32) -> Rounded
+    ensures { λ r. ⌜ r ≡ midpointNear a b ⌝ }
+{
+    checked(a, b, partial::midpoint_near(a, b))
+}

@@ -1,0 +1,69 @@
+// A pattern taken apart: its number is sig × 2^exp units of 2^-149.
+ghost use mathlib.Core.Path.{_≡_};
+ghost use Prim.Native.Nat.{_^_, _≤_, _<_};
+ghost use lib.IntN.{pos, natAbs};
+ghost use Rattle.binary32.specs.Number.{Finite, finite, finites, signedBy};
+ghost use Rattle.binary32.specs.Steps.{Decoded};
+
+pub struct Parts {
+    pub sig: i64,
+    pub exp: u32,
+}
+
+// Whether the pattern stands for a number: exponent field 255 does not.
+pub fn is_finite(p: u32) -> bool
+    ensures { λ r. ⌜ r ≡ finite p ⌝ }
+{
+    p % 0x8000_0000 < 0x7F80_0000
+}
+
+pub fn both_finite(a: u32, b: u32) -> bool
+    ensures { λ r. ⌜ r ≡ finites a b ⌝ }
+{
+    if !is_finite(a) {
+        return false;
+    }
+    is_finite(b)
+}
+
+// 2^n
+pub fn power(n: u32) -> i64
+    requires { ⌜ n ≤ 62 ⌝ }
+    ensures { λ r. ⌜ r ≡ pos (2 ^ n) ⌝ }
+{
+    (1u64 << n) as i64
+}
+
+pub fn magnitude(x: i64) -> u64
+    requires { ⌜ natAbs x < 2 ^ 62 ⌝ }
+    ensures { λ r. ⌜ r ≡ natAbs x ⌝ }
+{
+    if x < 0 { (-x) as u64 } else { x as u64 }
+}
+
+fn with_sign(neg: bool, m: u64) -> i64
+    requires { ⌜ m < 2 ^ 62 ⌝ }
+    ensures { λ r. ⌜ r ≡ signedBy neg m ⌝ }
+{
+    let s = m as i64;
+    if neg { -s } else { s }
+}
+
+pub fn decode(p: u32) -> Parts
+    requires { ⌜ Finite p ⌝ }
+    ensures { λ r. ⌜ Decoded p r ⌝ }
+{
+    let t = p % 0x8000_0000;
+    let e = t / 0x80_0000;
+    let f = t % 0x80_0000;
+    if e == 0 {
+        return Parts {
+            sig: with_sign(0x8000_0000 <= p, f as u64),
+            exp: 0,
+        };
+    }
+    Parts {
+        sig: with_sign(0x8000_0000 <= p, (f + 0x80_0000) as u64),
+        exp: e - 1,
+    }
+}
