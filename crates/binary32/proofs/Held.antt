@@ -24,15 +24,19 @@ finite-is p t = ltb-true (p % 2 ^ 31) (255 * 2 ^ 23) t
 pub is-finite : (p : ℕ) → Finite p → finite p ≡ true
 is-finite p h = lt-ltb (p % 2 ^ 31) (255 * 2 ^ 23) h
 
+-- two tests, both passed
+pub and-first : (s t : Bool) → cond s t false ≡ true → s ≡ true
+and-first true t e = refl
+and-first false t e = e
+
+pub and-second : (s t : Bool) → cond s t false ≡ true → t ≡ true
+and-second s t e = sym (ap (λ x. cond x t false) (and-first s t e)) ∙ e
+
 pub finites-first : (a b : ℕ) → finites a b ≡ true → finite a ≡ true
-finites-first a b t = go (finite a) t
-  where
-    go : (x : Bool) → cond x (finite b) false ≡ true → x ≡ true
-    go true t = refl
-    go false t = t
+finites-first a b e = and-first (finite a) (finite b) e
 
 pub finites-second : (a b : ℕ) → finites a b ≡ true → finite b ≡ true
-finites-second a b t = sym (ap (λ x. cond x (finite b) false) (finites-first a b t)) ∙ t
+finites-second a b e = and-second (finite a) (finite b) e
 
 -- ---- what two patterns hold
 

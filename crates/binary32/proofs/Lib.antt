@@ -11,5 +11,7 @@ pub mod Far
 pub mod Sums
 pub mod Held
 pub mod Negation
+pub mod Orders
 pub mod Exacts
 pub mod Numbers
+pub mod CornerLaws

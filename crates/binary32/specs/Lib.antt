@@ -1,3 +1,4 @@
 pub mod Number
 pub mod Operations
+pub mod Order
 pub mod Steps

@@ -17,6 +17,7 @@ use Rattle.binary32.specs.declared.exact.Exact.{Exact}
 use Rattle.binary32.specs.declared.exact.Exact.the-variants.{Value, Unknown}
 use Rattle.binary32.specs.Number.{valueOf, holdDown, holdUp, holdNear}
 use Rattle.binary32.specs.Operations.{Way, with₂}
+use Rattle.binary32.specs.Order.{all₄, least₄, greatest₄}
 
 -- ---- a number taken apart
 
@@ -75,6 +76,10 @@ pub record IsCut (X : ℤ) (r : Ways) : Type 0 where
 unfoldable pub exact : Way → Parts → Option ℤ
 exact way x = way binary32 (2 ^ 149) (of x)
 
+-- a product, rounded
+abbrev pub exact₂ : Way → Parts → Parts → Option ℤ
+exact₂ way x y = way binary32 (2 ^ 149) (of x *ℤ of y)
+
 -- both directed roundings
 pub record BothOf (low high : Option ℤ) (r : Both) : Type 0 where
   pub lower : r .down ≡ holdDown low
@@ -124,6 +129,11 @@ pub record Rounds (op : Way → ℤ → ℤ → Option ℤ) (a b : ℕ) (r : Exa
   pub ups : exactly up r ≡ with₂ (op up) a b
   pub nears : exactly near r ≡ with₂ (op near) a b
   pub safe : Safe r
+
+-- ---- the corner products of a, b and c, d, as patterns: the least of four, the greatest of four
+pub record CornersOf (a b c d : Parts) (r : Both) : Type 0 where
+  pub lower : r .down ≡ holdDown (all₄ least₄ (exact₂ down a c) (exact₂ down a d) (exact₂ down b c) (exact₂ down b d))
+  pub upper : r .up ≡ holdUp (all₄ greatest₄ (exact₂ up a c) (exact₂ up a d) (exact₂ up b c) (exact₂ up b d))
 
 -- the sign of a number
 abbrev pub sgn : ℤ → ℤ

@@ -3,7 +3,7 @@
 // Sums and products of many steps are made of these: a test of the last result tells whether any step was refused.
 ghost use mathlib.Core.Path.{_≡_};
 ghost use Rattle.rounding.specs.Rounding.{up, down, near};
-ghost use Rattle.binary32.specs.Number.{negated, holdDown, holdUp, holdNear};
+ghost use Rattle.binary32.specs.Number.{holdDown, holdUp, holdNear};
 ghost use Rattle.binary32.specs.Operations.{add, sub, mul, midpoint, with₂};
 ghost use Rattle.binary32.specs.Steps.{exactly, BothOf, Safe};
 use crate::exact::Exact;
@@ -13,6 +13,7 @@ use crate::funnel::round_both;
 use crate::funnel::round_down;
 use crate::funnel::round_near;
 use crate::funnel::round_up;
+use crate::order::negate;
 
 // Both directed roundings of one exact value, each a pattern that holds a number or none.
 pub struct Both {
@@ -128,16 +129,6 @@ pub fn add_both(a: u32, b: u32) -> Both
     ensures { λ r. ⌜ BothOf (with₂ (add down) a b) (with₂ (add up) a b) r ⌝ }
 {
     both_of(total(a, b, 149))
-}
-
-// The pattern with the other sign.
-pub fn negate(p: u32) -> u32
-    ensures { λ r. ⌜ r ≡ negated p ⌝ }
-{
-    if p < 0x8000_0000 {
-        return p + 0x8000_0000;
-    }
-    p - 0x8000_0000
 }
 
 pub fn sub_down(a: u32, b: u32) -> u32

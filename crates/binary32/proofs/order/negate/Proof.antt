@@ -1,7 +1,7 @@
 use Rattle.binary32.proofs.Negation.{negated-low, negated-high}
 use borrow.Author.Needs.{needs}
-use Rattle.binary32.proofs.partial.negate.Statement.{statement}
-use Rattle.binary32.proofs.partial.negate.Tie as tie
+use Rattle.binary32.proofs.order.negate.Statement.{statement}
+use Rattle.binary32.proofs.order.negate.Tie as tie
 
 add-result : tie.Need-add-result
 add-result c = search needs

@@ -1,0 +1,137 @@
+-- Comparing keys is comparing values; the lesser and the greater of two patterns that hold a number or none.
+use mathlib.Core.Path.{_≡_, refl, sym, ap, ap₂, _∙_, subst}
+use mathlib.Core.Bool.{Bool, true, false, cond, not}
+use mathlib.Core.List.{[], _∷_}
+use mathlib.Core.Option.{Option, none, some, bind}
+use Prim.Native.Nat.{ℕ, _+_, _*_, _%_, _^_, _≤_, _<_}
+use native.Mathlib.Omega.{arith}
+use native.Mathlib.Nat.{le-antisymm, le-of-eq, lt-of-le-of-lt}
+use lib.Dec.{T, leb, lit<}
+use lib.IntN.{ℤ, pos, negℤ, natAbs}
+use lib.Signed.{leZ, leZ-yes}
+use Rattle.algebra.specs.Order.{_≼_, _≺_}
+use Rattle.algebra.specs.Extremes.{minℤ, maxℤ}
+use Rattle.algebra.proofs.Linear.{reading, le, lt, lin-lt}
+use Rattle.algebra.proofs.Order.{≼-refl, ≼-trans, ≼-of-≺, not-≺}
+use Rattle.algebra.proofs.Natural.{of-le, to-le, of-lt}
+use Rattle.rounding.specs.Format.{binary32, MAX, Num}
+use Rattle.rounding.specs.Pattern.{val}
+use Rattle.rounding.proofs.Sign.{neg-le, of-neg-le, pos-le-neg, neg-le-pos, num-le, num-ge}
+use Rattle.rounding.proofs.Pattern.{val-le, val-le-back, val-injective}
+use Rattle.binary32.specs.Number.{signedBy, valueOf, patternOf, holdDown, holdUp}
+use Rattle.binary32.specs.Order.{keyOf, atMost, leastOf, greatestOf, all₄, least₄, greatest₄}
+use Rattle.binary32.proofs.Held.{Fits, pattern-value}
+
+-- ---- tests
+
+pub same-test : (a b : Bool) → (T a → T b) → (T b → T a) → a ≡ b
+same-test true true f g = refl
+same-test true false f g = absurd (f tt)
+same-test false true f g = absurd (g tt)
+same-test false false f g = refl
+
+pub leZ-true : {x y : ℤ} → x ≼ y → leZ x y ≡ true
+leZ-true {x} {y} h = go (leZ x y) (h .le)
+  where
+    go : (t : Bool) → T t → t ≡ true
+    go true k = refl
+    go false k = absurd k
+
+pub leZ-false : {x y : ℤ} → y ≺ x → leZ x y ≡ false
+leZ-false {x} {y} h = go (leZ x y) (λ t. not-≺ (leZ-yes t) h)
+  where
+    go : (t : Bool) → (T t → ⊥) → t ≡ false
+    go true k = absurd (k tt)
+    go false k = refl
+
+-- ---- keys and values, for a change of magnitudes that keeps their order and zero
+signed-order : (s t : Bool) (m n M N : ℕ) → (m ≤ n → M ≤ N) → (n ≤ m → N ≤ M) → (m ≡ 0 → M ≡ 0) → (n ≡ 0 → N ≡ 0) → signedBy s m ≼ signedBy t n → signedBy s M ≼ signedBy t N
+signed-order false false m n M N grows falls z w h = of-le (grows (to-le h))
+signed-order true false m n M N grows falls z w h = neg-le-pos M N
+signed-order false true m n M N grows falls z w h =
+    let n₀ : n ≡ 0 = pos-le-neg h in
+    let m₀ : m ≤ 0 = to-le (subst (λ k. pos m ≼ negℤ (pos k)) n₀ h) in
+    let N₀ : N ≡ 0 = w n₀ in
+    let M₀ : M ≡ 0 = z (omega arith) in
+    subst (λ k. pos M ≼ negℤ (pos k)) (sym N₀) (subst (λ k. pos k ≼ pos 0) (sym M₀) (≼-refl (pos 0)))
+signed-order true true m n M N grows falls z w h = neg-le (falls (of-neg-le h))
+
+val-zero : val binary32 0 ≡ 0
+unfolding val
+val-zero = refl
+
+pub key-order : (a b : ℕ) → leZ (keyOf a) (keyOf b) ≡ atMost a b
+unfolding keyOf valueOf
+key-order a b = same-test (leZ (keyOf a) (keyOf b)) (atMost a b) (λ t. up (leZ-yes t) .le) (λ t. back (leZ-yes t) .le)
+  where
+    m : ℕ
+    m = a % 2 ^ 31
+
+    n : ℕ
+    n = b % 2 ^ 31
+
+    none-left : {k : ℕ} → val binary32 k ≡ 0 → k ≡ 0
+    none-left e = val-injective binary32 (e ∙ sym val-zero)
+
+    up : keyOf a ≼ keyOf b → valueOf a ≼ valueOf b
+    up h =
+        signed-order (leb (2 ^ 31) a) (leb (2 ^ 31) b) m n (val binary32 m) (val binary32 n) (val-le binary32) (val-le binary32)
+        (λ e. ap (val binary32) e ∙ val-zero) (λ e. ap (val binary32) e ∙ val-zero) h
+
+    back : valueOf a ≼ valueOf b → keyOf a ≼ keyOf b
+    back h =
+        signed-order (leb (2 ^ 31) a) (leb (2 ^ 31) b) (val binary32 m) (val binary32 n) m n (val-le-back binary32) (val-le-back binary32) none-left none-left h
+
+-- ---- the infinities are beyond all numbers
+
+far : MAX binary32 < 2 ^ 23 * 2 ^ 254
+unfolding MAX
+far = lit< tt
+
+below : (M K : ℕ) (v : ℤ) → M < K → negℤ (pos M) ≼ v → negℤ (pos K) ≺ v
+below M K v h k = lin-lt (pos M ∷ pos K ∷ v ∷ []) (lt (of-lt h) ∷ le k ∷ []) (search reading depth 20) (omega arith)
+
+above : (M K : ℕ) (v : ℤ) → M < K → v ≼ pos M → v ≺ pos K
+above M K v h k = lin-lt (pos M ∷ pos K ∷ v ∷ []) (lt (of-lt h) ∷ le k ∷ []) (search reading depth 20) (omega arith)
+
+pub below-all : {v : ℤ} → Num binary32 v → valueOf 0xFF800000 ≺ v
+unfolding valueOf val
+below-all {v} n = below (MAX binary32) (2 ^ 23 * 2 ^ 254) v far (num-ge n)
+
+pub above-all : {v : ℤ} → Num binary32 v → v ≺ valueOf 0x7F800000
+unfolding valueOf val
+above-all {v} n = above (MAX binary32) (2 ^ 23 * 2 ^ 254) v far (num-le n)
+
+cond-same : (t : Bool) (n : ℕ) → cond t n n ≡ n
+cond-same true n = refl
+cond-same false n = refl
+
+-- ---- the lesser of two that were rounded down, the greater of two that were rounded up: one that holds none wins
+
+pub least-hold : (x y : Option ℤ) → Fits x → Fits y → leastOf (holdDown x) (holdDown y) ≡ holdDown (bind x λ u. bind y λ v. some (minℤ u v))
+unfolding leastOf minℤ Fits bind
+least-hold none none f g = cond-same (atMost 0xFF800000 0xFF800000) 0xFF800000
+least-hold none (some v) f g =
+    ap (λ t. cond t 0xFF800000 (patternOf v)) (leZ-true (subst (λ w. valueOf 0xFF800000 ≼ w) (sym (pattern-value (g v refl))) (≼-of-≺ (below-all (g v refl)))))
+least-hold (some u) none f g =
+    ap (λ t. cond t (patternOf u) 0xFF800000) (leZ-false (subst (λ w. valueOf 0xFF800000 ≺ w) (sym (pattern-value (f u refl))) (below-all (f u refl))))
+least-hold (some u) (some v) f g =
+    ap₂ (λ a b. cond (leZ a b) (patternOf u) (patternOf v)) (pattern-value (f u refl)) (pattern-value (g v refl)) ∙ go (leZ u v)
+  where
+    go : (t : Bool) → cond t (patternOf u) (patternOf v) ≡ patternOf (cond t u v)
+    go true = refl
+    go false = refl
+
+pub greatest-hold : (x y : Option ℤ) → Fits x → Fits y → greatestOf (holdUp x) (holdUp y) ≡ holdUp (bind x λ u. bind y λ v. some (maxℤ u v))
+unfolding greatestOf maxℤ Fits bind
+greatest-hold none none f g = cond-same (atMost 0x7F800000 0x7F800000) 0x7F800000
+greatest-hold none (some v) f g =
+    ap (λ t. cond t (patternOf v) 0x7F800000) (leZ-false (subst (λ w. w ≺ valueOf 0x7F800000) (sym (pattern-value (g v refl))) (above-all (g v refl))))
+greatest-hold (some u) none f g =
+    ap (λ t. cond t 0x7F800000 (patternOf u)) (leZ-true (subst (λ w. w ≼ valueOf 0x7F800000) (sym (pattern-value (f u refl))) (≼-of-≺ (above-all (f u refl)))))
+greatest-hold (some u) (some v) f g =
+    ap₂ (λ a b. cond (leZ a b) (patternOf v) (patternOf u)) (pattern-value (f u refl)) (pattern-value (g v refl)) ∙ go (leZ u v)
+  where
+    go : (t : Bool) → cond t (patternOf v) (patternOf u) ≡ patternOf (cond t v u)
+    go true = refl
+    go false = refl

@@ -1,0 +1,64 @@
+use mathlib.Core.Path.{_≡_, sym, _∙_}
+use mathlib.Core.Bool.{Bool, true, false, cond}
+use borrow.Author.Tests.{not-true, not-false}
+use Rattle.binary32.specs.Number.{finites, finite}
+use Rattle.binary32.proofs.Held.{and-first, and-second, finite-is, finites-first, finites-second}
+use Rattle.binary32.proofs.CornerLaws.{corners-some, corners-none}
+use borrow.Author.Needs.{needs}
+use Rattle.binary32.proofs.corners.corners.Statement.{statement}
+use Rattle.binary32.proofs.corners.corners.Tie as tie
+
+all-finite-requires : tie.Need-all-finite-requires
+all-finite-requires c κs = search needs
+
+returns : tie.Need-returns
+returns c =
+    let s = c .before .before .args in
+    corners-none (s .al) (s .au) (s .bl) (s .bu) (sym (c .before .all-finite .ensures) ∙ not-true _ (c .if1 .taken))
+
+-- all four are finite
+abbrev S : tie.Else1 → tie.Start
+S c = c .before .before
+
+all : (c : tie.Else1) → cond (finites (S c .args .al) (S c .args .au)) (finites (S c .args .bl) (S c .args .bu)) false ≡ true
+all c = sym (c .before .all-finite .ensures) ∙ not-false _ (c .if1 .left)
+
+first : (c : tie.Else1) → finites (S c .args .al) (S c .args .au) ≡ true
+first c = and-first (finites (S c .args .al) (S c .args .au)) (finites (S c .args .bl) (S c .args .bu)) (all c)
+
+second : (c : tie.Else1) → finites (S c .args .bl) (S c .args .bu) ≡ true
+second c = and-second (finites (S c .args .al) (S c .args .au)) (finites (S c .args .bl) (S c .args .bu)) (all c)
+
+decode-requires : tie.Need-decode-requires
+decode-requires c κs = finite-is (S c .args .al) (finites-first (S c .args .al) (S c .args .au) (first c))
+
+decode-requires-2 : tie.Need-decode-requires-2
+decode-requires-2 c κs = let k = c .before in finite-is (S k .args .au) (finites-second (S k .args .al) (S k .args .au) (first k))
+
+decode-requires-3 : tie.Need-decode-requires-3
+decode-requires-3 c κs = let k = c .before .before in finite-is (S k .args .bl) (finites-first (S k .args .bl) (S k .args .bu) (second k))
+
+decode-requires-4 : tie.Need-decode-requires-4
+decode-requires-4 c κs = let k = c .before .before .before in finite-is (S k .args .bu) (finites-second (S k .args .bl) (S k .args .bu) (second k))
+
+of-parts-requires : tie.Need-of-parts-requires
+of-parts-requires c κs = search needs
+
+returns-2 : tie.Need-returns-2
+returns-2 c =
+    let d = c .before in
+    let k = d .before .before .before .before in
+    corners-some (S k .args .al) (S k .args .au) (S k .args .bl) (S k .args .bu) (first k) (second k) (d .before .before .before .decode .ensures) (d .before .before .decode2 .ensures) (d .before .decode3 .ensures) (d .decode4 .ensures) (c .of-parts .ensures)
+
+pub corners-spec : {M : Type 1} → statement M
+corners-spec =
+    tie.close
+    (tie.spec
+    all-finite-requires
+    returns
+    decode-requires
+    decode-requires-2
+    decode-requires-3
+    decode-requires-4
+    of-parts-requires
+    returns-2)

@@ -1,0 +1,21 @@
+use mathlib.Core.Path.{ap₂, _∙_}
+use lib.Signed.{leZ}
+use Rattle.binary32.proofs.Ints.{read}
+use Rattle.binary32.proofs.Orders.{key-order}
+use borrow.Author.Needs.{needs}
+use Rattle.binary32.proofs.order.at_most.Statement.{statement}
+use Rattle.binary32.proofs.order.at_most.Tie as tie
+
+key-requires : tie.Need-key-requires
+key-requires c κs = search needs
+
+key-requires-2 : tie.Need-key-requires-2
+key-requires-2 c κs = search needs
+
+returns : tie.Need-returns
+returns c =
+    let k = c .before in
+    ap₂ leZ (read (k .key .result) (k .key .ok) ∙ k .key .ensures) (read (c .key2 .result) (c .key2 .ok) ∙ c .key2 .ensures) ∙ key-order (k .before .args .a) (k .before .args .b)
+
+pub at-most-spec : {M : Type 1} → statement M
+at-most-spec = tie.close (tie.spec key-requires key-requires-2 returns)

@@ -1,0 +1,46 @@
+-- Comparing patterns by the numbers that they stand for. Definitions only.
+-- A pattern of exponent field 255 is compared by the value that its fields would give, so minus infinity is below every number and infinity above.
+use mathlib.Core.Bool.{Bool, cond}
+use mathlib.Core.Option.{Option, none, some, bind}
+use Prim.Native.Nat.{ℕ, _%_, _^_}
+use lib.Dec.{leb}
+use lib.IntN.{ℤ}
+use lib.Signed.{leZ}
+use Rattle.algebra.specs.Extremes.{minℤ, maxℤ}
+use Rattle.rounding.specs.Rounding.{up, down}
+use Rattle.binary32.specs.Number.{signedBy, valueOf}
+use Rattle.binary32.specs.Operations.{mul, with₂}
+
+-- the pattern without its sign
+abbrev pub magnitudeOf : ℕ → ℕ
+magnitudeOf p = p % 2 ^ 31
+
+-- the place of a pattern among all, both zeros at 0
+unfoldable pub keyOf : ℕ → ℤ
+keyOf p = signedBy (leb (2 ^ 31) p) (p % 2 ^ 31)
+
+abbrev pub atMost : ℕ → ℕ → Bool
+atMost a b = leZ (valueOf a) (valueOf b)
+
+unfoldable pub leastOf : ℕ → ℕ → ℕ
+leastOf a b = cond (atMost a b) a b
+
+unfoldable pub greatestOf : ℕ → ℕ → ℕ
+greatestOf a b = cond (atMost a b) b a
+
+-- ---- the four corner products of [al, au] and [bl, bu]: the least of them rounded down, the greatest rounded up
+
+abbrev pub least₄ : ℤ → ℤ → ℤ → ℤ → ℤ
+least₄ p q r s = minℤ (minℤ p q) (minℤ r s)
+
+abbrev pub greatest₄ : ℤ → ℤ → ℤ → ℤ → ℤ
+greatest₄ p q r s = maxℤ (maxℤ p q) (maxℤ r s)
+
+abbrev pub all₄ : (ℤ → ℤ → ℤ → ℤ → ℤ) → Option ℤ → Option ℤ → Option ℤ → Option ℤ → Option ℤ
+all₄ f w x y z = bind w λ p. bind x λ q. bind y λ r. bind z λ s. some (f p q r s)
+
+unfoldable pub leastCorner : ℕ → ℕ → ℕ → ℕ → Option ℤ
+leastCorner al au bl bu = all₄ least₄ (with₂ (mul down) al bl) (with₂ (mul down) al bu) (with₂ (mul down) au bl) (with₂ (mul down) au bu)
+
+unfoldable pub greatestCorner : ℕ → ℕ → ℕ → ℕ → Option ℤ
+greatestCorner al au bl bu = all₄ greatest₄ (with₂ (mul up) al bl) (with₂ (mul up) al bu) (with₂ (mul up) au bl) (with₂ (mul up) au bu)
