@@ -12,10 +12,10 @@ use Rattle.rounding.specs.Format.{binary32, Num}
 use Rattle.rounding.specs.Rounding.{up, down}
 use Rattle.binary32.specs.declared.parts.Parts.{Parts}
 use Rattle.binary32.specs.declared.partial.Both.{Both}
-use Rattle.binary32.specs.Number.{valueOf, finite, finites, holdDown, holdUp}
+use Rattle.binary32.specs.Number.{finite, finites, holdDown, holdUp}
 use Rattle.binary32.specs.Operations.{Way, mul, with₂}
 use Rattle.binary32.specs.Order.{leastOf, greatestOf, all₄, least₄, greatest₄, leastCorner, greatestCorner}
-use Rattle.binary32.specs.Steps.{of, Decoded, exact, exact₂, ProductIs, BothOf, CornersOf}
+use Rattle.binary32.specs.Steps.{Decoded, exact, exact₂, ProductIs, BothOf, CornersOf}
 use Rattle.binary32.proofs.Held.{Fits, finites-first, finites-second, with-some, with-none}
 use Rattle.binary32.proofs.Numbers.{down-fits, up-fits}
 use Rattle.binary32.proofs.Orders.{least-hold, greatest-hold}
@@ -82,12 +82,12 @@ module _ (a b c d : Parts) where
   corners-of p q r s e hp hq hr hs l g =
       record {
         lower =
-          l ∙ ap₂ leastOf (ap₂ leastOf (hp .lower) (hq .lower)) (ap₂ leastOf (hr .lower) (hs .lower))
-          ∙ four minℤ least-either leastOf holdDown least-hold (exact₂ down a c) (exact₂ down a d) (exact₂ down b c) (exact₂ down b d)
+            l ∙ ap₂ leastOf (ap₂ leastOf (hp .lower) (hq .lower)) (ap₂ leastOf (hr .lower) (hs .lower))
+            ∙ four minℤ least-either leastOf holdDown least-hold (exact₂ down a c) (exact₂ down a d) (exact₂ down b c) (exact₂ down b d)
             (down-fits (2 ^ 149) (pow-pos 149) _) (down-fits (2 ^ 149) (pow-pos 149) _) (down-fits (2 ^ 149) (pow-pos 149) _) (down-fits (2 ^ 149) (pow-pos 149) _);
         upper =
-          g ∙ ap₂ greatestOf (ap₂ greatestOf (hp .upper) (hq .upper)) (ap₂ greatestOf (hr .upper) (hs .upper))
-          ∙ four maxℤ greatest-either greatestOf holdUp greatest-hold (exact₂ up a c) (exact₂ up a d) (exact₂ up b c) (exact₂ up b d)
+            g ∙ ap₂ greatestOf (ap₂ greatestOf (hp .upper) (hq .upper)) (ap₂ greatestOf (hr .upper) (hs .upper))
+            ∙ four maxℤ greatest-either greatestOf holdUp greatest-hold (exact₂ up a c) (exact₂ up a d) (exact₂ up b c) (exact₂ up b d)
             (up-fits (2 ^ 149) (pow-pos 149) _) (up-fits (2 ^ 149) (pow-pos 149) _) (up-fits (2 ^ 149) (pow-pos 149) _) (up-fits (2 ^ 149) (pow-pos 149) _);
       }
 

@@ -15,14 +15,14 @@ use lib.Ieee.Nearest.{closest}
 use native.Mathlib.Nat.{zero-mul}
 use Rattle.algebra.proofs.Reading.{by-ring}
 use Rattle.algebra.proofs.Linear.{reading}
-use Rattle.rounding.specs.Format.{binary32, MAX}
-use Rattle.rounding.specs.Rounding.{signed, sticky, ceil, expo, lo, hi, nr, up, down, near}
-use Rattle.rounding.proofs.Directed.{up-scale, down-scale}
-use Rattle.rounding.proofs.Nearest.{near-scale}
-use Rattle.rounding.proofs.Closest.{closest-split}
-use Rattle.rounding.proofs.Shift.{size-only, size-shl}
+use Rattle.rounding.specs.Format.{binary32, MAX, expo}
+use Rattle.rounding.specs.Rounding.{signed, sticky, ceil, lo, hi, nr, up, down, near}
 use Rattle.rounding.specs.Pattern.{place}
 use Rattle.rounding.specs.Quotient.{ceilS}
+use Rattle.rounding.proofs.Closest.{closest-split}
+use Rattle.rounding.proofs.DirectedLaws.{up-scale, down-scale}
+use Rattle.rounding.proofs.NearestLaws.{near-scale}
+use Rattle.rounding.proofs.Shift.{size-only, size-shl}
 use Rattle.binary32.specs.declared.funnel.Ways.{Ways}
 use Rattle.binary32.specs.Number.{holdDown, holdUp, holdNear}
 use Rattle.binary32.specs.Steps.{packed, Split, IsCut}

@@ -16,11 +16,11 @@ use Rattle.algebra.proofs.Linear.{reading}
 use Rattle.algebra.proofs.Natural.{of-sub}
 use Rattle.rounding.specs.Format.{binary32, MAX}
 use Rattle.rounding.specs.Rounding.{negate, ex, step, sticky, lo, hi, nr, up, down, near}
-use Rattle.rounding.proofs.Sign.{natAbs-neg}
-use Rattle.rounding.proofs.Directed.{up-of-pos, up-of-neg}
+use Rattle.rounding.proofs.DirectedLaws.{up-of-pos, up-of-neg}
+use Rattle.rounding.proofs.Jam.{jam-lo, jam-hi, jam-nr}
 use Rattle.rounding.proofs.Nearest.{near-odd}
 use Rattle.rounding.proofs.Shift.{ex-shr}
-use Rattle.rounding.proofs.Jam.{jam-lo, jam-hi, jam-nr}
+use Rattle.rounding.proofs.Sign.{natAbs-neg}
 use Rattle.binary32.specs.Steps.{sgn}
 
 -- ---- two values with the same roundings

@@ -11,10 +11,10 @@ use borrow.Author.Tests.{lt-ltb, ltb-true, lt-leb, le-leb}
 use Rattle.rounding.specs.Format.{binary32, MAX, Form, Num}
 use Rattle.rounding.specs.Pattern.{val, place}
 use Rattle.rounding.proofs.Pattern.{val-max, val-form}
+use Rattle.rounding.proofs.Place.{val-place}
 use Rattle.rounding.proofs.Sign.{num-neg}
 use Rattle.binary32.specs.Number.{signedBy, valueOf, finite, Finite, finites, held, patternOf, hold}
 use Rattle.binary32.specs.Operations.{with₂}
-use Rattle.binary32.proofs.Places.{val-place}
 
 -- ---- finite patterns
 

@@ -1,25 +1,24 @@
 -- Comparing keys is comparing values; the lesser and the greater of two patterns that hold a number or none.
 use mathlib.Core.Path.{_≡_, refl, sym, ap, ap₂, _∙_, subst}
-use mathlib.Core.Bool.{Bool, true, false, cond, not}
+use mathlib.Core.Bool.{Bool, true, false, cond}
 use mathlib.Core.List.{[], _∷_}
 use mathlib.Core.Option.{Option, none, some, bind}
-use Prim.Native.Nat.{ℕ, _+_, _*_, _%_, _^_, _≤_, _<_}
+use Prim.Native.Nat.{ℕ, _*_, _%_, _^_, _≤_, _<_}
 use native.Mathlib.Omega.{arith}
-use native.Mathlib.Nat.{le-antisymm, le-of-eq, lt-of-le-of-lt}
 use lib.Dec.{T, leb, lit<}
-use lib.IntN.{ℤ, pos, negℤ, natAbs}
+use lib.IntN.{ℤ, pos, negℤ}
 use lib.Signed.{leZ, leZ-yes}
 use Rattle.algebra.specs.Order.{_≼_, _≺_}
 use Rattle.algebra.specs.Extremes.{minℤ, maxℤ}
 use Rattle.algebra.proofs.Linear.{reading, le, lt, lin-lt}
-use Rattle.algebra.proofs.Order.{≼-refl, ≼-trans, ≼-of-≺, not-≺}
+use Rattle.algebra.proofs.Order.{≼-refl, ≼-of-≺, not-≺}
 use Rattle.algebra.proofs.Natural.{of-le, to-le, of-lt}
 use Rattle.rounding.specs.Format.{binary32, MAX, Num}
 use Rattle.rounding.specs.Pattern.{val}
-use Rattle.rounding.proofs.Sign.{neg-le, of-neg-le, pos-le-neg, neg-le-pos, num-le, num-ge}
 use Rattle.rounding.proofs.Pattern.{val-le, val-le-back, val-injective}
+use Rattle.rounding.proofs.Sign.{neg-le, of-neg-le, pos-le-neg, neg-le-pos, num-le, num-ge}
 use Rattle.binary32.specs.Number.{signedBy, valueOf, patternOf, holdDown, holdUp}
-use Rattle.binary32.specs.Order.{keyOf, atMost, leastOf, greatestOf, all₄, least₄, greatest₄}
+use Rattle.binary32.specs.Order.{keyOf, atMost, leastOf, greatestOf}
 use Rattle.binary32.proofs.Held.{Fits, pattern-value}
 
 -- ---- tests

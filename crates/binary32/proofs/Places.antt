@@ -2,39 +2,19 @@
 use mathlib.Core.Path.{_≡_, refl, sym, ap, _∙_, subst}
 use mathlib.Core.Option.{Option, none, some}
 use mathlib.Core.Bool.{Bool, true, false, cond, not}
-use Prim.Native.Nat.{ℕ, zero, suc, _+_, _-_, _*_, _/_, _^_, _≤_, _<_, min}
+use Prim.Native.Nat.{ℕ, zero, suc, _+_, _-_, _*_, _^_, _≤_, _<_, min}
 use lib.IntN.{ℤ, pos, negℤ}
 use lib.Dec.{T, ltb, ltb→lt, nltb→le}
 use lib.Ieee.{size}
-use mathlib.Core.Logic.{_⊎_, inl, inr, ⊎-elim}
+use mathlib.Core.Logic.{_⊎_, inl, inr}
 use native.Mathlib.Omega.{arith}
-use native.Mathlib.Nat.{mul-div-cancel, lt-of-mul-lt-mul-right, le-of-mul-le-mul-right}
-use lib.Pow.{pow-pos}
-use Rattle.rounding.specs.Format.{Format, binary32, half, Form}
-use Rattle.rounding.specs.Rounding.{expo, negate}
-use Rattle.rounding.proofs.Grid.{expo-hi, expo-lo, on-grid}
+use Rattle.rounding.specs.Format.{binary32, expo}
+use Rattle.rounding.specs.Rounding.{negate}
 use Rattle.rounding.specs.Pattern.{val, place}
-use Rattle.rounding.proofs.Pattern.{val-pattern, val-form, val-injective, val-lt}
+use Rattle.rounding.proofs.Pattern.{val-lt}
+use Rattle.rounding.proofs.Place.{place-val}
 use Rattle.binary32.specs.Number.{patternOf, hold}
 use Rattle.binary32.specs.Steps.{packed}
-
-module _ (f : Format) where
-  pub val-place : {v : ℕ} → Form f v → val f (place f v) ≡ v
-  unfolding place
-  val-place {v} F = go (on-grid (expo f v) F (expo-lo f v))
-    where
-      go : (c : ℕ) × (v ≡ c * 2 ^ expo f v) → val f (expo f v * half f + v / 2 ^ expo f v) ≡ v
-      go (c, e) =
-          ap (λ x. val f (expo f v * half f + x)) (ap (λ x. x / 2 ^ expo f v) e ∙ mul-div-cancel c (pow-pos (expo f v))) ∙ val-pattern f (expo f v) c c≤ big ∙ sym e
-        where
-          c≤ : c ≤ 2 ^ f .prec
-          c≤ = omega (arith, lt-of-mul-lt-mul-right (2 ^ expo f v) {m = c} {n = 2 ^ f .prec} (omega (arith, expo-hi f v)))
-
-          big : (expo f v ≡ 0) ⊎ (half f ≤ c)
-          big = ⊎-elim inl (λ l. inr (le-of-mul-le-mul-right {k = 2 ^ expo f v} (omega (arith, l)) (pow-pos (expo f v)))) (expo-lo f v)
-
-  pub place-val : (n : ℕ) → place f (val f n) ≡ n
-  place-val n = val-injective f (val-place (val-form f n))
 
 -- the pattern of minus a number
 pub neg-place : (n : ℕ) → 0 < n → patternOf (negℤ (pos (val binary32 n))) ≡ 2 ^ 31 + n

@@ -11,13 +11,13 @@ use mir.Syntax.{w64}
 use mir.Val.{SFits, ofZ, toZ}
 use mir.ValLaws.{toZ-ofZ}
 use Rattle.algebra.proofs.Linear.{reading, eq, lin-eq}
+use Rattle.rounding.specs.Rounding.{sticky, signed}
+use Rattle.rounding.specs.Quotient.{rem, bit, ceilS}
+use Rattle.rounding.proofs.Floor.{rem-is, up-floor, near-floor}
 use Rattle.rounding.proofs.Sign.{natAbs-neg}
 use lib.Pow.{pow-lt}
 use lib.Ieee.Nearest.{closest}
 use borrow.Author.Tests.{lt-ltb}
-use Rattle.rounding.specs.Rounding.{sticky, signed}
-use Rattle.rounding.specs.Quotient.{rem, bit, ceilS}
-use Rattle.rounding.proofs.Floor.{rem-is, up-floor, near-floor}
 use Rattle.binary32.proofs.Ints.{read, fits-of}
 
 pub shr-less : (w : ℤ) (m : ℕ) → natAbs (shrZ w m) ≤ natAbs w

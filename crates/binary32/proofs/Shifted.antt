@@ -13,11 +13,11 @@ use native.Mathlib.Nat.{le-antisymm, mul-le-mul-right, le-of-mul-le-mul-right}
 use lib.Pow.{pow-pos, pow-add}
 use Rattle.rounding.specs.Format.{Format, half}
 use Rattle.rounding.specs.Rounding.{ex, step, ceil, up, near}
+use Rattle.rounding.specs.Pattern.{val, limit}
 use Rattle.rounding.proofs.Bracket.{ceil-split, ceil-high, ceil-least, step-pos, floor-few, floor-large}
 use Rattle.rounding.proofs.Closest.{closest-split}
+use Rattle.rounding.proofs.PatternRounding.{up-pattern, up-pattern-neg, near-pattern}
 use Rattle.rounding.proofs.Shift.{size-shl, ex-shr}
-use Rattle.rounding.specs.Pattern.{val, limit}
-use Rattle.rounding.proofs.Pattern.{up-pattern, up-pattern-neg, near-pattern}
 
 ceil-same : (a b c d : ℕ) → 0 < b → 0 < d → a * d ≡ c * b → ceil a b ≡ ceil c d
 ceil-same a b c d B D e = le-antisymm (half′ a b c d B D e) (half′ c d a b D B (sym e))

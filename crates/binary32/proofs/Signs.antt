@@ -9,11 +9,11 @@ use lib.Ieee.{size}
 use lib.Ieee.Nearest.{closest}
 use Rattle.rounding.specs.Format.{binary32}
 use Rattle.rounding.specs.Rounding.{negate, signed, ceil, up, down, near}
-use Rattle.rounding.proofs.Sign.{natAbs-neg}
-use Rattle.rounding.proofs.Nearest.{near-odd}
 use Rattle.rounding.specs.Pattern.{val}
 use Rattle.rounding.specs.Quotient.{ceilS}
 use Rattle.rounding.proofs.Floor.{down-floor}
+use Rattle.rounding.proofs.Nearest.{near-odd}
+use Rattle.rounding.proofs.Sign.{natAbs-neg}
 use Rattle.binary32.specs.Number.{patternOf, holdDown, holdUp, holdNear}
 use Rattle.binary32.specs.Steps.{packed}
 use Rattle.binary32.proofs.Places.{at, past, plus, minus, cap-plus, cap-minus}

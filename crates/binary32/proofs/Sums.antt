@@ -16,8 +16,8 @@ use Rattle.algebra.proofs.Reading.{by-ring}
 use Rattle.algebra.proofs.Linear.{reading}
 use Rattle.rounding.specs.Format.{binary32}
 use Rattle.rounding.specs.Rounding.{up, down, near}
-use Rattle.rounding.proofs.Directed.{up-scale, down-scale}
-use Rattle.rounding.proofs.Nearest.{near-scale}
+use Rattle.rounding.proofs.DirectedLaws.{up-scale, down-scale}
+use Rattle.rounding.proofs.NearestLaws.{near-scale}
 use Rattle.binary32.specs.declared.parts.Parts.{Parts}
 use Rattle.binary32.specs.Steps.{of, Small, sgn, exact, Same, Summands, Larger, choose, earlier, later}
 use Rattle.binary32.proofs.Ints.{natAbs-add, natAbs-mul, read-small}

@@ -1,7 +1,7 @@
 -- Comparing patterns by the numbers that they stand for. Definitions only.
 -- A pattern of exponent field 255 is compared by the value that its fields would give, so minus infinity is below every number and infinity above.
 use mathlib.Core.Bool.{Bool, cond}
-use mathlib.Core.Option.{Option, none, some, bind}
+use mathlib.Core.Option.{Option, some, bind}
 use Prim.Native.Nat.{ℕ, _%_, _^_}
 use lib.Dec.{leb}
 use lib.IntN.{ℤ}

@@ -4,7 +4,6 @@ ghost use mathlib.Core.Bool.{cond, false};
 ghost use Rattle.binary32.specs.Number.{finites};
 ghost use Rattle.binary32.specs.Order.{leastCorner, greatestCorner};
 ghost use Rattle.binary32.specs.Steps.{Short, BothOf, CornersOf};
-
 use crate::exact::times;
 use crate::funnel::round_both;
 use crate::order::greatest;

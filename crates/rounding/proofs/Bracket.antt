@@ -1,9 +1,10 @@
 -- `lo` is the greatest number not above N / D, and `hi` the least not below; they are equal or neighbours. Assumes nothing.
 use mathlib.Core.Path.{_≡_, refl, sym, ap, _∙_}
-use Prim.Native.Nat.{ℕ, zero, suc, _+_, _*_, _/_, _%_, _^_, _≤_, _<_}
 use mathlib.Core.Logic.{_↔_, _⊎_, inl, inr, ⊎-elim}
+use Prim.Native.Nat.{ℕ, zero, suc, _+_, _*_, _/_, _%_, _^_, _≤_, _<_}
 use native.Mathlib.Omega.{arith}
-use native.Mathlib.Nat.{mul-le-mul-left, le-of-mul-le-mul-right, lt-of-mul-lt-mul-right, div-lt-iff-lt-mul, le-div-iff-mul-le, div-add-mod, mod-lt, div-mul-le-self, lt-div-mul-add, mul-pos}
+use native.Mathlib.Nat.{mul-le-mul-left, le-of-mul-le-mul-right, lt-of-mul-lt-mul-right, div-lt-iff-lt-mul, le-div-iff-mul-le}
+use native.Mathlib.Nat.{div-add-mod, mod-lt, div-mul-le-self, lt-div-mul-add, mul-pos}
 use lib.Pow.{pow-pos}
 use Rattle.algebra.proofs.Natural.{≤-total}
 use Rattle.rounding.specs.Format.{Format, half, Form}
@@ -11,6 +12,14 @@ use Rattle.rounding.specs.Rounding.{ex, step, sticky, ceil, lo, hi}
 use Rattle.rounding.proofs.Grid.{scale, on-grid, form-of}
 
 -- ---- a fraction rounded up
+pub sticky-pos : (n : ℕ) → 0 < n → sticky n ≡ 1
+sticky-pos zero h = absurd (no h)
+  where
+    no : 0 < 0 → ⊥
+    no h = omega arith
+sticky-pos (suc n) h = refl
+
+-- one more than the quotient where there is a remainder
 pub ceil-split : {G : Type 0} (a b : ℕ) → (a % b ≡ 0 → ceil a b ≡ a / b → G) → (0 < a % b → ceil a b ≡ a / b + 1 → G) → G
 unfolding ceil
 ceil-split {G} a b = go (a % b) refl
@@ -54,15 +63,21 @@ module _ (f : Format) (D N : ℕ) (d : 0 < D) where
   hi-near = omega (arith, ceil-low N (step f D N) step-pos)
 
   -- either there is no remainder and both are N / D, or they are neighbours
-  pub lo-hi-split : {G : Type 0} → (lo f D N * D ≡ N → hi f D N ≡ lo f D N → G) → (lo f D N * D < N → N < hi f D N * D → hi f D N ≡ lo f D N + 2 ^ ex f D N → G) → G
+  pub lo-hi-split : {G : Type 0} → (lo f D N * D ≡ N → hi f D N ≡ lo f D N → G)
+      → (lo f D N * D < N → N < hi f D N * D → hi f D N ≡ lo f D N + 2 ^ ex f D N → G) → G
   unfolding lo hi
   lo-hi-split F G =
+      let g : ℕ = step f D N in
       let E : ℕ = 2 ^ ex f D N in
-      ceil-split N (step f D N)
-      (λ r e. F (omega (arith, div-add-mod N (step f D N))) (ap (λ x. E * x) e))
-      (λ r e. G (omega (arith, div-add-mod N (step f D N))) (omega (arith, div-add-mod N (step f D N), ap (λ x. E * x * D) e, mod-lt N step-pos)) (omega (arith, ap (λ x. E * x) e)))
+      ceil-split N g
+      (λ r e. F (omega (arith, div-add-mod N g)) (ap (λ x. E * x) e))
+      (λ r e. G (omega (arith, div-add-mod N g))
+      (omega (arith, div-add-mod N g, ap (λ x. E * x * D) e, mod-lt N step-pos)) (omega (arith, ap (λ x. E * x) e)))
 
-  -- ---- their shape
+  pub lo-hi : lo f D N ≤ hi f D N
+  lo-hi = lo-hi-split (λ x y. omega arith) (λ x y z. omega arith)
+
+  -- ---- their shape: the quotient is a significand
   pub floor-few : N / step f D N < 2 ^ f .prec
   floor-few = div-lt-iff-lt-mul step-pos .1 (scale f D N d .below)
 
@@ -72,6 +87,10 @@ module _ (f : Format) (D N : ℕ) (d : 0 < D) where
   pub lo-large : (ex f D N ≡ 0) ⊎ (half f * 2 ^ ex f D N ≤ lo f D N)
   unfolding lo
   lo-large = ⊎-elim inl (λ h. inr (omega (arith, mul-le-mul-left (2 ^ ex f D N) h))) floor-large
+
+  pub lo-few : lo f D N + 2 ^ ex f D N ≤ 2 ^ f .prec * 2 ^ ex f D N
+  unfolding lo
+  lo-few = omega (arith, mul-le-mul-left (2 ^ ex f D N) floor-few)
 
   pub lo-form : Form f (lo f D N)
   unfolding lo
@@ -93,7 +112,10 @@ module _ (f : Format) (D N : ℕ) (d : 0 < D) where
       (scale f D N d .above)
     where
       by-multiple : (c : ℕ) × (w ≡ c * 2 ^ ex f D N) → w ≤ 2 ^ ex f D N * (N / step f D N)
-      by-multiple (c, e) = omega (arith, mul-le-mul-left (2 ^ ex f D N) (le-div-iff-mul-le {x = c} {y = N} step-pos .1 (omega (arith, ap (λ x. x * D) e))))
+      by-multiple (c, e) = omega (arith, mul-le-mul-left (2 ^ ex f D N) at-most)
+        where
+          at-most : c ≤ N / step f D N
+          at-most = le-div-iff-mul-le {x = c} {y = N} step-pos .1 (omega (arith, ap (λ x. x * D) e))
 
   pub hi-least : {w : ℕ} → Form f w → N ≤ w * D → hi f D N ≤ w
   unfolding hi
@@ -111,7 +133,13 @@ module _ (f : Format) (D N : ℕ) (d : 0 < D) where
   lo-keeps = (λ e. omega (arith, div-add-mod N (step f D N)), λ e. omega (arith, div-add-mod N (step f D N)))
 
   pub hi-keeps : (hi f D N * D ≡ N) ↔ (N % step f D N ≡ 0)
-  hi-keeps = (λ e. lo-hi-split (λ x y. lo-keeps .0 x) (λ x y z. absurd (no (sym e) y)), λ e. lo-hi-split (λ x y. ap (λ w. w * D) y ∙ x) (λ x y z. absurd (no (lo-keeps .1 e) x)))
+  hi-keeps = (to, from)
     where
       no : {a b : ℕ} → a ≡ b → a < b → ⊥
       no e l = omega arith
+
+      to : hi f D N * D ≡ N → N % step f D N ≡ 0
+      to e = lo-hi-split (λ x y. lo-keeps .0 x) (λ x y z. absurd (no (sym e) y))
+
+      from : N % step f D N ≡ 0 → hi f D N * D ≡ N
+      from e = lo-hi-split (λ x y. ap (λ w. w * D) y ∙ x) (λ x y z. absurd (no (lo-keeps .1 e) x))

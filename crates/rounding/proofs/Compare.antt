@@ -1,9 +1,9 @@
--- What the kit's three-way `compare` of naturals says.
+-- Comparing two naturals: what the three-way `compare` says, and a proof by its three cases. Assumes nothing.
 use mathlib.Core.Path.{_≡_, subst}
 use mathlib.Core.Bool.{not}
 use Prim.Native.Nat.{ℕ, _≤_, _<_, compare, Ordering, Ordering·lt, Ordering·eq, Ordering·gt}
-use lib.Dec.{T, isLe, isEq, eqb, leb→le, nleb→lt, eqb→eq, eqb-refl}
 use lib.Arith.{lt-of-le-ne}
+use lib.Dec.{T, isLe, isEq, eqb, leb→le, nleb→lt, eqb→eq, eqb-refl}
 
 abbrev pub Cmp : Ordering → ℕ → ℕ → Type 0
 Cmp Ordering·lt a b = a < b
@@ -17,3 +17,11 @@ cmp a b = go (compare a b) (leb→le a b) (nleb→lt a b) (eqb→eq a b) (λ (e 
     go Ordering·lt h k e n = lt-of-le-ne (h tt) n
     go Ordering·eq h k e n = e tt
     go Ordering·gt h k e n = k tt
+
+pub cmp-split : {G : Type 0} (a b : ℕ) → (a < b → G) → (a ≡ b → G) → (b < a → G) → G
+cmp-split {G} a b = go (compare a b) (cmp a b)
+  where
+    go : (o : Ordering) → Cmp o a b → (a < b → G) → (a ≡ b → G) → (b < a → G) → G
+    go Ordering·lt c F E H = F c
+    go Ordering·eq c F E H = E c
+    go Ordering·gt c F E H = H c

@@ -1,23 +1,26 @@
--- Signed significands: with c = `shrZ s m`, the quotient s / m rounded down (an arithmetic shift for m = 2 ^ t), and its remainder r, s / m rounded up is c or c + 1, and so is the nearest. Assumes nothing.
-use mathlib.Core.Path.{_≡_, refl, sym, ap, ap₂, _∙_, subst}
-use mathlib.Core.List.{List, [], _∷_}
-use mathlib.Core.Logic.{⊎-elim}
+-- Signed significands: with c = `shrZ s m`, the quotient s / m rounded down (an arithmetic shift for m = 2 ^ t), and its remainder r,
+-- s / m rounded up is c or c + 1, and so is the nearest. Assumes nothing.
+use mathlib.Core.Path.{_≡_, refl, sym, ap, _∙_}
 use mathlib.Core.Bool.{Bool, true, false, not}
+use mathlib.Core.List.{[], _∷_}
+use mathlib.Core.Logic.{⊎-elim}
 use Prim.Native.Nat.{ℕ, zero, suc, _+_, _-_, _*_, _/_, _%_, _≤_, _<_}
 use native.Mathlib.Omega.{arith}
-use native.Mathlib.Nat.{eq-or-lt-of-le, div-add-mod, mod-lt, zero-div, zero-mod}
+use native.Mathlib.Nat.{eq-or-lt-of-le, div-add-mod, div-add-mod', mod-lt, zero-div, zero-mod}
 use lib.Arith.{digits-div, digits-mod}
 use lib.Dec.{T, ltb, ltb→lt, nltb→le}
-use lib.IntN.{ℤ, pos, negsuc, negℤ, natAbs, _+ℤ_, _*ℤ_, _-ℤ_, negℤ-negℤ, +ℤ-idr}
+use lib.IntN.{ℤ, pos, negsuc, negℤ, natAbs, _+ℤ_, _*ℤ_, negℤ-negℤ, +ℤ-idr}
 use lib.Signed.{shrZ}
 use lib.Ieee.Nearest.{closest}
-use Rattle.algebra.proofs.Linear.{reading, le, lt, eq, lin-eq}
+use Rattle.algebra.proofs.Linear.{reading, lin-eq}
 use Rattle.rounding.specs.Rounding.{sticky, ceil, signed}
 use Rattle.rounding.specs.Quotient.{rem, ceilS, bit}
-use Rattle.rounding.proofs.Bracket.{ceil-split}
+use Rattle.rounding.proofs.Bracket.{sticky-pos, ceil-split}
 use Rattle.rounding.proofs.Closest.{closest-split}
 
-suc-split : {G : Type 0} (n m : ℕ) → 0 < m → (suc (n % m) < m → suc n / m ≡ n / m → suc n % m ≡ suc (n % m) → G) → (suc (n % m) ≡ m → suc n / m ≡ suc (n / m) → suc n % m ≡ 0 → G) → G
+-- the quotient and the remainder of the next number
+suc-split : {G : Type 0} (n m : ℕ) → 0 < m → (suc (n % m) < m → suc n / m ≡ n / m → suc n % m ≡ suc (n % m) → G)
+    → (suc (n % m) ≡ m → suc n / m ≡ suc (n / m) → suc n % m ≡ 0 → G) → G
 suc-split {G} n m h F H = ⊎-elim carry inside (eq-or-lt-of-le (mod-lt n h))
   where
     inside : suc (n % m) < m → G
@@ -35,11 +38,9 @@ rem-lt (pos n) m h = mod-lt n h
 rem-lt (negsuc n) m h = omega (arith, mod-lt n h)
 
 pub rem-is : (s : ℤ) (m : ℕ) → 0 < m → shrZ s m *ℤ pos m +ℤ pos (rem s m) ≡ s
-rem-is (pos n) m h = ap pos (omega′ n)
-  where
-    omega′ : (n : ℕ) → n / m * m + n % m ≡ n
-    omega′ n = omega (arith, div-add-mod n m)
-rem-is (negsuc n) m h = lin-eq (pos n ∷ pos m ∷ pos (n / m) ∷ pos (m - suc (n % m)) ∷ []) [] (search reading depth 20) (omega (arith, div-add-mod n m, mod-lt n h))
+rem-is (pos n) m h = ap pos (div-add-mod' n m)
+rem-is (negsuc n) m h =
+    lin-eq (pos n ∷ pos m ∷ pos (n / m) ∷ pos (m - suc (n % m)) ∷ []) [] (search reading depth 20) (omega (arith, div-add-mod n m, mod-lt n h))
 
 -- ---- up: one more where there is a remainder
 one-more : (n : ℕ) → negsuc n +ℤ pos 1 ≡ negℤ (pos n)
@@ -50,24 +51,17 @@ unfolding ceil
 up-floor (pos n) m h = refl
 up-floor (negsuc n) m h = suc-split n m h
     (λ l e r. ap (λ x. negsuc (n / m) +ℤ pos x) (sticky-pos (m - suc (n % m)) (omega arith)) ∙ one-more (n / m) ∙ ap (λ x. negℤ (pos x)) (sym e))
-    (λ l e r. ap (λ x. negsuc (n / m) +ℤ pos (sticky x)) (zeroed l) ∙ +ℤ-idr (negsuc (n / m)) ∙ ap (λ x. negℤ (pos x)) (sym e))
+    (λ l e r. ap (λ x. negsuc (n / m) +ℤ pos (sticky x)) (no-rest l) ∙ +ℤ-idr (negsuc (n / m)) ∙ ap (λ x. negℤ (pos x)) (sym e))
   where
-    sticky-pos : (n : ℕ) → 0 < n → sticky n ≡ 1
-    sticky-pos zero h = absurd (no h)
-      where
-        no : 0 < 0 → ⊥
-        no h = omega arith
-    sticky-pos (suc n) h = refl
-
-    zeroed : suc (n % m) ≡ m → m - suc (n % m) ≡ 0
-    zeroed l = omega arith
+    no-rest : suc (n % m) ≡ m → m - suc (n % m) ≡ 0
+    no-rest l = omega arith
 
 -- ---- down, as the mirror of up
 pub down-floor : (s : ℤ) (m : ℕ) → 0 < m → shrZ s m ≡ negℤ (ceilS (negℤ s) m)
-down-floor (pos zero) m h = ap pos (zero-div m) ∙ sym (ap (λ x. negℤ (pos x)) zeroed)
+down-floor (pos zero) m h = ap pos (zero-div m) ∙ sym (ap (λ x. negℤ (pos x)) ceil-zero)
   where
-    zeroed : ceil 0 m ≡ 0
-    zeroed = ceil-split 0 m (λ r e. e ∙ zero-div m) (λ r e. absurd (no r (zero-mod m)))
+    ceil-zero : ceil 0 m ≡ 0
+    ceil-zero = ceil-split 0 m (λ r e. e ∙ zero-div m) (λ r e. absurd (no r (zero-mod m)))
       where
         no : 0 < 0 % m → 0 % m ≡ 0 → ⊥
         no r e = omega arith

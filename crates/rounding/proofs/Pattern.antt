@@ -1,31 +1,18 @@
--- Bit patterns: the pattern n of a magnitude, its exponent e = n / 2 ^ (prec - 1) and its fraction, holds the value `val n`. The values grow with n, every number has one pattern, and
--- the pattern of c * 2 ^ j is j * 2 ^ (prec - 1) + c, also where a rounding carried to c = 2 ^ prec. Assumes nothing.
-use mathlib.Core.Path.{_≡_, refl, sym, ap, _∙_, subst, ap₂}
-use mathlib.Core.Option.{none, some}
-use mathlib.Core.Bool.{Bool, true, false, cond}
-use Prim.Native.Nat.{ℕ, zero, suc, _+_, _-_, _*_, _/_, _%_, _^_, _≤_, _<_, min}
-use lib.IntN.{pos, negℤ}
-use lib.Dec.{leb, T, leb→le, ltb, le→leb, ltb→lt, lt→ltb}
-use lib.Ieee.Nearest.{closest}
+-- Bit patterns without sign: the values `val n` grow with the pattern n, so that no number has two; the pattern of c * 2 ^ j is
+-- j * 2 ^ (prec - 1) + c, also where a rounding carried to c = 2 ^ prec; the numbers are the patterns below `limit`. Assumes nothing.
+use mathlib.Core.Path.{_≡_, refl, sym, ap, ap₂, _∙_, subst}
+use mathlib.Core.Bool.{Bool, true, false}
 use mathlib.Core.Logic.{_↔_, _⊎_, inl, inr, ⊎-elim}
+use Prim.Native.Nat.{ℕ, zero, suc, _+_, _-_, _*_, _/_, _%_, _^_, _≤_, _<_, min}
 use native.Mathlib.Omega.{arith, min-cases}
-use native.Mathlib.Nat.{le-antisymm, le-of-eq, lt-of-not-le, not-le-of-lt, eq-or-lt-of-le, mul-comm, le-of-mul-le-mul-right, lt-of-mul-lt-mul-right, mod-lt, pow-succ', mul-pos, div-add-mod'}
-use lib.Pow.{pow-pos}
-use Rattle.algebra.proofs.Natural.{≤-total}
+use native.Mathlib.Nat.{le-antisymm, le-of-eq, lt-of-not-le, not-le-of-lt, eq-or-lt-of-le, mod-lt, pow-succ', mul-pos, div-add-mod'}
 use lib.Arith.{digits-div, digits-mod}
+use lib.Pow.{pow-pos}
+use lib.Dec.{leb, T, leb→le, ltb, le→leb, ltb→lt, lt→ltb}
 use Rattle.rounding.specs.Format.{Format, half, MAX, Form}
-use Rattle.rounding.specs.Rounding.{expo, ex, step, ceil, lo, hi, nr, up, near}
 use Rattle.rounding.specs.Pattern.{value, val, limit}
-use Rattle.rounding.proofs.Grid.{prec-half, half-pos, expo-hi, expo-lo, scale, on-grid}
-use Rattle.rounding.proofs.Bracket.{ceil-split, ceil-least, step-pos, floor-few, floor-large}
-use Rattle.rounding.proofs.Directed.{up-of-pos, up-of-neg}
-use Rattle.rounding.proofs.Closest.{closest-split}
-
-tests : (a b : Bool) → (T a → T b) → (T b → T a) → a ≡ b
-tests true true f g = refl
-tests true false f g = absurd (f tt)
-tests false true f g = absurd (g tt)
-tests false false f g = refl
+use Rattle.rounding.proofs.Compare.{cmp-split}
+use Rattle.rounding.proofs.Grid.{prec-half, half-pos}
 
 module _ (f : Format) where
   pub val-at : (e : ℕ) {m : ℕ} → m < half f → val f (e * half f + m) ≡ value (half f) e m
@@ -35,33 +22,30 @@ module _ (f : Format) where
   -- ---- the pattern of a shifted significand
   pub val-pattern : (j c : ℕ) → c ≤ 2 ^ f .prec → (j ≡ 0) ⊎ (half f ≤ c) → val f (j * half f + c) ≡ c * 2 ^ j
   val-pattern j c h s =
-      ⊎-elim (λ (g : half f ≤ c). ⊎-elim (λ (e : c ≡ 2 ^ f .prec). top e) (λ (l : c < 2 ^ f .prec). middle g l) (eq-or-lt-of-le h))
-      (λ (g : c ≤ half f). ⊎-elim (λ (e : c ≡ half f). middle (le-of-eq (sym e)) (omega (arith, prec-half f, half-pos f))) (λ (l : c < half f). bottom l s) (eq-or-lt-of-le g))
-      (≤-total (half f) c)
+      cmp-split c (half f) (λ l. subnormal l s) (λ e. normal (le-of-eq (sym e)) (omega (arith, prec-half f, half-pos f)))
+      (λ g. ⊎-elim carried (normal (omega arith)) (eq-or-lt-of-le h))
     where
-      bottom : c < half f → (j ≡ 0) ⊎ (half f ≤ c) → val f (j * half f + c) ≡ c * 2 ^ j
-      bottom l (inl e) = ap (λ x. val f (x * half f + c)) e ∙ val-at 0 l ∙ omega′ e
+      subnormal : c < half f → (j ≡ 0) ⊎ (half f ≤ c) → val f (j * half f + c) ≡ c * 2 ^ j
+      subnormal l (inl e) = ap (λ x. val f (x * half f + c)) e ∙ val-at 0 l ∙ unshifted
         where
-          omega′ : j ≡ 0 → c ≡ c * 2 ^ j
-          omega′ e = omega (arith, ap (λ x. c * 2 ^ x) e)
-      bottom l (inr g) = absurd (not-le-of-lt l g)
+          unshifted : c ≡ c * 2 ^ j
+          unshifted = omega (arith, ap (λ x. c * 2 ^ x) e)
+      subnormal l (inr g) = absurd (not-le-of-lt l g)
 
-      middle : half f ≤ c → c < 2 ^ f .prec → val f (j * half f + c) ≡ c * 2 ^ j
-      middle g l =
+      normal : half f ≤ c → c < 2 ^ f .prec → val f (j * half f + c) ≡ c * 2 ^ j
+      normal g l =
           let e₁ : j * half f + c ≡ suc j * half f + (c - half f) = omega arith in
           let e₂ : half f + (c - half f) ≡ c = omega arith in
           ap (val f) e₁ ∙ val-at (suc j) (omega (arith, prec-half f)) ∙ ap (λ x. x * 2 ^ j) e₂
 
-      top : c ≡ 2 ^ f .prec → val f (j * half f + c) ≡ c * 2 ^ j
-      top e =
+      carried : c ≡ 2 ^ f .prec → val f (j * half f + c) ≡ c * 2 ^ j
+      carried e =
           let e₁ : j * half f + c ≡ suc (suc j) * half f + 0 = omega (arith, prec-half f) in
-          let e₂ : (half f + 0) * 2 ^ suc j ≡ c * 2 ^ j = omega (arith, ap (λ x. half f * x) (pow-succ' 2 j), ap (λ x. x * 2 ^ j) (e ∙ prec-half f)) in
+          let e₂ : (half f + 0) * 2 ^ suc j ≡ c * 2 ^ j =
+          omega (arith, ap (λ x. half f * x) (pow-succ' 2 j), ap (λ x. x * 2 ^ j) (e ∙ prec-half f)) in
           ap (val f) e₁ ∙ val-at (suc (suc j)) (half-pos f) ∙ e₂
 
   -- ---- values grow with patterns
-  split : (n : ℕ) → n ≡ n / half f * half f + n % half f
-  split n = sym (div-add-mod' n (half f))
-
   next : (e m : ℕ) → m < half f → value (half f) e m < val f (suc (e * half f + m))
   next e m h = ⊎-elim (λ (k : suc m ≡ half f). carry e k) (λ (k : suc m < half f). inside e k) (eq-or-lt-of-le h)
     where
@@ -84,7 +68,19 @@ module _ (f : Format) where
           subst (λ x. value (half f) e m < x) (sym (ap (val f) s ∙ val-at (suc e) (half-pos f))) (over e k)
 
   pub val-step : (n : ℕ) → val f n < val f (suc n)
-  val-step n = subst (λ x. val f x < val f (suc x)) (sym (split n)) (subst (λ y. y < val f (suc (n / half f * half f + n % half f))) (sym (val-at (n / half f) (mod-lt n (half-pos f)))) (next (n / half f) (n % half f) (mod-lt n (half-pos f))))
+  val-step n = subst (λ x. val f x < val f (suc x)) fields (subst (λ y. y < val f (suc (e * half f + m))) (sym (val-at e small)) (next e m small))
+    where
+      e : ℕ
+      e = n / half f
+
+      m : ℕ
+      m = n % half f
+
+      fields : e * half f + m ≡ n
+      fields = div-add-mod' n (half f)
+
+      small : m < half f
+      small = mod-lt n (half-pos f)
 
   val-climb : (k m n : ℕ) → n ≡ m + suc k → val f m < val f n
   val-climb zero m n e =
@@ -103,54 +99,13 @@ module _ (f : Format) where
   pub val-le-back : {m n : ℕ} → val f m ≤ val f n → m ≤ n
   val-le-back {m} {n} h = omega (arith, lt-of-not-le (λ (l : suc n ≤ m). not-le-of-lt (val-lt l) h))
 
+  pub val-lt-back : {m n : ℕ} → val f m < val f n → m < n
+  val-lt-back {m} {n} h = lt-of-not-le (λ (l : n ≤ m). not-le-of-lt h (val-le l))
+
   pub val-injective : {m n : ℕ} → val f m ≡ val f n → m ≡ n
   val-injective {m} {n} e = le-antisymm (val-le-back (le-of-eq e)) (val-le-back (le-of-eq (sym e)))
 
-  -- ---- the patterns of the numbers: those below (top + 2) * 2 ^ (prec - 1)
-  over-max : val f ((f .top + 2) * half f) ≡ 2 ^ f .prec * 2 ^ f .top
-  over-max =
-      let e : (f .top + 2) * half f ≡ f .top * half f + 2 ^ f .prec = omega (arith, prec-half f) in
-      ap (val f) e ∙ val-pattern (f .top) (2 ^ f .prec) (le-of-eq refl) (inr (omega (arith, prec-half f)))
-
-  at-max : val f (f .top * half f + (2 ^ f .prec - 1)) ≡ MAX f
-  unfolding MAX
-  at-max = val-pattern (f .top) (2 ^ f .prec - 1) (omega arith) (inr (omega (arith, prec-half f, half-pos f)))
-
-  pub val-max : (n : ℕ) → (val f n ≤ MAX f) ↔ (n < limit f)
-  val-max n = (to, from)
-    where
-      last : suc (f .top * half f + (2 ^ f .prec - 1)) ≡ (f .top + 2) * half f
-      last = omega (arith, prec-half f, half-pos f)
-
-      to : val f n ≤ MAX f → n < limit f
-      to h = omega (arith, last, val-le-back {m = n} {n = f .top * half f + (2 ^ f .prec - 1)} (omega (arith, at-max)))
-
-      from : n < limit f → val f n ≤ MAX f
-      from h = omega (arith, at-max, val-le {m = n} {n = f .top * half f + (2 ^ f .prec - 1)} (omega (arith, last)))
-
-  pub fits-same : (n : ℕ) → leb (val f n) (MAX f) ≡ ltb n (limit f)
-  fits-same n = tests (leb (val f n) (MAX f)) (ltb n (limit f)) (λ t. lt→ltb n (limit f) (val-max n .0 (leb→le (val f n) (MAX f) t))) (λ t. le→leb (val f n) (MAX f) (val-max n .1 (ltb→lt n (limit f) t)))
-
-  val-min : (n : ℕ) → min (val f n) (MAX f) ≡ val f (min n (limit f - 1))
-  val-min n = min-cases n (limit f - 1) (min (val f n) (MAX f) ≡ val f (min n (limit f - 1)))
-      (λ h e. small (val-max n .1 (omega (arith, limit-pos))) ∙ sym (ap (val f) e))
-      (λ h e. large (subst (λ x. x ≤ val f n) last (val-le h)) ∙ sym (ap (val f) e ∙ last))
-    where
-      limit-pos : 0 < limit f
-      limit-pos = mul-pos (omega arith) (half-pos f)
-
-      last : val f (limit f - 1) ≡ MAX f
-      last = ap (val f) before ∙ at-max
-        where
-          before : limit f - 1 ≡ f .top * half f + (2 ^ f .prec - 1)
-          before = omega (arith, prec-half f, half-pos f)
-
-      small : val f n ≤ MAX f → min (val f n) (MAX f) ≡ val f n
-      small h = omega arith
-
-      large : MAX f ≤ val f n → min (val f n) (MAX f) ≡ MAX f
-      large h = omega arith
-
+  -- ---- every pattern is a number without upper limit, and those below `limit` are the numbers
   pub val-form : (n : ℕ) → Form f (val f n)
   unfolding val
   val-form n = go (n / half f) (n % half f) (mod-lt n (half-pos f))
@@ -159,52 +114,62 @@ module _ (f : Format) where
       go zero m h = record { significand = m; shift = 0; few = omega (arith, prec-half f); is = omega arith }
       go (suc e) m h = record { significand = half f + m; shift = e; few = omega (arith, prec-half f); is = refl }
 
-  -- every number has a pattern (and only one: val-injective)
-  pub pattern-of : {v : ℕ} → Form f v → (n : ℕ) × (val f n ≡ v)
-  pattern-of {v} F = go (on-grid (expo f v) F (expo-lo f v))
+  -- the last pattern is that of the largest number
+  last : ℕ
+  last = f .top * half f + (2 ^ f .prec - 1)
+
+  last-suc : suc last ≡ limit f
+  unfolding last
+  last-suc = omega (arith, prec-half f, half-pos f)
+
+  last-max : val f last ≡ MAX f
+  unfolding last MAX
+  last-max = val-pattern (f .top) (2 ^ f .prec - 1) (omega arith) (inr (omega (arith, prec-half f, half-pos f)))
+
+  -- the pattern after it stands for the next power of two
+  pub val-limit : val f (limit f) ≡ 2 ^ f .prec * 2 ^ f .top
+  val-limit =
+      let e : limit f ≡ f .top * half f + 2 ^ f .prec = omega (arith, prec-half f) in
+      ap (val f) e ∙ val-pattern (f .top) (2 ^ f .prec) (le-of-eq refl) (inr (omega (arith, prec-half f)))
+
+  pub val-max : (n : ℕ) → (val f n ≤ MAX f) ↔ (n < limit f)
+  val-max n = (to, from)
     where
-      go : (c : ℕ) × (v ≡ c * 2 ^ expo f v) → (n : ℕ) × (val f n ≡ v)
-      go (c, e) = (expo f v * half f + c, val-pattern (expo f v) c c≤ big ∙ sym e)
+      to : val f n ≤ MAX f → n < limit f
+      to h = omega (arith, last-suc, val-le-back {m = n} {n = last} (omega (arith, last-max)))
+
+      from : n < limit f → val f n ≤ MAX f
+      from h = omega (arith, last-max, val-le {m = n} {n = last} (omega (arith, last-suc)))
+
+  -- the same as tests
+  pub fits-same : (n : ℕ) → leb (val f n) (MAX f) ≡ ltb n (limit f)
+  fits-same n = tests (leb (val f n) (MAX f)) (ltb n (limit f))
+      (λ t. lt→ltb n (limit f) (val-max n .0 (leb→le (val f n) (MAX f) t)))
+      (λ t. le→leb (val f n) (MAX f) (val-max n .1 (ltb→lt n (limit f) t)))
+    where
+      tests : (a b : Bool) → (T a → T b) → (T b → T a) → a ≡ b
+      tests true true f g = refl
+      tests true false f g = absurd (f tt)
+      tests false true f g = absurd (g tt)
+      tests false false f g = refl
+
+  -- the lesser of a value and the largest number
+  pub val-min : (n : ℕ) → min (val f n) (MAX f) ≡ val f (min n (limit f - 1))
+  val-min n = min-cases n (limit f - 1) (min (val f n) (MAX f) ≡ val f (min n (limit f - 1)))
+      (λ h e. small (val-max n .1 (omega (arith, limit-pos))) ∙ sym (ap (val f) e))
+      (λ h e. large (subst (λ x. x ≤ val f n) at-last (val-le h)) ∙ sym (ap (val f) e ∙ at-last))
+    where
+      limit-pos : 0 < limit f
+      limit-pos = mul-pos (omega arith) (half-pos f)
+
+      at-last : val f (limit f - 1) ≡ MAX f
+      at-last = ap (val f) before ∙ last-max
         where
-          c≤ : c ≤ 2 ^ f .prec
-          c≤ = omega (arith, lt-of-mul-lt-mul-right (2 ^ expo f v) {m = c} {n = 2 ^ f .prec} (omega (arith, expo-hi f v)))
+          before : limit f - 1 ≡ last
+          before = omega (arith, last-suc)
 
-          big : (expo f v ≡ 0) ⊎ (half f ≤ c)
-          big = ⊎-elim inl (λ l. inr (le-of-mul-le-mul-right {k = 2 ^ expo f v} (omega (arith, l)) (pow-pos (expo f v)))) (expo-lo f v)
+      small : val f n ≤ MAX f → min (val f n) (MAX f) ≡ val f n
+      small h = omega arith
 
-  -- ---- the patterns of roundings: no significand is normalised afterwards
-  module _ (D N : ℕ) (d : 0 < D) where
-    pub val-lo : val f (ex f D N * half f + N / step f D N) ≡ lo f D N
-    unfolding lo
-    val-lo = val-pattern (ex f D N) (N / step f D N) (omega (arith, floor-few f D N d)) (floor-large f D N d) ∙ mul-comm (N / step f D N) (2 ^ ex f D N)
-
-    pub val-hi : val f (ex f D N * half f + ceil N (step f D N)) ≡ hi f D N
-    unfolding hi
-    val-hi =
-        val-pattern (ex f D N) (ceil N (step f D N)) (ceil-least N (step f D N) (2 ^ f .prec) (step-pos f D N d) (omega (arith, scale f D N d .below)))
-        (⊎-elim inl (λ h. inr (ceil-split N (step f D N) (λ r e. omega arith) (λ r e. omega arith))) (floor-large f D N d))
-        ∙ mul-comm (ceil N (step f D N)) (2 ^ ex f D N)
-
-    pub val-nr : val f (ex f D N * half f + closest N (step f D N)) ≡ nr f D N
-    unfolding nr
-    val-nr =
-        val-pattern (ex f D N) (closest N (step f D N)) (closest-split N (step f D N) (λ r e. omega (arith, floor-few f D N d)) (λ r e. omega (arith, floor-few f D N d)))
-        (⊎-elim inl (λ h. inr (closest-split N (step f D N) (λ r e. omega arith) (λ r e. omega arith))) (floor-large f D N d))
-        ∙ mul-comm (closest N (step f D N)) (2 ^ ex f D N)
-
-    -- ---- rounding by patterns: what a machine computes and tests
-    pub up-pattern : let n = ex f D N * half f + ceil N (step f D N) in up f D (pos N) ≡ cond (ltb n (limit f)) (some (pos (val f n))) none
-    up-pattern =
-        let n : ℕ = ex f D N * half f + ceil N (step f D N) in
-        up-of-pos f D d N ∙ ap (λ x. cond (leb x (MAX f)) (some (pos x)) none) (sym val-hi) ∙ ap (λ t. cond t (some (pos (val f n))) none) (fits-same n)
-
-    pub up-pattern-neg : let n = ex f D N * half f + N / step f D N in up f D (negℤ (pos N)) ≡ some (negℤ (pos (val f (min n (limit f - 1)))))
-    up-pattern-neg =
-        let n : ℕ = ex f D N * half f + N / step f D N in
-        up-of-neg f D d N ∙ ap (λ x. some (negℤ (pos x))) (ap (λ x. min x (MAX f)) (sym val-lo) ∙ val-min n)
-
-    pub near-pattern : let n = ex f D N * half f + closest N (step f D N) in near f D (pos N) ≡ cond (ltb n (limit f)) (some (pos (val f n))) none
-    unfolding near
-    near-pattern =
-        let n : ℕ = ex f D N * half f + closest N (step f D N) in
-        ap (λ x. cond (leb x (MAX f)) (some (pos x)) none) (sym val-nr) ∙ ap (λ t. cond t (some (pos (val f n))) none) (fits-same n)
+      large : MAX f ≤ val f n → min (val f n) (MAX f) ≡ MAX f
+      large h = omega arith

@@ -1,17 +1,17 @@
 -- The nearest is above the largest number exactly from half a step above it on. Assumes nothing.
-use mathlib.Core.Path.{_≡_, refl, sym, ap, _∙_, subst}
-use Prim.Native.Nat.{ℕ, suc, _+_, _-_, _*_, _/_, _%_, _^_, _≤_, _<_}
-use lib.Dec.{T}
+use mathlib.Core.Path.{_≡_, sym, ap, _∙_, subst}
 use mathlib.Core.Logic.{_↔_, _⊎_, inl, inr, ⊎-elim}
+use Prim.Native.Nat.{ℕ, suc, _+_, _-_, _*_, _/_, _%_, _^_, _≤_, _<_}
 use native.Mathlib.Omega.{arith}
 use native.Mathlib.Nat.{le-trans, le-of-eq, not-le-of-lt, eq-or-lt-of-le, mul-le-mul-left, mul-le-mul-right, div-add-mod, mod-lt, pow-succ'}
 use lib.Pow.{pow-pos, pow-mono}
-use Rattle.algebra.proofs.Natural.{≤-total}
+use lib.Ieee.Nearest.{closest}
 use Rattle.rounding.specs.Format.{Format, half, MAX}
-use Rattle.rounding.specs.Rounding.{ex, step, lo, hi, nr}
-use Rattle.rounding.proofs.Grid.{prec-half, half-pos, scale, form-of}
-use Rattle.rounding.proofs.Bracket.{step-pos, lo-low, floor-few, lo-large, hi-least}
-use Rattle.rounding.proofs.Closest.{closest-split, lo-nr, nr-hi}
+use Rattle.rounding.specs.Rounding.{ex, step, lo, nr}
+use Rattle.rounding.proofs.Compare.{cmp-split}
+use Rattle.rounding.proofs.Grid.{prec-half, half-pos, scale}
+use Rattle.rounding.proofs.Bracket.{step-pos, lo-low, floor-few, lo-large}
+use Rattle.rounding.proofs.Closest.{closest-split, lo-nr, nr-few}
 
 -- the largest number, and the next
 pub max-is : (f : Format) → MAX f + 2 ^ f .top ≡ 2 * half f * 2 ^ f .top
@@ -37,13 +37,17 @@ module _ (P T D N M c r : ℕ) (m : M + T ≡ 2 * P * T) (n : T * D * c + r ≡ 
 
 module _ (f : Format) (D N : ℕ) (d : 0 < D) where
   -- ---- where the nearest is above the largest number: from half a step above it on
-  OverOrNot : Type 0
-  OverOrNot = ((MAX f < nr f D N) × (2 * (MAX f * D) + 2 ^ f .top * D ≤ 2 * N)) ⊎ ((nr f D N ≤ MAX f) × (2 * N < 2 * (MAX f * D) + 2 ^ f .top * D))
+  Over : ℕ → Type 0
+  Over T = (MAX f < nr f D N) × (2 * (MAX f * D) + T * D ≤ 2 * N)
+
+  NotOver : ℕ → Type 0
+  NotOver T = (nr f D N ≤ MAX f) × (2 * N < 2 * (MAX f * D) + T * D)
 
   -- a step above that of the largest
-  refuse-far : f .top < ex f D N → OverOrNot
-  unfolding OverOrNot
-  refuse-far h = ⊎-elim (λ e. absurd (no e)) (λ l. inl (far (half f) (2 ^ f .top) (2 ^ ex f D N) (lo f D N) (max-is f) (pow-pos (f .top)) twice l (lo-nr f D N d) (lo-low f D N d))) (lo-large f D N d)
+  refuse-far : f .top < ex f D N → Over (2 ^ f .top)
+  unfolding Over
+  refuse-far h =
+      ⊎-elim (λ (e : ex f D N ≡ 0). absurd (no e)) (far (half f) (2 ^ f .top) (2 ^ ex f D N) (max-is f) (pow-pos (f .top)) twice) (lo-large f D N d)
     where
       no : ex f D N ≡ 0 → ⊥
       no e = omega arith
@@ -51,43 +55,62 @@ module _ (f : Format) (D N : ℕ) (d : 0 < D) where
       twice : 2 * 2 ^ f .top ≤ 2 ^ ex f D N
       twice = le-trans (le-of-eq (sym (pow-succ' 2 (f .top)))) (pow-mono h)
 
-      far : {M n : ℕ} (P T E l : ℕ) → M + T ≡ 2 * P * T → 0 < T → 2 * T ≤ E → P * E ≤ l → l ≤ n → l * D ≤ N → (M < n) × (2 * (M * D) + T * D ≤ 2 * N)
-      far {M} {n} P T E l e t h₁ h₂ h₃ h₄ = (omega (arith, mul-le-mul-left P h₁), omega (arith, ap (λ x. x * D) e, mul-le-mul-right D h₂, mul-le-mul-left (P * D) h₁))
+      far : (P T E : ℕ) → MAX f + T ≡ 2 * P * T → 0 < T → 2 * T ≤ E → P * E ≤ lo f D N → (MAX f < nr f D N) × (2 * (MAX f * D) + T * D ≤ 2 * N)
+      far P T E e t h₁ h₂ = (
+        omega (arith, lo-nr f D N d, mul-le-mul-left P h₁),
+        omega (arith, lo-low f D N d, ap (λ x. x * D) e, mul-le-mul-right D h₂, mul-le-mul-left (P * D) h₁),
+      )
 
   -- a step below it
-  refuse-near : ex f D N < f .top → OverOrNot
-  unfolding OverOrNot
-  refuse-near h = inr (low (half f) (2 ^ f .top) (2 ^ ex f D N) (max-is f) (half-pos f) (pow-pos (f .top)) twice few (subst (λ x. N < x * (2 ^ ex f D N * D)) (prec-half f) (scale f D N d .below)))
+  refuse-near : ex f D N < f .top → NotOver (2 ^ f .top)
+  unfolding NotOver
+  refuse-near h =
+      low (half f) (2 ^ f .top) (2 ^ ex f D N) (max-is f) (half-pos f) (pow-pos (f .top)) twice
+      (subst (λ x. nr f D N ≤ x * 2 ^ ex f D N) (prec-half f) (nr-few f D N d)) (subst (λ x. N < x * step f D N) (prec-half f) (scale f D N d .below))
     where
       twice : 2 * 2 ^ ex f D N ≤ 2 ^ f .top
       twice = le-trans (le-of-eq (sym (pow-succ' 2 (ex f D N)))) (pow-mono h)
 
-      few : nr f D N ≤ 2 ^ ex f D N * (2 * half f)
-      few = le-trans (nr-hi f D N d) (subst (λ x. hi f D N ≤ 2 ^ ex f D N * x) (prec-half f) (hi-least f D N d (form-of f (ex f D N) (2 ^ f .prec) (le-of-eq refl)) (omega (arith, scale f D N d .below))))
-
-      low : {M n : ℕ} (P T E : ℕ) → M + T ≡ 2 * P * T → 0 < P → 0 < T → 2 * E ≤ T → n ≤ E * (2 * P) → N < 2 * P * (E * D) → (n ≤ M) × (2 * N < 2 * (M * D) + T * D)
-      low {M} {n} P T E e p t h₁ h₂ h₃ = (omega (arith, mul-le-mul-left P h₁, mul-le-mul-right T p), omega (arith, ap (λ x. x * D) e, mul-le-mul-left (P * D) h₁))
+      low : (P T E : ℕ) → MAX f + T ≡ 2 * P * T → 0 < P → 0 < T → 2 * E ≤ T → nr f D N ≤ 2 * P * E → N < 2 * P * (E * D)
+          → (nr f D N ≤ MAX f) × (2 * N < 2 * (MAX f * D) + T * D)
+      low P T E e p t h₁ h₂ h₃ =
+          (omega (arith, mul-le-mul-left P h₁, mul-le-mul-right T p), omega (arith, ap (λ x. x * D) e, mul-le-mul-left (P * D) h₁))
 
   -- the same step
-  refuse-at : ex f D N ≡ f .top → OverOrNot
-  unfolding OverOrNot nr
-  refuse-at h =
-      let g : ℕ = step f D N in
-      let m : MAX f + 2 ^ ex f D N ≡ 2 * half f * 2 ^ ex f D N = subst (λ t. MAX f + 2 ^ t ≡ 2 * half f * 2 ^ t) (sym h) (max-is f) in
-      let few : N / g < 2 * half f = subst (λ x. N / g < x) (prec-half f) (floor-few f D N d) in
-      subst (λ t. ((MAX f < nr f D N) × (2 * (MAX f * D) + 2 ^ t * D ≤ 2 * N)) ⊎ ((nr f D N ≤ MAX f) × (2 * N < 2 * (MAX f * D) + 2 ^ t * D))) h
-      (⊎-elim
-      (λ (c : suc (N / g) ≡ 2 * half f).
-      closest-split N g
-      (λ k e. inr (last-no (half f) (2 ^ ex f D N) D N (MAX f) (N / g) (N % g) m (div-add-mod N g) (step-pos f D N d) c e k))
-      (λ k e. inl (last-yes (half f) (2 ^ ex f D N) D N (MAX f) (N / g) (N % g) m (div-add-mod N g) (pow-pos (ex f D N)) c e k)))
-      (λ (c : suc (N / g) < 2 * half f).
-      inr (before (half f) (2 ^ ex f D N) D N (MAX f) (N / g) (N % g) m (div-add-mod N g) c (closest-split N g (λ k e. omega arith) (λ k e. omega arith)) (mod-lt N (step-pos f D N d))))
-      (eq-or-lt-of-le few))
+  refuse-at : ex f D N ≡ f .top → Over (2 ^ f .top) ⊎ NotOver (2 ^ f .top)
+  unfolding Over NotOver nr
+  refuse-at h = subst (λ t. Over (2 ^ t) ⊎ NotOver (2 ^ t)) h (⊎-elim at-last before-last (eq-or-lt-of-le few))
+    where
+      g : ℕ
+      g = step f D N
 
-  over-or-not : OverOrNot
-  over-or-not = ⊎-elim (λ (h : ex f D N ≤ f .top). ⊎-elim refuse-at refuse-near (eq-or-lt-of-le h)) (λ (h : f .top ≤ ex f D N). ⊎-elim (λ e. refuse-at (sym e)) refuse-far (eq-or-lt-of-le h)) (≤-total (ex f D N) (f .top))
+      E : ℕ
+      E = 2 ^ ex f D N
+
+      max : MAX f + E ≡ 2 * half f * E
+      max = subst (λ t. MAX f + 2 ^ t ≡ 2 * half f * 2 ^ t) (sym h) (max-is f)
+
+      few : N / g < 2 * half f
+      few = subst (λ x. N / g < x) (prec-half f) (floor-few f D N d)
+
+      at-last : suc (N / g) ≡ 2 * half f → Over E ⊎ NotOver E
+      at-last c =
+          closest-split N g
+          (λ k e. inr (last-no (half f) E D N (MAX f) (N / g) (N % g) max (div-add-mod N g) (step-pos f D N d) c e k))
+          (λ k e. inl (last-yes (half f) E D N (MAX f) (N / g) (N % g) max (div-add-mod N g) (pow-pos (ex f D N)) c e k))
+
+      at-most : closest N g ≤ N / g + 1
+      at-most = closest-split N g (λ k e. omega arith) (λ k e. omega arith)
+
+      before-last : suc (N / g) < 2 * half f → Over E ⊎ NotOver E
+      before-last c = inr (before (half f) E D N (MAX f) (N / g) (N % g) max (div-add-mod N g) c at-most (mod-lt N (step-pos f D N d)))
+
+  over-or-not : Over (2 ^ f .top) ⊎ NotOver (2 ^ f .top)
+  over-or-not = cmp-split (ex f D N) (f .top) (λ h. inr (refuse-near h)) refuse-at (λ h. inl (refuse-far h))
 
   pub nr-over : (MAX f < nr f D N) ↔ (2 * (MAX f * D) + 2 ^ f .top * D ≤ 2 * N)
-  unfolding OverOrNot
-  nr-over = (⊎-elim (λ p h. p .1) (λ p h. absurd (not-le-of-lt h (p .0))) over-or-not, ⊎-elim (λ p h. p .0) (λ p h. absurd (not-le-of-lt (p .1) h)) over-or-not)
+  unfolding Over NotOver
+  nr-over = (
+    ⊎-elim (λ p h. p .1) (λ p h. absurd (not-le-of-lt h (p .0))) over-or-not,
+    ⊎-elim (λ p h. p .0) (λ p h. absurd (not-le-of-lt (p .1) h)) over-or-not,
+  )

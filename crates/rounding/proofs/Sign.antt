@@ -1,12 +1,13 @@
 -- Signs: the numbers with the other sign, and distances as differences of naturals. Assumes nothing.
 use mathlib.Core.Path.{_≡_, refl, sym, ap, _∙_, subst}
+use mathlib.Core.List.{List, [], _∷_}
+use mathlib.Core.Logic.{⊎-elim}
 use mathlib.Core.Option.{some}
 use Prim.Native.Nat.{ℕ, zero, suc, _+_, _-_, _*_, _^_, _≤_, zero-le}
-use lib.IntN.{ℤ, pos, negsuc, negℤ, natAbs, _+ℤ_, _*ℤ_, _-ℤ_}
-use mathlib.Core.Logic.{⊎-elim}
 use native.Mathlib.Omega.{arith}
 use native.Mathlib.Nat.{le-of-eq}
 use lib.Pow.{pow-pos}
+use lib.IntN.{ℤ, pos, negsuc, negℤ, natAbs, _+ℤ_, _*ℤ_, _-ℤ_}
 use Rattle.algebra.specs.Order.{_≼_, _≺_}
 use Rattle.algebra.specs.Absolute.{abs}
 use Rattle.algebra.proofs.Reading.{by-ring}
@@ -15,12 +16,10 @@ use Rattle.algebra.proofs.Linear.{reading, le, lt, eq, lin-le, lin-absurd}
 use Rattle.algebra.proofs.Order.{neg-mono}
 use Rattle.algebra.proofs.Natural.{≤-total, of-le, of-sub}
 use Rattle.algebra.proofs.Absolute.{≼-abs, neg-≼-abs, abs-split}
-use mathlib.Core.List.{List, [], _∷_}
 use Rattle.rounding.specs.Format.{Format, MAX, Form, Num}
-use Rattle.rounding.specs.Rounding.{}
 use Rattle.rounding.specs.Property.{off, Err}
 
--- ---- the largest number
+-- ---- the largest number, and 0
 pub max-form : (f : Format) → Form f (MAX f)
 unfolding MAX
 max-form f = record { significand = 2 ^ f .prec - 1; shift = f .top; few = omega (arith, pow-pos (f .prec)); is = refl }
@@ -85,16 +84,22 @@ pub err-neg : {P D : ℕ} {X v : ℤ} → Err P D X v → Err P D (negℤ X) (ne
 err-neg {P} {D} {X} {v} h = record { bound = omega (arith, h .bound, ap (λ n. P * n) (off-neg D X v), natAbs-neg X) }
 
 pub dist₂ : (a b : ℕ) → natAbs (pos a -ℤ pos b) ≡ (a - b) + (b - a)
-dist₂ a b = ⊎-elim (λ (h : b ≤ a). ap natAbs (sym (of-sub h)) ∙ right h) (λ (h : a ≤ b). ap natAbs flip ∙ natAbs-neg (pos b -ℤ pos a) ∙ ap natAbs (sym (of-sub h)) ∙ left h) (≤-total b a)
+dist₂ a b = ⊎-elim above below (≤-total b a)
   where
     flip : pos a -ℤ pos b ≡ negℤ (pos b -ℤ pos a)
     flip = by-ring (pos a ∷ pos b ∷ []) (search reading depth 20) tt
 
-    right : b ≤ a → a - b ≡ (a - b) + (b - a)
-    right h = omega arith
+    above : b ≤ a → natAbs (pos a -ℤ pos b) ≡ (a - b) + (b - a)
+    above h = dist h ∙ same
+      where
+        same : a - b ≡ (a - b) + (b - a)
+        same = omega arith
 
-    left : a ≤ b → b - a ≡ (a - b) + (b - a)
-    left h = omega arith
+    below : a ≤ b → natAbs (pos a -ℤ pos b) ≡ (a - b) + (b - a)
+    below h = ap natAbs flip ∙ natAbs-neg (pos b -ℤ pos a) ∙ dist h ∙ same
+      where
+        same : b - a ≡ (a - b) + (b - a)
+        same = omega arith
 
 pub apart : (a b : ℕ) → natAbs (negℤ (pos a) -ℤ pos b) ≡ a + b
 apart a b =

@@ -2,8 +2,9 @@
 -- A value is a whole number of units, the unit being the format's smallest positive number.
 use mathlib.Core.Path.{_≡_}
 use Prim.Native.Nat.{ℕ, _-_, _*_, _^_, _≤_, _<_}
-use lib.IntN.{ℤ, natAbs}
 use lib.Dec.{lit≤}
+use lib.IntN.{ℤ, natAbs}
+use lib.Ieee.{size}
 
 -- A significand has `prec` binary digits and is shifted up by at most `top` places; the unit is 2 ^ -`unit`.
 pub record Format : Type 0 where
@@ -43,3 +44,13 @@ pub record Form (f : Format) (v : ℕ) : Type 0 where
 pub record Num (f : Format) (v : ℤ) : Type 0 where
   pub form : Form f (natAbs v)
   pub within : natAbs v ≤ MAX f
+
+-- ---- how far apart they are
+
+-- how many binary digits n has beyond `prec`
+unfoldable pub expo : Format → ℕ → ℕ
+expo f n = size n - f .prec
+
+-- the distance from the number v to the next one of larger magnitude (shown in proofs/Spacing)
+abbrev pub spacing : Format → ℤ → ℕ
+spacing f v = 2 ^ expo f (natAbs v)

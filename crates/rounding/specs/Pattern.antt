@@ -1,8 +1,7 @@
 -- What a bit pattern without its sign stands for. Definitions only.
 -- Of the pattern n, the exponent field is n / 2 ^ (prec - 1) and the fraction n % 2 ^ (prec - 1).
 use Prim.Native.Nat.{ℕ, zero, suc, _+_, _*_, _/_, _%_, _^_}
-use Rattle.rounding.specs.Format.{Format, half}
-use Rattle.rounding.specs.Rounding.{expo}
+use Rattle.rounding.specs.Format.{Format, half, expo}
 
 -- exponent field e, fraction m, with P = 2 ^ (prec - 1): m units for e = 0, else (P + m) * 2 ^ (e - 1)
 abbrev pub value : ℕ → ℕ → ℕ → ℕ

@@ -4,8 +4,7 @@ use mathlib.Core.Option.{Option, none, some}
 use Prim.Native.Nat.{ℕ, _+_, _-_, _*_, _^_, _≤_}
 use lib.IntN.{ℤ, pos, negℤ, natAbs, _*ℤ_, _-ℤ_}
 use Rattle.algebra.specs.Order.{_≼_, _≺_}
-use Rattle.rounding.specs.Format.{Format, MAX, Form, Num}
-use Rattle.rounding.specs.Rounding.{ex, step}
+use Rattle.rounding.specs.Format.{Format, MAX, Form, Num, spacing}
 
 -- ---- the least number not below X / D, the greatest not above it
 pub record IsUp (f : Format) (D : ℕ) (X v : ℤ) : Type 0 where
@@ -30,16 +29,23 @@ DownTo f D X none = X ≺ negℤ (pos (MAX f * D))
 abbrev pub off : ℕ → ℤ → ℤ → ℕ
 off D X v = natAbs (v *ℤ pos D -ℤ X)
 
--- ---- the nearest number: none is nearer, also none that would be above the largest; and where it is half a step off, so that another is as near, its significand is even
+-- ---- the nearest number, and where another is as near, the one with the even fraction
+
+-- v is an even multiple of its spacing; the same as an even pattern (proofs/Place, `place-even`)
+abbrev pub EvenFraction : Format → ℤ → Type 0
+EvenFraction f v = (m : ℕ) × (natAbs v ≡ spacing f v * (2 * m))
+
+-- `closer` and `even` speak of all `Form`s, that is of the numbers as if there were no largest. So a value is refused where the nearest of these
+-- is above the largest number: from half a step above it on, 2 ^ 128 - 2 ^ 103 for binary32. This is how IEEE 754 has it.
 pub record IsNear (f : Format) (D : ℕ) (X v : ℤ) : Type 0 where
   pub num : Num f v
   pub closer : (w : ℤ) → Form f (natAbs w) → off D X v ≤ off D X w
-  pub even : 2 * off D X v ≡ step f D (natAbs X) → (m : ℕ) × (natAbs v ≡ 2 ^ ex f D (natAbs X) * (2 * m))
+  pub even : (w : ℤ) → Form f (natAbs w) → (w ≡ v → ⊥) → off D X w ≡ off D X v → EvenFraction f v
 
 abbrev pub NearTo : Format → ℕ → ℤ → Option ℤ → Type 0
 NearTo f D X (some v) = IsNear f D X v
 NearTo f D X none = 2 * (MAX f * D) + 2 ^ f .top * D ≤ 2 * natAbs X
 
--- ---- an error: at most |X| / P, and a unit less the least fraction
+-- ---- an error of at most a P-th of the exact value and, where X / D need not be whole, a unit less 1 / D
 pub record Err (P D : ℕ) (X v : ℤ) : Type 0 where
   pub bound : P * off D X v ≤ natAbs X + P * (D - 1)

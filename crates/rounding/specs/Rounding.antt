@@ -2,22 +2,13 @@
 -- What is rounded is a fraction X / D of units, D being at least 1: D = 1 for a sum, 2 for a midpoint, `units` for a product of two values.
 use mathlib.Core.Bool.{cond}
 use mathlib.Core.Option.{Option, none, some}
-use Prim.Native.Nat.{ℕ, zero, suc, _+_, _-_, _*_, _/_, _%_, _^_, min}
-use lib.IntN.{ℤ, pos, negsuc, negℤ, natAbs}
+use Prim.Native.Nat.{ℕ, zero, suc, _+_, _*_, _/_, _%_, _^_, min}
 use lib.Dec.{leb}
-use lib.Ieee.{size}
+use lib.IntN.{ℤ, pos, negsuc, negℤ, natAbs}
 use lib.Ieee.Nearest.{closest}
-use Rattle.rounding.specs.Format.{Format, MAX}
+use Rattle.rounding.specs.Format.{Format, MAX, expo}
 
 -- ---- rounding a magnitude N / D
-
--- how many binary digits n has beyond `prec`
-unfoldable pub expo : Format → ℕ → ℕ
-expo f n = size n - f .prec
-
--- the distance from a number to the next one of larger magnitude
-abbrev pub spacing : Format → ℤ → ℕ
-spacing f v = 2 ^ expo f (natAbs v)
 
 -- N / D is rounded to a multiple of 2 ^ ex units, which is `step` in the numerator
 abbrev pub ex : Format → ℕ → ℕ → ℕ
@@ -43,7 +34,7 @@ lo f D N = 2 ^ ex f D N * (N / step f D N)
 unfoldable pub hi : Format → ℕ → ℕ → ℕ
 hi f D N = 2 ^ ex f D N * ceil N (step f D N)
 
--- to the nearest; of two that are equally near, to the even significand
+-- to the nearest; of two that are equally near, to the even multiple
 unfoldable pub nr : Format → ℕ → ℕ → ℕ
 nr f D N = 2 ^ ex f D N * closest N (step f D N)
 

@@ -1,7 +1,7 @@
 use mathlib.Core.Path.{_≡_, sym, _∙_}
-use mathlib.Core.Bool.{Bool, true, false, cond}
+use mathlib.Core.Bool.{true, false, cond}
 use borrow.Author.Tests.{not-true, not-false}
-use Rattle.binary32.specs.Number.{finites, finite}
+use Rattle.binary32.specs.Number.{finites}
 use Rattle.binary32.proofs.Held.{and-first, and-second, finite-is, finites-first, finites-second}
 use Rattle.binary32.proofs.CornerLaws.{corners-some, corners-none}
 use borrow.Author.Needs.{needs}

@@ -1,5 +1,4 @@
-use mathlib.Core.Path.{ap, ap₂, _∙_}
-use Rattle.binary32.specs.Number.{holdDown, holdUp}
+use mathlib.Core.Path.{ap₂, _∙_}
 use Rattle.binary32.specs.Order.{leastOf, greatestOf}
 use Rattle.binary32.proofs.CornerLaws.{both-same, corners-of}
 use borrow.Author.Needs.{needs}
