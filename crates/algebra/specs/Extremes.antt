@@ -8,3 +8,10 @@ minℤ a b = cond (leZ a b) a b
 
 unfoldable pub maxℤ : ℤ → ℤ → ℤ
 maxℤ a b = cond (leZ a b) b a
+
+-- of four
+abbrev pub least₄ : ℤ → ℤ → ℤ → ℤ → ℤ
+least₄ a b c d = minℤ (minℤ a b) (minℤ c d)
+
+abbrev pub greatest₄ : ℤ → ℤ → ℤ → ℤ → ℤ
+greatest₄ a b c d = maxℤ (maxℤ a b) (maxℤ c d)

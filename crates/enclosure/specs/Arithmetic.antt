@@ -1,0 +1,32 @@
+-- The rounded arithmetic that the methods run over: three roundings of X / D units, and the constants of method 3. Definitions only.
+-- The methods are defined over any such arithmetic; `of` is that of a number format.
+use mathlib.Core.Option.{Option}
+use Prim.Native.Nat.{ℕ, _-_, _^_}
+use lib.IntN.{ℤ}
+use Rattle.rounding.specs.Format as Format
+use Rattle.rounding.specs.Format.{Format}
+use Rattle.rounding.specs.Rounding as Rounding
+
+pub record Arithmetic : Type 0 where
+  -- the least number not below X / D, the greatest not above it, the nearest; or none
+  pub up : ℕ → ℤ → Option ℤ
+  pub down : ℕ → ℤ → Option ℤ
+  pub near : ℕ → ℤ → Option ℤ
+  -- how many units make 1
+  pub units : ℕ
+  -- 2 ^ -prec in units: 2 ^ -24 for binary32
+  pub eps : ℕ
+  -- what method 3 adds to a radius: 2 ^ prec units, 2 ^ -125 for binary32
+  pub tiny : ℕ
+
+-- of a format whose unit is at most 2 ^ -prec
+abbrev pub of : Format → Arithmetic
+of f =
+    record {
+      up = λ D X. Rounding.up f D X;
+      down = λ D X. Rounding.down f D X;
+      near = λ D X. Rounding.near f D X;
+      units = Format.units f;
+      eps = 2 ^ (f .unit - f .prec);
+      tiny = 2 ^ f .prec;
+    }

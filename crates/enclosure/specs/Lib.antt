@@ -1,0 +1,6 @@
+pub mod Arithmetic
+pub mod Sums
+pub mod Cell
+pub mod Conversion
+pub mod Methods
+pub mod Fraction

@@ -1,0 +1,99 @@
+-- One entry of a product by each of the four methods, in the order in which its steps are rounded. Definitions only (01, "Four products").
+-- The entry has k pairs: a l and b l are the cells of pair l, for l from 0 to k - 1. It is none where one of its steps is refused.
+use mathlib.Core.Option.{Option, some, bind}
+use Prim.Native.Nat.{ℕ, suc, _+_, _*_}
+use lib.IntN.{ℤ, pos, negsuc, negℤ, _+ℤ_, _*ℤ_, _-ℤ_}
+use Rattle.algebra.specs.Absolute.{abs}
+use Rattle.algebra.specs.Extremes.{minℤ, least₄, greatest₄}
+use Rattle.enclosure.specs.Arithmetic.{Arithmetic}
+use Rattle.enclosure.specs.Sums.{sum}
+use Rattle.enclosure.specs.Cell.{Cell}
+
+pub data Method : Type 0 where
+  classical : Method
+  three : Method
+  four : Method
+  seven : Method
+
+-- an entry's bounds, in units
+pub record Range : Type 0 where
+  pub lower : ℤ
+  pub upper : ℤ
+
+-- method 7's p of a cell: sign(m) * min(|m|, r)
+unfoldable pub part : ℤ → ℤ → ℤ
+part (pos n) r = minℤ (pos n) r
+part (negsuc n) r = negℤ (minℤ (pos (suc n)) r)
+
+module _ (A : Arithmetic) where
+  open Arithmetic A using (up, down, near, units, eps, tiny)
+
+  -- ---- the terms of a pair, rounded
+
+  -- the least of the four corner products, each rounded down; the greatest, each rounded up
+  unfoldable pub leastTerm : Cell → Cell → Option ℤ
+  leastTerm a b =
+      bind (down units (a .low *ℤ b .low)) λ p. bind (down units (a .low *ℤ b .high)) λ q. bind (down units (a .high *ℤ b .low)) λ r. bind (down units (a .high *ℤ b .high)) λ s. some (least₄ p q r s)
+
+  unfoldable pub greatestTerm : Cell → Cell → Option ℤ
+  greatestTerm a b =
+      bind (up units (a .low *ℤ b .low)) λ p. bind (up units (a .low *ℤ b .high)) λ q. bind (up units (a .high *ℤ b .low)) λ r. bind (up units (a .high *ℤ b .high)) λ s. some (greatest₄ p q r s)
+
+  -- |mA| × rB
+  unfoldable pub innerTerm : Cell → Cell → Option ℤ
+  innerTerm a b = up units (abs (a .mid) *ℤ b .rad)
+
+  -- rA × (|mB| + rB)
+  unfoldable pub outerTerm : Cell → Cell → Option ℤ
+  outerTerm a b = bind (up 1 (abs (b .mid) +ℤ b .rad)) λ w. up units (a .rad *ℤ w)
+
+  -- |mA| × rB′, where rB′ is ((k + 2) × 2^-24 × |mB|) + rB
+  unfoldable pub raisedTerm : ℕ → Cell → Cell → Option ℤ
+  raisedTerm k a b = bind (up units (pos ((k + 2) * eps) *ℤ abs (b .mid))) λ t. bind (up 1 (t +ℤ b .rad)) λ r. up units (abs (a .mid) *ℤ r)
+
+  -- -|pA| × |pB|
+  unfoldable pub sharedTerm : Cell → Cell → Option ℤ
+  sharedTerm a b = up units (negℤ (abs (part (a .mid) (a .rad)) *ℤ abs (part (b .mid) (b .rad))))
+
+  -- mA × mB and pA × pB, by one of the roundings
+  unfoldable pub midTerm : (ℕ → ℤ → Option ℤ) → Cell → Cell → Option ℤ
+  midTerm way a b = way units (a .mid *ℤ b .mid)
+
+  unfoldable pub partTerm : (ℕ → ℤ → Option ℤ) → Cell → Cell → Option ℤ
+  partTerm way a b = way units (part (a .mid) (a .rad) *ℤ part (b .mid) (b .rad))
+
+  module _ (k : ℕ) (a b : ℕ → Cell) where
+    -- the sum of a term over the k pairs, from s, rounded by `way`
+    unfoldable pub total : (ℕ → ℤ → Option ℤ) → (Cell → Cell → Option ℤ) → ℤ → Option ℤ
+    total way term s = sum (way 1) (λ l. term (a l) (b l)) s k
+
+    -- ---- method 1
+    unfoldable pub entry₁ : Option Range
+    entry₁ = bind (total down leastTerm (pos 0)) λ l. bind (total up greatestTerm (pos 0)) λ u. some (record { lower = l; upper = u })
+
+    -- ---- the radius R and the centre sums of the other methods
+    unfoldable pub radius₄ : Option ℤ
+    radius₄ = bind (total up innerTerm (pos 0)) λ s. total up outerTerm s
+
+    unfoldable pub radius₇ : Option ℤ
+    radius₇ = bind radius₄ λ s. total up sharedTerm s
+
+    unfoldable pub radius₃ : Option ℤ
+    radius₃ = bind (total up (raisedTerm k) (pos 0)) λ s. bind (up 1 (s +ℤ pos tiny)) λ t. total up outerTerm t
+
+    unfoldable pub centre : (ℕ → ℤ → Option ℤ) → Option ℤ
+    centre way = total way (midTerm way) (pos 0)
+
+    unfoldable pub centre₇ : (ℕ → ℤ → Option ℤ) → Option ℤ
+    centre₇ way = bind (centre way) λ s. total way (partTerm way) s
+
+  -- ---- centre - R down, centre + R up
+  unfoldable pub ends : Option ℤ → Option ℤ → Option ℤ → Option Range
+  ends radius low high =
+      bind radius λ r. bind low λ s. bind high λ t. bind (down 1 (s -ℤ r)) λ l. bind (up 1 (t +ℤ r)) λ u. some (record { lower = l; upper = u })
+
+  unfoldable pub entry : Method → (k : ℕ) (a b : ℕ → Cell) → Option Range
+  entry classical k a b = entry₁ k a b
+  entry three k a b = ends (radius₃ k a b) (centre k a b near) (centre k a b near)
+  entry four k a b = ends (radius₄ k a b) (centre k a b down) (centre k a b up)
+  entry seven k a b = ends (radius₇ k a b) (centre₇ k a b down) (centre₇ k a b up)
