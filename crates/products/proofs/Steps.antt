@@ -39,7 +39,7 @@ held-next (some l) none f g = sym (held-second false (patternOf l) 0x7F800000 (n
 held-next (some l) (some u) f g = sym (held-second true (patternOf l) (patternOf u) (num-finite (f l refl)) (num-finite (g u refl)))
 
 -- ---- a term more
-bind-fits : (m : Option ℤ) (f : ℤ → Option ℤ) → ((v : ℤ) → Fits (f v)) → Fits (bind m f)
+pub bind-fits : (m : Option ℤ) (f : ℤ → Option ℤ) → ((v : ℤ) → Fits (f v)) → Fits (bind m f)
 unfolding bind Fits
 bind-fits none f h v e = absurd (Option·none-ne-some v e)
 bind-fits (some a) f h v e = h a v e

@@ -3,7 +3,8 @@ use mathlib.Core.Path.{_≡_}
 use mathlib.Core.Bool.{Bool, true, false, cond}
 use mathlib.Core.List.{List}
 use mathlib.Core.Option.{Option, none, some}
-use Prim.Native.Nat.{ℕ, _+_, _*_, _/_, _%_}
+use Prim.Native.Nat.{ℕ, _+_, _*_, _/_, _%_, _≤_, _<_}
+use lib.ListN.{length}
 use lib.Dec.{ltb}
 use Rattle.rounding.specs.Format.{binary32}
 use Rattle.enclosure.specs.Arithmetic.{of}
@@ -15,7 +16,7 @@ use Rattle.products.specs.declared.sums.Next.the-variants.{More, Overflo
 use Rattle.products.specs.declared.sums.Place.{Place}
 use Rattle.products.specs.declared.sums.Place.the-variants.{Nowhere, At}
 use Rattle.products.specs.Lists.{front, first}
-use Rattle.products.specs.Matrix.{Matrix, cellAt}
+use Rattle.products.specs.Matrix.{Matrix, AllFine, cellAt}
 
 -- ---- one entry
 
@@ -57,3 +58,18 @@ pub record Written (E : ℕ → Next) (m n : ℕ) (lo up : List ℕ) (r : Place)
   pub place : r ≡ placeOf m n (stopOf E (m * n))
   pub lowers : lo′ ≡ front (stopOf E (m * n)) (λ c. lowerOf (E c)) lo
   pub uppers : up′ ≡ front (stopOf E (m * n)) (λ c. upperOf (E c)) up
+
+-- sizes from 1 to 32, slices as long as their cells, cells that are numbers in order
+pub record Sizes (m k n : ℕ) (A B : Matrix) (lo up : ℕ) : Type 0 where
+  pub rows : m ≤ 32
+  pub inner : k ≤ 32
+  pub columns : n ≤ 32
+  pub positive : 0 < n
+  pub a-lowers : m * k ≤ length (A .lowers)
+  pub a-uppers : m * k ≤ length (A .uppers)
+  pub b-lowers : k * n ≤ length (B .lowers)
+  pub b-uppers : k * n ≤ length (B .uppers)
+  pub lowers : m * n ≤ lo
+  pub uppers : m * n ≤ up
+  pub a-fine : AllFine A (m * k)
+  pub b-fine : AllFine B (k * n)

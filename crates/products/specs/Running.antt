@@ -36,5 +36,5 @@ stepOf s al au bl bu = nextOf (plusDown (s .lower) (leastCorner al au bl bu)) (p
 unfoldable pub addOf : Sums → ℕ → ℕ → Next
 addOf s a b = nextOf (plusDown (s .lower) (with₂ (mul down) a b)) (plusUp (s .upper) (with₂ (mul up) a b))
 
-abbrev pub zero : Sums
-zero = record { lower = 0; upper = 0 }
+abbrev pub zeroSums : Sums
+zeroSums = record { lower = 0; upper = 0 }

@@ -4,6 +4,7 @@ use refusals::Refusal;
 
 mod cells;
 mod checks;
+mod classical;
 pub mod derived;
 mod stages;
 pub mod sums;

@@ -1,6 +1,6 @@
 // One entry's running sums, a value that takes a pair of cells and comes back.
 ghost use mathlib.Core.Path.{_≡_};
-ghost use Rattle.products.specs.Running.{heldNext, zero, stepOf, addOf};
+ghost use Rattle.products.specs.Running.{heldNext, zeroSums, stepOf, addOf};
 use binary32::corners::corners;
 use binary32::partial::add_down;
 use binary32::partial::add_up;
@@ -42,7 +42,7 @@ fn both_held(lo: u32, hi: u32) -> Next
 
 impl Sums {
     pub fn new() -> Self
-        ensures { λ r. ⌜ r ≡ zero ⌝ }
+        ensures { λ r. ⌜ r ≡ zeroSums ⌝ }
     {
         Sums { lower: 0, upper: 0 }
     }
