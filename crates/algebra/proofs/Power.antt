@@ -1,6 +1,7 @@
 -- Powers of two as integers. `omega` knows of `pow2 k` that it is not negative.
-use mathlib.Core.Path.{_≡_, ap}
-use Prim.Native.Nat.{ℕ, suc, _+_, _≤_}
+use mathlib.Core.Path.{_≡_, ap, _∙_}
+use Prim.Native.Nat.{ℕ, suc, _+_, _-_, _*_, _^_, _≤_}
+use native.Mathlib.Omega.{arith}
 use native.Mathlib.Nat.{pow-succ'}
 use lib.Pow.{pow-pos, pow-add, pow-mono}
 use lib.IntN.{pos, _*ℤ_}
@@ -19,3 +20,10 @@ pow2-suc k = ap pos (pow-succ' 2 k)
 
 pub pow2-mono : {i j : ℕ} → i ≤ j → pow2 i ≼ pow2 j
 pow2-mono h = of-le (pow-mono h)
+
+-- a power of two as a product, over the naturals
+pub pow-split : (i j : ℕ) → j ≤ i → 2 ^ i ≡ 2 ^ j * 2 ^ (i - j)
+pow-split i j h = ap (λ x. 2 ^ x) whole ∙ pow-add 2 j (i - j)
+  where
+    whole : i ≡ j + (i - j)
+    whole = omega arith

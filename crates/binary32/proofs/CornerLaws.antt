@@ -1,4 +1,5 @@
--- The least and the greatest of four corner products, from the four products rounded both ways.
+-- The least of four corner products rounded down and the greatest of the four rounded up, as patterns: what they hold, and that they hold
+-- none where a product is refused or a pattern is not finite.
 use mathlib.Core.Path.{_≡_, refl, sym, ap, ap₂, _∙_, subst}
 use mathlib.Core.Bool.{Bool, true, false, cond}
 use mathlib.Core.Logic.{_⊎_, inl, inr}
@@ -6,7 +7,7 @@ use mathlib.Core.Option.{Option, none, some, bind, Option·some-injective, Optio
 use Prim.Native.Nat.{ℕ, _^_}
 use lib.Pow.{pow-pos}
 use lib.IntN.{ℤ, _*ℤ_}
-use Rattle.algebra.specs.Extremes.{minℤ, maxℤ}
+use Rattle.algebra.specs.Extremes.{minℤ, maxℤ, least₄, greatest₄}
 use Rattle.algebra.proofs.Extremes.{min-split, max-split}
 use Rattle.rounding.specs.Format.{binary32, Num}
 use Rattle.rounding.specs.Rounding.{up, down}
@@ -14,8 +15,8 @@ use Rattle.binary32.specs.declared.parts.Parts.{Parts}
 use Rattle.binary32.specs.declared.partial.Both.{Both}
 use Rattle.binary32.specs.Number.{finite, finites, holdDown, holdUp}
 use Rattle.binary32.specs.Operations.{Way, mul, with₂}
-use Rattle.binary32.specs.Order.{leastOf, greatestOf, all₄, least₄, greatest₄, leastCorner, greatestCorner}
-use Rattle.binary32.specs.Steps.{Decoded, exact, exact₂, ProductIs, BothOf, CornersOf}
+use Rattle.binary32.specs.Order.{leastOf, greatestOf, all₄, leastCorner, greatestCorner}
+use Rattle.binary32.specs.Steps.{of, Decoded, exact, exact₂, ProductIs, BothOf, CornersOf}
 use Rattle.binary32.proofs.Held.{Fits, finites-first, finites-second, with-some, with-none}
 use Rattle.binary32.proofs.Numbers.{down-fits, up-fits}
 use Rattle.binary32.proofs.Orders.{least-hold, greatest-hold}
@@ -29,7 +30,8 @@ module _ (f : ℤ → ℤ → ℤ) (either : (P : ℤ → Type 0) (u v : ℤ) �
   unfolding Fits bind
   both-fits none y h k w e = absurd (Option·none-ne-some w e)
   both-fits (some u) none h k w e = absurd (Option·none-ne-some w e)
-  both-fits (some u) (some v) h k w e = subst (Num binary32) (Option·some-injective (f u v) w e) (either (Num binary32) u v (h u refl) (k v refl))
+  both-fits (some u) (some v) h k w e =
+      subst (Num binary32) (Option·some-injective (f u v) w e) (either (Num binary32) u v (h u refl) (k v refl))
 
   both-four : (w x y z : Option ℤ) → both (both w x) (both y z) ≡ all₄ (λ p q r s. f (f p q) (f r s)) w x y z
   unfolding bind
@@ -39,11 +41,14 @@ module _ (f : ℤ → ℤ → ℤ) (either : (P : ℤ → Type 0) (u v : ℤ) �
   both-four (some p) (some q) (some r) none = refl
   both-four (some p) (some q) (some r) (some s) = refl
 
-  -- g is that operation on patterns
-  four : (g : ℕ → ℕ → ℕ) (hold : Option ℤ → ℕ) → ((x y : Option ℤ) → Fits x → Fits y → g (hold x) (hold y) ≡ hold (both x y))
-      → (w x y z : Option ℤ) → Fits w → Fits x → Fits y → Fits z → g (g (hold w) (hold x)) (g (hold y) (hold z)) ≡ hold (all₄ (λ p q r s. f (f p q) (f r s)) w x y z)
-  four g hold law w x y z hw hx hy hz =
-      ap₂ g (law w x hw hx) (law y z hy hz) ∙ law (both w x) (both y z) (both-fits w x hw hx) (both-fits y z hy hz) ∙ ap hold (both-four w x y z)
+  -- pick is that operation on patterns
+  four : (pick : ℕ → ℕ → ℕ) (hold : Option ℤ → ℕ) → ((x y : Option ℤ) → Fits x → Fits y → pick (hold x) (hold y) ≡ hold (both x y))
+      → (w x y z : Option ℤ) → Fits w → Fits x → Fits y → Fits z
+      → pick (pick (hold w) (hold x)) (pick (hold y) (hold z)) ≡ hold (all₄ (λ p q r s. f (f p q) (f r s)) w x y z)
+  four pick hold law w x y z hw hx hy hz =
+      ap₂ pick (law w x hw hx) (law y z hy hz)
+      ∙ law (both w x) (both y z) (both-fits w x hw hx) (both-fits y z hy hz)
+      ∙ ap hold (both-four w x y z)
 
 least-either : (P : ℤ → Type 0) (u v : ℤ) → P u → P v → P (minℤ u v)
 least-either P u v a b = min-split u v (λ h e. subst P (sym e) a) (λ h e. subst P (sym e) b)
@@ -64,7 +69,9 @@ all-none f (some p) x y z (inr (inl e)) = ap (λ m. all₄ f (some p) m y z) e
 all-none f (some p) none y z (inr (inr e)) = refl
 all-none f (some p) (some q) y z (inr (inr e)) = ap (λ m. all₄ f (some p) (some q) m z) e
 
-no-corner : (f : ℤ → ℤ → ℤ → ℤ → ℤ) (w x y z : Option ℤ) (a b c d : Bool) → (a ≡ false → w ≡ none) → (b ≡ false → y ≡ none) → (c ≡ false → w ≡ none) → (d ≡ false → x ≡ none)
+-- a, b, c, d: whether the four patterns are finite
+no-corner : (f : ℤ → ℤ → ℤ → ℤ → ℤ) (w x y z : Option ℤ) (a b c d : Bool)
+    → (a ≡ false → w ≡ none) → (b ≡ false → y ≡ none) → (c ≡ false → w ≡ none) → (d ≡ false → x ≡ none)
     → cond (cond a b false) (cond c d false) false ≡ false → all₄ f w x y z ≡ none
 no-corner f w x y z false b c d ha hb hc hd t = all-none f w x y z (inl (ha refl))
 no-corner f w x y z true false c d ha hb hc hd t = all-none f w x y z (inr (inr (hb refl)))
@@ -72,28 +79,39 @@ no-corner f w x y z true true false d ha hb hc hd t = all-none f w x y z (inl (h
 no-corner f w x y z true true true d ha hb hc hd t = all-none f w x y z (inr (inl (hd t)))
 
 -- ---- both roundings of a product
-pub both-same : (a b : Parts) {x : Parts} {r : Both} → ProductIs a b x → BothOf (exact down x) (exact up x) r → BothOf (exact₂ down a b) (exact₂ up a b) r
+pub both-same : (a b : Parts) {x : Parts} {r : Both} → ProductIs a b x → BothOf (exact down x) (exact up x) r
+    → BothOf (exact₂ down a b) (exact₂ up a b) r
 both-same a b p h = record { lower = h .lower ∙ ap holdDown (p .downs); upper = h .upper ∙ ap holdUp (p .ups) }
 
--- ---- what the code of `of_parts` found
+-- ---- what the code of `of_parts` found: the four products p, q, r, s, and the two ends e of them
 module _ (a b c d : Parts) where
-  pub corners-of : (p q r s : Both) (e : Both) → BothOf (exact₂ down a c) (exact₂ up a c) p → BothOf (exact₂ down a d) (exact₂ up a d) q → BothOf (exact₂ down b c) (exact₂ up b c) r → BothOf (exact₂ down b d) (exact₂ up b d) s
-      → e .down ≡ leastOf (leastOf (p .down) (q .down)) (leastOf (r .down) (s .down)) → e .up ≡ greatestOf (greatestOf (p .up) (q .up)) (greatestOf (r .up) (s .up)) → CornersOf a b c d e
+  down-is : (x y : Parts) → Fits (exact₂ down x y)
+  down-is x y = down-fits (2 ^ 149) (pow-pos 149) (of x *ℤ of y)
+
+  up-is : (x y : Parts) → Fits (exact₂ up x y)
+  up-is x y = up-fits (2 ^ 149) (pow-pos 149) (of x *ℤ of y)
+
+  pub corners-of : (p q r s : Both) (e : Both)
+      → BothOf (exact₂ down a c) (exact₂ up a c) p → BothOf (exact₂ down a d) (exact₂ up a d) q
+      → BothOf (exact₂ down b c) (exact₂ up b c) r → BothOf (exact₂ down b d) (exact₂ up b d) s
+      → e .down ≡ leastOf (leastOf (p .down) (q .down)) (leastOf (r .down) (s .down))
+      → e .up ≡ greatestOf (greatestOf (p .up) (q .up)) (greatestOf (r .up) (s .up)) → CornersOf a b c d e
   corners-of p q r s e hp hq hr hs l g =
       record {
         lower =
             l ∙ ap₂ leastOf (ap₂ leastOf (hp .lower) (hq .lower)) (ap₂ leastOf (hr .lower) (hs .lower))
             ∙ four minℤ least-either leastOf holdDown least-hold (exact₂ down a c) (exact₂ down a d) (exact₂ down b c) (exact₂ down b d)
-            (down-fits (2 ^ 149) (pow-pos 149) _) (down-fits (2 ^ 149) (pow-pos 149) _) (down-fits (2 ^ 149) (pow-pos 149) _) (down-fits (2 ^ 149) (pow-pos 149) _);
+            (down-is a c) (down-is a d) (down-is b c) (down-is b d);
         upper =
             g ∙ ap₂ greatestOf (ap₂ greatestOf (hp .upper) (hq .upper)) (ap₂ greatestOf (hr .upper) (hs .upper))
             ∙ four maxℤ greatest-either greatestOf holdUp greatest-hold (exact₂ up a c) (exact₂ up a d) (exact₂ up b c) (exact₂ up b d)
-            (up-fits (2 ^ 149) (pow-pos 149) _) (up-fits (2 ^ 149) (pow-pos 149) _) (up-fits (2 ^ 149) (pow-pos 149) _) (up-fits (2 ^ 149) (pow-pos 149) _);
+            (up-is a c) (up-is a d) (up-is b c) (up-is b d);
       }
 
 -- ---- what the code of `corners` found: all four patterns are finite, or one is not
 module _ (al au bl bu : ℕ) where
-  pub corners-some : {a b c d : Parts} {r : Both} → finites al au ≡ true → finites bl bu ≡ true → Decoded al a → Decoded au b → Decoded bl c → Decoded bu d
+  pub corners-some : {a b c d : Parts} {r : Both} → finites al au ≡ true → finites bl bu ≡ true
+      → Decoded al a → Decoded au b → Decoded bl c → Decoded bu d
       → CornersOf a b c d r → BothOf (leastCorner al au bl bu) (greatestCorner al au bl bu) r
   unfolding leastCorner greatestCorner
   corners-some {a} {b} {c} {d} {r} ta tb da db dc dd h =
@@ -102,21 +120,40 @@ module _ (al au bl bu : ℕ) where
         upper = h .upper ∙ ap holdUp (each up greatest₄);
       }
     where
+      fal : finite al ≡ true
+      fal = finites-first al au ta
+
+      fau : finite au ≡ true
+      fau = finites-second al au ta
+
+      fbl : finite bl ≡ true
+      fbl = finites-first bl bu tb
+
+      fbu : finite bu ≡ true
+      fbu = finites-second bl bu tb
+
       at : (way : Way) (p q : ℕ) {x y : Parts} → finite p ≡ true → finite q ≡ true → Decoded p x → Decoded q y → exact₂ way x y ≡ with₂ (mul way) p q
-      at way p q tp tq dx dy = ap₂ (λ u v. way binary32 (2 ^ 149) (u *ℤ v)) (dx .value) (dy .value) ∙ sym (with-some (mul way) p q (ap₂ (λ s t. cond s t false) tp tq))
+      at way p q tp tq dx dy =
+          ap₂ (λ u v. way binary32 (2 ^ 149) (u *ℤ v)) (dx .value) (dy .value)
+          ∙ sym (with-some (mul way) p q (ap₂ (λ s t. cond s t false) tp tq))
 
       each : (way : Way) (f : ℤ → ℤ → ℤ → ℤ → ℤ) → all₄ f (exact₂ way a c) (exact₂ way a d) (exact₂ way b c) (exact₂ way b d)
           ≡ all₄ f (with₂ (mul way) al bl) (with₂ (mul way) al bu) (with₂ (mul way) au bl) (with₂ (mul way) au bu)
       each way f =
-          ap₂ (λ w x. all₄ f w x (exact₂ way b c) (exact₂ way b d)) (at way al bl (finites-first al au ta) (finites-first bl bu tb) da dc) (at way al bu (finites-first al au ta) (finites-second bl bu tb) da dd)
-          ∙ ap₂ (all₄ f (with₂ (mul way) al bl) (with₂ (mul way) al bu)) (at way au bl (finites-second al au ta) (finites-first bl bu tb) db dc) (at way au bu (finites-second al au ta) (finites-second bl bu tb) db dd)
+          ap₂ (λ w x. all₄ f w x (exact₂ way b c) (exact₂ way b d)) (at way al bl fal fbl da dc) (at way al bu fal fbu da dd)
+          ∙ ap₂ (all₄ f (with₂ (mul way) al bl) (with₂ (mul way) al bu)) (at way au bl fau fbl db dc) (at way au bu fau fbu db dd)
 
-  pub corners-none : cond (finites al au) (finites bl bu) false ≡ false → BothOf (leastCorner al au bl bu) (greatestCorner al au bl bu) (record { down = 0xFF800000; up = 0x7F800000 })
+  pub corners-none : cond (finites al au) (finites bl bu) false ≡ false
+      → BothOf (leastCorner al au bl bu) (greatestCorner al au bl bu) (record { down = 0xFF800000; up = 0x7F800000 })
   unfolding leastCorner greatestCorner
   corners-none t = record { lower = ap holdDown (sym (refused down least₄)); upper = ap holdUp (sym (refused up greatest₄)) }
     where
-      refused : (way : Way) (f : ℤ → ℤ → ℤ → ℤ → ℤ) → all₄ f (with₂ (mul way) al bl) (with₂ (mul way) al bu) (with₂ (mul way) au bl) (with₂ (mul way) au bu) ≡ none
+      refused : (way : Way) (f : ℤ → ℤ → ℤ → ℤ → ℤ)
+          → all₄ f (with₂ (mul way) al bl) (with₂ (mul way) al bu) (with₂ (mul way) au bl) (with₂ (mul way) au bu) ≡ none
       refused way f =
-          no-corner f (with₂ (mul way) al bl) (with₂ (mul way) al bu) (with₂ (mul way) au bl) (with₂ (mul way) au bu) (finite al) (finite au) (finite bl) (finite bu)
-          (λ e. with-none (mul way) al bl (ap (λ s. cond s (finite bl) false) e)) (λ e. with-none (mul way) au bl (ap (λ s. cond s (finite bl) false) e))
-          (λ e. with-none (mul way) al bl (second-none (finite al) e)) (λ e. with-none (mul way) al bu (second-none (finite al) e)) t
+          no-corner f (with₂ (mul way) al bl) (with₂ (mul way) al bu) (with₂ (mul way) au bl) (with₂ (mul way) au bu)
+          (finite al) (finite au) (finite bl) (finite bu)
+          (λ e. with-none (mul way) al bl (ap (λ s. cond s (finite bl) false) e))
+          (λ e. with-none (mul way) au bl (ap (λ s. cond s (finite bl) false) e))
+          (λ e. with-none (mul way) al bl (second-none (finite al) e))
+          (λ e. with-none (mul way) al bu (second-none (finite al) e)) t

@@ -1,18 +1,18 @@
--- What `cut` computes: the three roundings of s * 2 ^ e from one signed shift of s, shifted up to 61 digits.
+-- What `cut` computes: the three roundings of s * 2 ^ e / 2 ^ 149 from one signed shift of s, which is first shifted up to 61 digits.
 use mathlib.Core.Path.{_≡_, refl, sym, ap, ap₂, _∙_, subst}
-use Prim.Native.Nat.{ℕ, zero, suc, _+_, _-_, _*_, _/_, _%_, _^_, _≤_, _<_, min}
 use mathlib.Core.List.{[], _∷_}
 use mathlib.Core.Logic.{inr}
+use Prim.Native.Nat.{ℕ, zero, suc, _+_, _-_, _*_, _/_, _%_, _^_, _≤_, _<_, min}
 use native.Mathlib.Omega.{arith, min-cases, by-contra}
-use native.Mathlib.Nat.{div-eq-of-lt, mod-eq-of-lt, lt-of-lt-of-le, lt-of-le-of-lt, not-le-of-lt}
+use native.Mathlib.Nat.{mul-pos, zero-mul, div-eq-of-lt, mod-eq-of-lt, lt-of-lt-of-le, lt-of-le-of-lt, not-le-of-lt}
 use lib.Pow.{pow-pos, pow-add, pow-mono}
+use lib.Count.{leadingZeros, leading-top}
 use lib.IntN.{ℤ, pos, negsuc, negℤ, natAbs, _*ℤ_}
 use lib.Signed.{shrZ}
-use lib.Count.{leadingZeros, leading-top}
 use lib.Ieee.{size}
 use lib.Ieee.Digits.{size-lt}
 use lib.Ieee.Nearest.{closest}
-use native.Mathlib.Nat.{zero-mul}
+use Rattle.algebra.proofs.Absolute.{natAbs-mul}
 use Rattle.algebra.proofs.Reading.{by-ring}
 use Rattle.algebra.proofs.Linear.{reading}
 use Rattle.rounding.specs.Format.{binary32, MAX, expo}
@@ -26,10 +26,9 @@ use Rattle.rounding.proofs.Shift.{size-only, size-shl}
 use Rattle.binary32.specs.declared.funnel.Ways.{Ways}
 use Rattle.binary32.specs.Number.{holdDown, holdUp, holdNear}
 use Rattle.binary32.specs.Steps.{packed, Split, IsCut}
-use Rattle.binary32.proofs.Ints.{natAbs-mul}
 use Rattle.binary32.proofs.Signs.{Place, sign-up, sign-near, sign-down, few-up, few-near, few-down}
 
--- ---- a shift past all digits is as good as one by 62
+-- ---- a shift past all digits and one more is as good as one by 62: down 0 or -1, up 0 or 1, nearest 0
 lower : (n m : ℕ) → 2 * n < m → n < m
 lower n m h = omega arith
 
@@ -68,19 +67,22 @@ near-split w t shift r h s = min-cases t 62 (Split w (2 ^ t) shift r)
     (λ l e. subst (λ x. Split w (2 ^ x) shift r) e s)
     (λ l e. far-split w (2 ^ 62) (2 ^ t) shift r (omega arith) (omega (arith, pow-mono l)) (subst (λ x. Split w (2 ^ x) shift r) e s))
 
--- ---- s * 2 ^ e, whose significand is shifted up to 61 digits
+-- ---- s * 2 ^ e, its significand shifted up by z places
 module _ (s : ℤ) (e z K : ℕ) where
   moved : s *ℤ pos (2 ^ z) *ℤ pos (2 ^ e) ≡ pos (2 ^ z) *ℤ (s *ℤ pos (2 ^ e))
   moved = by-ring (s ∷ pos (2 ^ z) ∷ pos (2 ^ e) ∷ []) (search reading depth 20) tt
 
   moved-up : up binary32 (2 ^ (z + K)) (s *ℤ pos (2 ^ z) *ℤ pos (2 ^ e)) ≡ up binary32 (2 ^ K) (s *ℤ pos (2 ^ e))
-  moved-up = ap₂ (up binary32) (pow-add 2 z K) moved ∙ up-scale binary32 (2 ^ z) (2 ^ K) (pow-pos z) (pow-pos K) (s *ℤ pos (2 ^ e))
+  moved-up =
+      ap₂ (up binary32) (pow-add 2 z K) moved ∙ up-scale binary32 (2 ^ z) (2 ^ K) (pow-pos z) (pow-pos K) (s *ℤ pos (2 ^ e))
 
   moved-down : down binary32 (2 ^ (z + K)) (s *ℤ pos (2 ^ z) *ℤ pos (2 ^ e)) ≡ down binary32 (2 ^ K) (s *ℤ pos (2 ^ e))
-  moved-down = ap₂ (down binary32) (pow-add 2 z K) moved ∙ down-scale binary32 (2 ^ z) (2 ^ K) (pow-pos z) (pow-pos K) (s *ℤ pos (2 ^ e))
+  moved-down =
+      ap₂ (down binary32) (pow-add 2 z K) moved ∙ down-scale binary32 (2 ^ z) (2 ^ K) (pow-pos z) (pow-pos K) (s *ℤ pos (2 ^ e))
 
   moved-near : near binary32 (2 ^ (z + K)) (s *ℤ pos (2 ^ z) *ℤ pos (2 ^ e)) ≡ near binary32 (2 ^ K) (s *ℤ pos (2 ^ e))
-  moved-near = ap₂ (near binary32) (pow-add 2 z K) moved ∙ near-scale binary32 (2 ^ z) (2 ^ K) (pow-pos z) (pow-pos K) (s *ℤ pos (2 ^ e))
+  moved-near =
+      ap₂ (near binary32) (pow-add 2 z K) moved ∙ near-scale binary32 (2 ^ z) (2 ^ K) (pow-pos z) (pow-pos K) (s *ℤ pos (2 ^ e))
 
 -- the count of leading zeros, of a number of at most 61 digits
 pub record Zeros (a zeros : ℕ) : Type 0 where
@@ -103,6 +105,7 @@ zeros-of a p h =
     short : (j : ℕ) → 2 ^ j ≤ a → j < 61
     short j l = by-contra (suc j) 61 (λ (g : 61 < suc j). not-le-of-lt (lt-of-le-of-lt l h) (pow-mono {i = 61} {j = j} (omega arith)))
 
+-- ---- the significand in 61 digits: the shift down is 210 - kept places, the exponent field top - kept
 module _ (s : ℤ) (e zeros : ℕ) (p : 0 < natAbs s) (o : Zeros (natAbs s) zeros) where
   abbrev top : ℕ
   top = 64 - zeros + e
@@ -126,10 +129,7 @@ module _ (s : ℤ) (e zeros : ℕ) (p : 0 < natAbs s) (o : Zeros (natAbs s) zero
   wide-short = subst (λ x. natAbs wide < 2 ^ x) wide-size (size-lt (natAbs wide))
 
   wide-some : 0 < natAbs wide
-  wide-some = omega (arith, wide-abs, positive (natAbs s) (2 ^ (zeros - 3)) p (pow-pos (zeros - 3)))
-    where
-      positive : (a b : ℕ) → 0 < a → 0 < b → 0 < a * b
-      positive a b h k = native.Mathlib.Nat.mul-pos h k
+  wide-some = omega (arith, wide-abs, mul-pos p (pow-pos (zeros - 3)))
 
   wide-place : Place (zeros - 3 + 149) e (210 - kept) (top - kept) wide
   wide-place = record {
@@ -141,29 +141,43 @@ module _ (s : ℤ) (e zeros : ℕ) (p : 0 < natAbs s) (o : Zeros (natAbs s) zero
   pub cut-is : (r : Ways) → e ≤ 600 → Split wide (2 ^ min (210 - kept) 62) (top - kept) r → IsCut (s *ℤ pos (2 ^ e)) r
   cut-is r low h = go (near-split wide (210 - kept) (top - kept) r wide-short h)
     where
+      K : ℕ
+      K = zeros - 3 + 149
+
       go : Split wide (2 ^ (210 - kept)) (top - kept) r → IsCut (s *ℤ pos (2 ^ e)) r
       go h = record {
-        downs = ap₂ (λ c j. packed c j 0xFF800000 0x7F7FFFFF) (h .downs) (h .shifts) ∙ sign-down (zeros - 3 + 149) e (210 - kept) (top - kept) wide wide-place ∙ ap holdDown (moved-down s e (zeros - 3) 149);
-        ups = ap₂ (λ c j. packed c j 0xFF7FFFFF 0x7F800000) (h .ups) (h .shifts) ∙ sign-up (zeros - 3 + 149) e (210 - kept) (top - kept) wide wide-place ∙ ap holdUp (moved-up s e (zeros - 3) 149);
-        nears = ap₂ (λ c j. packed c j 0x7F800000 0x7F800000) (h .nears) (h .shifts) ∙ sign-near (zeros - 3 + 149) e (210 - kept) (top - kept) wide wide-place ∙ ap holdNear (moved-near s e (zeros - 3) 149);
-        down-few = subst (λ c. natAbs c ≤ 2 ^ 24) (sym (h .downs)) (few-down (zeros - 3 + 149) e (210 - kept) (top - kept) wide wide-place);
-        up-few = subst (λ c. natAbs c ≤ 2 ^ 24) (sym (h .ups)) (few-up (zeros - 3 + 149) e (210 - kept) (top - kept) wide wide-place);
-        near-few = subst (λ c. natAbs c ≤ 2 ^ 24) (sym (h .nears)) (few-near (zeros - 3 + 149) e (210 - kept) (top - kept) wide wide-place);
+        downs =
+            ap₂ (λ c j. packed c j 0xFF800000 0x7F7FFFFF) (h .downs) (h .shifts)
+            ∙ sign-down K e (210 - kept) (top - kept) wide wide-place ∙ ap holdDown (moved-down s e (zeros - 3) 149);
+        ups =
+            ap₂ (λ c j. packed c j 0xFF7FFFFF 0x7F800000) (h .ups) (h .shifts)
+            ∙ sign-up K e (210 - kept) (top - kept) wide wide-place ∙ ap holdUp (moved-up s e (zeros - 3) 149);
+        nears =
+            ap₂ (λ c j. packed c j 0x7F800000 0x7F800000) (h .nears) (h .shifts)
+            ∙ sign-near K e (210 - kept) (top - kept) wide wide-place ∙ ap holdNear (moved-near s e (zeros - 3) 149);
+        down-few = subst (λ c. natAbs c ≤ 2 ^ 24) (sym (h .downs)) (few-down K e (210 - kept) (top - kept) wide wide-place);
+        up-few = subst (λ c. natAbs c ≤ 2 ^ 24) (sym (h .ups)) (few-up K e (210 - kept) (top - kept) wide wide-place);
+        near-few = subst (λ c. natAbs c ≤ 2 ^ 24) (sym (h .nears)) (few-near K e (210 - kept) (top - kept) wide wide-place);
         low = omega (arith, h .shifts);
       }
 
 -- ---- what the code of `cut` found
 pub cut-found : (s w : ℤ) (e zeros kept n : ℕ) (r : Ways) → 0 < natAbs s → Zeros (natAbs s) zeros → e ≤ 600
-    → kept ≡ min (64 - zeros + e) 173 → n ≡ min (210 - kept) 62 → w ≡ s *ℤ pos (2 ^ (zeros - 3)) → Split w (2 ^ n) (64 - zeros + e - kept) r → IsCut (s *ℤ pos (2 ^ e)) r
+    → kept ≡ min (64 - zeros + e) 173 → n ≡ min (210 - kept) 62 → w ≡ s *ℤ pos (2 ^ (zeros - 3))
+    → Split w (2 ^ n) (64 - zeros + e - kept) r → IsCut (s *ℤ pos (2 ^ e)) r
 cut-found s w e zeros kept n r p o low ek en ew h =
     cut-is s e zeros p o r low
     (subst (λ k. Split (s *ℤ pos (2 ^ (zeros - 3))) (2 ^ min (210 - k) 62) (64 - zeros + e - k) r) ek
     (subst (λ x. Split (s *ℤ pos (2 ^ (zeros - 3))) (2 ^ x) (64 - zeros + e - kept) r) en
     (subst (λ x. Split x (2 ^ n) (64 - zeros + e - kept) r) ew h)))
 
-cut-none : IsCut (pos 0) (record { down = pos 0; up = pos 0; near = pos 0; shift = 0 })
-unfolding packed place down up near lo hi nr ceil expo size MAX
-cut-none = record { downs = refl; ups = refl; nears = refl; down-few = omega arith; up-few = omega arith; near-few = omega arith; low = omega arith }
+-- of zero
+abbrev none-cut : Ways
+none-cut = record { down = pos 0; up = pos 0; near = pos 0; shift = 0 }
 
-pub cut-zero : (s : ℤ) (e : ℕ) → s ≡ pos 0 → IsCut (s *ℤ pos (2 ^ e)) (record { down = pos 0; up = pos 0; near = pos 0; shift = 0 })
-cut-zero s e z = subst (λ x. IsCut x (record { down = pos 0; up = pos 0; near = pos 0; shift = 0 })) (sym (ap (λ x. x *ℤ pos (2 ^ e)) z ∙ ap pos (zero-mul (2 ^ e)))) cut-none
+zero-is : IsCut (pos 0) none-cut
+unfolding packed place down up near lo hi nr ceil expo size MAX
+zero-is = record { downs = refl; ups = refl; nears = refl; down-few = omega arith; up-few = omega arith; near-few = omega arith; low = omega arith }
+
+pub cut-zero : (s : ℤ) (e : ℕ) → s ≡ pos 0 → IsCut (s *ℤ pos (2 ^ e)) none-cut
+cut-zero s e z = subst (λ x. IsCut x none-cut) (sym (ap (λ x. x *ℤ pos (2 ^ e)) z ∙ ap pos (zero-mul (2 ^ e)))) zero-is

@@ -1,16 +1,17 @@
--- Laws of signed machine numbers: how large a sum, a product or a negation is. Assumes nothing.
-use mathlib.Core.Path.{_≡_, refl, sym, ap, subst, _∙_}
-use mathlib.Core.Bool.{Bool, true, false, cond}
-use Prim.Native.Nat.{ℕ, zero, suc, _+_, _-_, _*_, _^_, _≤_, _<_}
-use native.Mathlib.Nat.{not-suc-le-zero, eq-zero-or-pos}
-use native.Mathlib.Omega.{arith}
+-- Signed numbers in the machine's words of 64 bits: read back from their bits, negated and tested against zero. Assumes nothing.
+use mathlib.Core.Path.{_≡_, sym, ap, subst, _∙_}
+use mathlib.Core.Bool.{Bool, true, false}
 use mathlib.Core.Logic.{⊎-elim}
+use Prim.Native.Nat.{zero, suc, _+_, _-_, _^_, _≤_, _<_}
+use native.Mathlib.Omega.{arith}
+use native.Mathlib.Nat.{not-suc-le-zero, eq-zero-or-pos}
 use lib.Dec.{T, ltb, ltb→lt}
-use lib.IntN.{ℤ, pos, negsuc, negℤ, natAbs, _+ℤ_, _-ℤ_, _*ℤ_, +ℤ-idl}
+use lib.IntN.{ℤ, pos, negsuc, negℤ, natAbs, _+ℤ_, _-ℤ_, +ℤ-idl}
 use lib.Signed.{mag, nonNeg, ltZ}
 use mir.Syntax.{w64}
 use mir.Val.{SFits, ofZ, toZ}
 use mir.ValLaws.{toZ-ofZ}
+use Rattle.algebra.proofs.Machine.{fits-natAbs}
 use Rattle.rounding.proofs.Sign.{natAbs-neg}
 
 -- a signed number read back from its bits
@@ -21,36 +22,13 @@ pub natAbs-mag : (x : ℤ) → natAbs x ≤ mag x + 1
 natAbs-mag (pos n) = omega arith
 natAbs-mag (negsuc n) = omega arith
 
-pub mag-natAbs : (x : ℤ) → mag x ≤ natAbs x
-mag-natAbs (pos n) = omega arith
-mag-natAbs (negsuc n) = omega arith
-
-pub fits-of : (x : ℤ) → natAbs x < 2 ^ 63 → SFits w64 x
-fits-of x h = record { sfits = omega (arith, mag-natAbs x) }
-
 -- of a small number, read back
 pub read-small : (z : ℤ) → natAbs z < 2 ^ 63 → toZ w64 (ofZ w64 z) ≡ z
-read-small z h = toZ-ofZ w64 z (fits-of z h)
+read-small z h = toZ-ofZ w64 z (fits-natAbs z h)
 
 -- `-x` of the source is `pos 0 -ℤ x`
 pub natAbs-minus : (x : ℤ) → natAbs (pos 0 -ℤ x) ≡ natAbs x
 natAbs-minus x = ap natAbs (+ℤ-idl (negℤ x)) ∙ natAbs-neg x
-
-natAbs-by : (a b : ℕ) (t : Bool) → natAbs (cond t (negsuc (b - suc a)) (pos (a - b))) ≤ a + b + 1
-natAbs-by a b true = omega arith
-natAbs-by a b false = omega arith
-
-pub natAbs-add : (x y : ℤ) → natAbs (x +ℤ y) ≤ natAbs x + natAbs y + 1
-natAbs-add (pos a) (pos b) = omega arith
-natAbs-add (pos a) (negsuc b) = natAbs-by a (suc b) (ltb a (suc b))
-natAbs-add (negsuc a) (pos b) = omega (arith, natAbs-by b (suc a) (ltb b (suc a)))
-natAbs-add (negsuc a) (negsuc b) = omega arith
-
-pub natAbs-mul : (x y : ℤ) → natAbs (x *ℤ y) ≡ natAbs x * natAbs y
-natAbs-mul (pos a) (pos b) = refl
-natAbs-mul (pos a) (negsuc b) = natAbs-neg (pos (a * suc b))
-natAbs-mul (negsuc a) (pos b) = natAbs-neg (pos (suc a * b))
-natAbs-mul (negsuc a) (negsuc b) = refl
 
 -- a negative number's negation, and a number that is not negative, are not negative
 pub nonNeg-neg : (x : ℤ) → ltZ x (pos 0) ≡ true → T (nonNeg (pos 0 -ℤ x))

@@ -1,17 +1,23 @@
+-- the machine's words, and a pattern taken apart
 pub mod Ints
 pub mod Values
+-- rounding: a shifted magnitude, with its sign, from the signed shift and what it loses; then the pattern
 pub mod Places
 pub mod Shifted
 pub mod Signs
-pub mod Cutting
 pub mod Rests
+pub mod Cutting
 pub mod Packing
+-- exact values: products, sums, sums of numbers far apart
 pub mod Products
 pub mod Far
 pub mod Sums
+-- what a pattern holds, and the answer of an operation; for other crates: Held, Numbers, Negation
 pub mod Held
-pub mod Negation
-pub mod Orders
-pub mod Exacts
 pub mod Numbers
+pub mod Negation
+pub mod Exacts
+-- order and corner products
+pub mod Orders
 pub mod CornerLaws
+pub mod Examples

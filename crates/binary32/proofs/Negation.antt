@@ -1,12 +1,12 @@
 -- The pattern with the other sign holds the negated number; to subtract is to add it.
 use mathlib.Core.Path.{_≡_, refl, sym, ap, ap₂, _∙_, subst, fun-ext}
 use mathlib.Core.Bool.{Bool, true, false, cond}
+use mathlib.Core.Logic.{⊎-elim}
 use mathlib.Core.Option.{none, some, bind}
 use Prim.Native.Nat.{ℕ, _+_, _-_, _*_, _%_, _^_, _≤_, _<_}
 use native.Mathlib.Omega.{arith}
 use lib.Dec.{ltb}
 use lib.IntN.{ℤ, negℤ, pos, negℤ-negℤ}
-use mathlib.Core.Logic.{⊎-elim}
 use borrow.Author.Tests.{lt-ltb, le-ltb, lt-leb, le-leb}
 use Rattle.algebra.proofs.Order.{≼-or-≺}
 use Rattle.algebra.proofs.Natural.{to-le, to-lt}

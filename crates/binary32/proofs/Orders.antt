@@ -1,4 +1,5 @@
--- Comparing keys is comparing values; the lesser and the greater of two patterns that hold a number or none.
+-- Comparing keys is comparing values; and the lesser and the greater of two patterns hold the lesser and the greater of their numbers, or none
+-- where one holds none.
 use mathlib.Core.Path.{_≡_, refl, sym, ap, ap₂, _∙_, subst}
 use mathlib.Core.Bool.{Bool, true, false, cond}
 use mathlib.Core.List.{[], _∷_}
@@ -44,7 +45,8 @@ leZ-false {x} {y} h = go (leZ x y) (λ t. not-≺ (leZ-yes t) h)
     go false k = refl
 
 -- ---- keys and values, for a change of magnitudes that keeps their order and zero
-signed-order : (s t : Bool) (m n M N : ℕ) → (m ≤ n → M ≤ N) → (n ≤ m → N ≤ M) → (m ≡ 0 → M ≡ 0) → (n ≡ 0 → N ≡ 0) → signedBy s m ≼ signedBy t n → signedBy s M ≼ signedBy t N
+signed-order : (s t : Bool) (m n M N : ℕ) → (m ≤ n → M ≤ N) → (n ≤ m → N ≤ M) → (m ≡ 0 → M ≡ 0) → (n ≡ 0 → N ≡ 0)
+    → signedBy s m ≼ signedBy t n → signedBy s M ≼ signedBy t N
 signed-order false false m n M N grows falls z w h = of-le (grows (to-le h))
 signed-order true false m n M N grows falls z w h = neg-le-pos M N
 signed-order false true m n M N grows falls z w h =
@@ -79,7 +81,8 @@ key-order a b = same-test (leZ (keyOf a) (keyOf b)) (atMost a b) (λ t. up (leZ-
 
     back : valueOf a ≼ valueOf b → keyOf a ≼ keyOf b
     back h =
-        signed-order (leb (2 ^ 31) a) (leb (2 ^ 31) b) (val binary32 m) (val binary32 n) m n (val-le-back binary32) (val-le-back binary32) none-left none-left h
+        signed-order (leb (2 ^ 31) a) (leb (2 ^ 31) b) (val binary32 m) (val binary32 n) m n
+        (val-le-back binary32) (val-le-back binary32) none-left none-left h
 
 -- ---- the infinities are beyond all numbers
 
@@ -105,13 +108,15 @@ cond-same : (t : Bool) (n : ℕ) → cond t n n ≡ n
 cond-same true n = refl
 cond-same false n = refl
 
--- ---- the lesser of two that were rounded down, the greater of two that were rounded up: one that holds none wins
+-- ---- of two that were rounded down the lesser, of two that were rounded up the greater: one that holds none is taken
 
-pub least-hold : (x y : Option ℤ) → Fits x → Fits y → leastOf (holdDown x) (holdDown y) ≡ holdDown (bind x λ u. bind y λ v. some (minℤ u v))
+pub least-hold : (x y : Option ℤ) → Fits x → Fits y
+    → leastOf (holdDown x) (holdDown y) ≡ holdDown (bind x λ u. bind y λ v. some (minℤ u v))
 unfolding leastOf minℤ Fits bind
 least-hold none none f g = cond-same (atMost 0xFF800000 0xFF800000) 0xFF800000
 least-hold none (some v) f g =
-    ap (λ t. cond t 0xFF800000 (patternOf v)) (leZ-true (subst (λ w. valueOf 0xFF800000 ≼ w) (sym (pattern-value (g v refl))) (≼-of-≺ (below-all (g v refl)))))
+    let n : valueOf 0xFF800000 ≼ v = ≼-of-≺ (below-all (g v refl)) in
+    ap (λ t. cond t 0xFF800000 (patternOf v)) (leZ-true (subst (λ w. valueOf 0xFF800000 ≼ w) (sym (pattern-value (g v refl))) n))
 least-hold (some u) none f g =
     ap (λ t. cond t (patternOf u) 0xFF800000) (leZ-false (subst (λ w. valueOf 0xFF800000 ≺ w) (sym (pattern-value (f u refl))) (below-all (f u refl))))
 least-hold (some u) (some v) f g =
@@ -121,13 +126,15 @@ least-hold (some u) (some v) f g =
     go true = refl
     go false = refl
 
-pub greatest-hold : (x y : Option ℤ) → Fits x → Fits y → greatestOf (holdUp x) (holdUp y) ≡ holdUp (bind x λ u. bind y λ v. some (maxℤ u v))
+pub greatest-hold : (x y : Option ℤ) → Fits x → Fits y
+    → greatestOf (holdUp x) (holdUp y) ≡ holdUp (bind x λ u. bind y λ v. some (maxℤ u v))
 unfolding greatestOf maxℤ Fits bind
 greatest-hold none none f g = cond-same (atMost 0x7F800000 0x7F800000) 0x7F800000
 greatest-hold none (some v) f g =
     ap (λ t. cond t (patternOf v) 0x7F800000) (leZ-false (subst (λ w. w ≺ valueOf 0x7F800000) (sym (pattern-value (g v refl))) (above-all (g v refl))))
 greatest-hold (some u) none f g =
-    ap (λ t. cond t 0x7F800000 (patternOf u)) (leZ-true (subst (λ w. w ≼ valueOf 0x7F800000) (sym (pattern-value (f u refl))) (≼-of-≺ (above-all (f u refl)))))
+    let n : u ≼ valueOf 0x7F800000 = ≼-of-≺ (above-all (f u refl)) in
+    ap (λ t. cond t 0x7F800000 (patternOf u)) (leZ-true (subst (λ w. w ≼ valueOf 0x7F800000) (sym (pattern-value (f u refl))) n))
 greatest-hold (some u) (some v) f g =
     ap₂ (λ a b. cond (leZ a b) (patternOf v) (patternOf u)) (pattern-value (f u refl)) (pattern-value (g v refl)) ∙ go (leZ u v)
   where

@@ -1,13 +1,13 @@
--- Patterns of numbers, and a shifted significand's pattern as what a rounding holds.
+-- A significand of either sign with its exponent field, packed, is the pattern of a number, or of what stands for one that is too large.
 use mathlib.Core.Path.{_≡_, refl, sym, ap, _∙_, subst}
-use mathlib.Core.Option.{Option, none, some}
 use mathlib.Core.Bool.{Bool, true, false, cond, not}
-use Prim.Native.Nat.{ℕ, zero, suc, _+_, _-_, _*_, _^_, _≤_, _<_, min}
-use lib.IntN.{ℤ, pos, negℤ}
-use lib.Dec.{T, ltb, ltb→lt, nltb→le}
-use lib.Ieee.{size}
 use mathlib.Core.Logic.{_⊎_, inl, inr}
+use mathlib.Core.Option.{Option, none, some}
+use Prim.Native.Nat.{ℕ, zero, suc, _+_, _-_, _*_, _^_, _≤_, _<_, min}
 use native.Mathlib.Omega.{arith}
+use lib.Dec.{T, ltb, ltb→lt, nltb→le}
+use lib.IntN.{ℤ, pos, negℤ}
+use lib.Ieee.{size}
 use Rattle.rounding.specs.Format.{binary32, expo}
 use Rattle.rounding.specs.Rounding.{negate}
 use Rattle.rounding.specs.Pattern.{val, place}
@@ -49,7 +49,8 @@ view G q F H = go (ltb q past) (ltb→lt q past) (nltb→le q past)
 pub plus : (j c below z : ℕ) → packed (pos c) j below z ≡ hold z (whole (at j c))
 unfolding packed
 plus j c below z =
-    view (λ t. cond t (at j c) z ≡ hold z (cond t (some (pos (val binary32 (at j c)))) none)) (at j c) (λ l. sym (place-val binary32 (at j c))) (λ l. refl)
+    view (λ t. cond t (at j c) z ≡ hold z (cond t (some (pos (val binary32 (at j c)))) none)) (at j c)
+    (λ l. sym (place-val binary32 (at j c))) (λ l. refl)
 
 pub minus : (j c above z : ℕ) → (j ≡ 0) ⊎ (2 ^ 23 ≤ c) → packed (negℤ (pos c)) j z above ≡ hold z (negate (whole (at j c)))
 unfolding packed val place expo size
@@ -62,7 +63,7 @@ minus j (suc k) above z s =
     view (λ t. cond t (2 ^ 31 + at j (suc k)) z ≡ hold z (negate (cond t (some (pos (val binary32 (at j (suc k))))) none))) (at j (suc k))
     (λ l. sym (neg-place (at j (suc k)) (omega arith))) (λ l. refl)
 
--- the largest number in the place of one that is too large
+-- ---- the largest number in the place of one that is too large
 low-cap : (q : ℕ) → q < past → q ≡ min q (past - 1)
 low-cap q l = omega arith
 
@@ -75,9 +76,11 @@ cap-plus j c below =
     view (λ t. cond t (at j c) (past - 1) ≡ min (at j c) (past - 1)) (at j c) (low-cap (at j c)) (high-cap (at j c))
     ∙ sym (place-val binary32 (min (at j c) (past - 1)))
 
-pub cap-minus : (j c above : ℕ) → (j ≡ 0) ⊎ (2 ^ 23 ≤ c) → packed (negℤ (pos c)) j (2 ^ 31 + (past - 1)) above ≡ patternOf (negℤ (pos (val binary32 (min (at j c) (past - 1)))))
+pub cap-minus : (j c above : ℕ) → (j ≡ 0) ⊎ (2 ^ 23 ≤ c)
+    → packed (negℤ (pos c)) j (2 ^ 31 + (past - 1)) above ≡ patternOf (negℤ (pos (val binary32 (min (at j c) (past - 1)))))
 unfolding packed val place expo size
-cap-minus j zero above (inl e) = subst (λ x. packed (pos 0) x (2 ^ 31 + (past - 1)) above ≡ patternOf (negℤ (pos (val binary32 (min (at x 0) (past - 1)))))) (sym e) refl
+cap-minus j zero above (inl e) =
+    subst (λ x. packed (pos 0) x (2 ^ 31 + (past - 1)) above ≡ patternOf (negℤ (pos (val binary32 (min (at x 0) (past - 1)))))) (sym e) refl
 cap-minus j zero above (inr l) = absurd (no l)
   where
     no : 2 ^ 23 ≤ 0 → ⊥

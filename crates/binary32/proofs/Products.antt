@@ -1,22 +1,18 @@
--- The exact product of two numbers taken apart; and what `pack` gives of the significands that `cut` found.
+-- The exact product of two numbers taken apart: 48 digits at most, and the exponents added.
 use mathlib.Core.Path.{_≡_, sym, ap, _∙_, subst}
 use mathlib.Core.List.{[], _∷_}
-use mathlib.Core.Option.{Option}
-use Prim.Native.Nat.{ℕ, _+_, _*_, _^_, _≤_, _<_}
+use Prim.Native.Nat.{ℕ, _+_, _*_, _^_, _<_}
 use native.Mathlib.Omega.{arith}
-use native.Mathlib.Nat.{mul-le-mul}
+use native.Mathlib.Nat.{mul-le-mul, le-of-lt}
 use lib.Pow.{pow-add}
 use lib.IntN.{ℤ, pos, natAbs, _*ℤ_}
-use mir.Syntax.{w64}
-use mir.Val.{ofZ, toZ}
+use Rattle.algebra.proofs.Absolute.{natAbs-mul}
 use Rattle.algebra.proofs.Reading.{by-ring}
 use Rattle.algebra.proofs.Linear.{reading}
 use Rattle.rounding.specs.Format.{binary32}
 use Rattle.rounding.specs.Rounding.{up, down, near}
 use Rattle.binary32.specs.declared.parts.Parts.{Parts}
-use Rattle.binary32.specs.Operations.{Way}
-use Rattle.binary32.specs.Steps.{of, Short, Small, packed, exact, ProductIs}
-use Rattle.binary32.proofs.Ints.{natAbs-mul, read-small}
+use Rattle.binary32.specs.Steps.{of, Short, exact, ProductIs}
 
 product-value : (x y : ℤ) (i j : ℕ) → x *ℤ y *ℤ pos (2 ^ (i + j)) ≡ (x *ℤ pos (2 ^ i)) *ℤ (y *ℤ pos (2 ^ j))
 product-value x y i j = ap (λ n. x *ℤ y *ℤ pos n) (pow-add 2 i j) ∙ swap
@@ -25,12 +21,10 @@ product-value x y i j = ap (λ n. x *ℤ y *ℤ pos n) (pow-add 2 i j) ∙ swap
     swap = by-ring (x ∷ y ∷ pos (2 ^ i) ∷ pos (2 ^ j) ∷ []) (search reading depth 20) tt
 
 pub product-short : (x y : ℤ) → natAbs x < 2 ^ 24 → natAbs y < 2 ^ 24 → natAbs (x *ℤ y) < 2 ^ 61
-product-short x y h k = omega (arith, natAbs-mul x y, mul-le-mul (small (natAbs x) h) (small (natAbs y) k))
-  where
-    small : (n : ℕ) → n < 2 ^ 24 → n ≤ 2 ^ 24
-    small n l = omega arith
+product-short x y h k = omega (arith, natAbs-mul x y, mul-le-mul (le-of-lt h) (le-of-lt k))
 
-pub product-is : {x y : Parts} → Short x → Short y → (z : ℤ) → z ≡ x .sig *ℤ y .sig → ProductIs x y (record { sig = z; exp = x .exp + y .exp })
+pub product-is : {x y : Parts} → Short x → Short y → (z : ℤ) → z ≡ x .sig *ℤ y .sig
+    → ProductIs x y (record { sig = z; exp = x .exp + y .exp })
 unfolding exact of
 product-is {x} {y} sx sy z e =
     let v : z *ℤ pos (2 ^ (x .exp + y .exp)) ≡ of x *ℤ of y =
@@ -39,13 +33,8 @@ product-is {x} {y} sx sy z e =
       downs = ap (down binary32 (2 ^ 149)) v;
       ups = ap (up binary32 (2 ^ 149)) v;
       nears = ap (near binary32 (2 ^ 149)) v;
-      small = record { short = subst (λ s. natAbs s < 2 ^ 61) (sym e) (product-short (x .sig) (y .sig) (sx .few) (sy .few)); low = omega (arith, sx .low, sy .low) };
+      small = record {
+        short = subst (λ s. natAbs s < 2 ^ 61) (sym e) (product-short (x .sig) (y .sig) (sx .few) (sy .few));
+        low = omega (arith, sx .low, sy .low);
+      };
     }
-
--- c and x stand in the machine's words
-pub gives : (way : Way) (z : Option ℤ → ℕ) (x : Parts) (c : ℤ) (j below above r : ℕ) → Small (x .sig) (x .exp) → natAbs c ≤ 2 ^ 24 → r ≡ packed (toZ w64 (ofZ w64 c)) j below above
-    → packed c j below above ≡ z (way binary32 (2 ^ 149) (toZ w64 (ofZ w64 (x .sig)) *ℤ pos (2 ^ (x .exp)))) → r ≡ z (exact way x)
-unfolding exact of
-gives way z x c j below above r small few e h =
-    e ∙ ap (λ t. packed t j below above) (read-small c (omega arith)) ∙ h
-    ∙ ap (λ t. z (way binary32 (2 ^ 149) (t *ℤ pos (2 ^ (x .exp))))) (read-small (x .sig) (omega (arith, small .short)))

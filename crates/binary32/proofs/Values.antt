@@ -1,29 +1,22 @@
 -- What `decode` finds: a pattern's value from its sign, exponent field and fraction.
 use mathlib.Core.Path.{_≡_, refl, sym, ap, _∙_}
 use mathlib.Core.Bool.{Bool, true, false}
-use Prim.Native.Nat.{ℕ, zero, suc, _+_, _-_, _*_, _/_, _%_, _^_}
-use native.Mathlib.Nat.{mul-one, zero-mul, add-comm}
+use Prim.Native.Nat.{ℕ, suc, _+_, _-_, _*_, _/_, _%_, _^_}
 use native.Mathlib.Omega.{arith}
+use native.Mathlib.Nat.{mul-one, add-comm}
 use lib.Dec.{leb}
-use lib.IntN.{ℤ, pos, negℤ, natAbs, _*ℤ_}
+use lib.IntN.{ℤ, pos, natAbs, _*ℤ_}
 use Rattle.rounding.specs.Pattern.{value, val}
+use Rattle.rounding.proofs.Sign.{neg-mul, natAbs-neg}
 use Rattle.binary32.specs.Number.{signedBy, valueOf, Finite}
 use Rattle.binary32.specs.Steps.{of, Decoded}
-
-neg-mul : (m u : ℕ) → negℤ (pos m) *ℤ pos u ≡ negℤ (pos (m * u))
-neg-mul zero u = ap pos (zero-mul u) ∙ ap (λ (t : ℕ). negℤ (pos t)) (sym (zero-mul u))
-neg-mul (suc m) u = refl
 
 pub signed-mul : (b : Bool) (m u : ℕ) → signedBy b m *ℤ pos u ≡ signedBy b (m * u)
 signed-mul true m u = neg-mul m u
 signed-mul false m u = refl
 
-neg-abs : (m : ℕ) → natAbs (negℤ (pos m)) ≡ m
-neg-abs zero = refl
-neg-abs (suc m) = refl
-
 pub signed-abs : (b : Bool) (m : ℕ) → natAbs (signedBy b m) ≡ m
-signed-abs true m = neg-abs m
+signed-abs true m = natAbs-neg (pos m)
 signed-abs false m = refl
 
 module _ (p : ℕ) (z : ℤ) where

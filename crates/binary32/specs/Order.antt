@@ -6,7 +6,7 @@ use Prim.Native.Nat.{ℕ, _%_, _^_}
 use lib.Dec.{leb}
 use lib.IntN.{ℤ}
 use lib.Signed.{leZ}
-use Rattle.algebra.specs.Extremes.{minℤ, maxℤ}
+use Rattle.algebra.specs.Extremes.{least₄, greatest₄}
 use Rattle.rounding.specs.Rounding.{up, down}
 use Rattle.binary32.specs.Number.{signedBy, valueOf}
 use Rattle.binary32.specs.Operations.{mul, with₂}
@@ -29,12 +29,6 @@ unfoldable pub greatestOf : ℕ → ℕ → ℕ
 greatestOf a b = cond (atMost a b) b a
 
 -- ---- the four corner products of [al, au] and [bl, bu]: the least of them rounded down, the greatest rounded up
-
-abbrev pub least₄ : ℤ → ℤ → ℤ → ℤ → ℤ
-least₄ p q r s = minℤ (minℤ p q) (minℤ r s)
-
-abbrev pub greatest₄ : ℤ → ℤ → ℤ → ℤ → ℤ
-greatest₄ p q r s = maxℤ (maxℤ p q) (maxℤ r s)
 
 abbrev pub all₄ : (ℤ → ℤ → ℤ → ℤ → ℤ) → Option ℤ → Option ℤ → Option ℤ → Option ℤ → Option ℤ
 all₄ f w x y z = bind w λ p. bind x λ q. bind y λ r. bind z λ s. some (f p q r s)

@@ -1,4 +1,4 @@
--- What the inner steps of an operation give. Definitions only, for the contracts of functions that no other crate sees.
+-- What the inner steps of an operation give. Definitions only; but for `BothOf` they stand only in contracts of functions that no other crate sees.
 use mathlib.Core.Path.{_≡_}
 use mathlib.Core.Bool.{Bool, true, false, cond}
 use mathlib.Core.Option.{Option, none}
@@ -7,6 +7,7 @@ use lib.Dec.{ltb}
 use lib.IntN.{ℤ, pos, negsuc, natAbs, _+ℤ_, _*ℤ_}
 use lib.Signed.{shrZ}
 use lib.Ieee.Nearest.{closest}
+use Rattle.algebra.specs.Extremes.{least₄, greatest₄}
 use Rattle.rounding.specs.Format.{binary32}
 use Rattle.rounding.specs.Rounding.{up, down, near, signed}
 use Rattle.rounding.specs.Quotient.{ceilS}
@@ -17,52 +18,54 @@ use Rattle.binary32.specs.declared.exact.Exact.{Exact}
 use Rattle.binary32.specs.declared.exact.Exact.the-variants.{Value, Unknown}
 use Rattle.binary32.specs.Number.{valueOf, holdDown, holdUp, holdNear}
 use Rattle.binary32.specs.Operations.{Way, with₂}
-use Rattle.binary32.specs.Order.{all₄, least₄, greatest₄}
+use Rattle.binary32.specs.Order.{all₄}
 
 -- ---- a number taken apart
 
--- its value
+-- its value, sig * 2 ^ exp
 unfoldable pub of : Parts → ℤ
 of x = x .sig *ℤ pos (2 ^ (x .exp))
 
--- of at most 24 digits, and of all 24 where it is shifted
+-- a number of the format: at most 24 digits, and all 24 of them where the exponent is not 0
 pub record Short (x : Parts) : Type 0 where
   pub few : natAbs (x .sig) < 2 ^ 24
   pub low : x .exp ≤ 253
   pub full : 0 < x .exp → 2 ^ 23 ≤ natAbs (x .sig)
 
--- a pattern's number
+-- x is the number of the pattern p
 pub record Decoded (p : ℕ) (x : Parts) : Type 0 where
   pub value : of x ≡ valueOf p
   pub short : Short x
 
 -- ---- rounding
 
--- what can be rounded: s * 2 ^ e
+-- s * 2 ^ e can be rounded: s has at most 61 digits
 pub record Small (s : ℤ) (e : ℕ) : Type 0 where
   pub short : natAbs s < 2 ^ 61
   pub low : e ≤ 600
 
--- w / m, three ways
+-- r has w / m rounded down, rounded up and rounded to the nearest, beside the shift that was handed in
 pub record Split (w : ℤ) (m shift : ℕ) (r : Ways) : Type 0 where
   pub downs : r .down ≡ shrZ w m
   pub ups : r .up ≡ ceilS w m
   pub nears : r .near ≡ signed w (closest (natAbs w) m)
   pub shifts : r .shift ≡ shift
 
--- a significand and its shift as a pattern, or one of two patterns by its sign
+-- the sign of c on the pattern t without sign
 abbrev pub put : ℤ → ℕ → ℕ
 put (pos c) t = t
 put (negsuc c) t = 2 ^ 31 + t
 
+-- one of two patterns, by the sign of c
 abbrev pub side : ℤ → ℕ → ℕ → ℕ
 side (pos c) below above = above
 side (negsuc c) below above = below
 
+-- the pattern of c * 2 ^ j units; where that is too large, the one for its side, below all numbers or above
 unfoldable pub packed : ℤ → ℕ → ℕ → ℕ → ℕ
 packed c j below above = cond (ltb (j * 2 ^ 23 + natAbs c) (255 * 2 ^ 23)) (put c (j * 2 ^ 23 + natAbs c)) (side c below above)
 
--- X / 2 ^ 149 units, three ways
+-- r has the significands of X / 2 ^ 149 units: packed, each is the pattern that its rounding holds, with the answer for values that are too large
 pub record IsCut (X : ℤ) (r : Ways) : Type 0 where
   pub downs : packed (r .down) (r .shift) 0xFF800000 0x7F7FFFFF ≡ holdDown (down binary32 (2 ^ 149) X)
   pub ups : packed (r .up) (r .shift) 0xFF7FFFFF 0x7F800000 ≡ holdUp (up binary32 (2 ^ 149) X)
@@ -72,27 +75,29 @@ pub record IsCut (X : ℤ) (r : Ways) : Type 0 where
   pub near-few : natAbs (r .near) ≤ 2 ^ 24
   pub low : r .shift ≤ 500
 
--- the rounding of what a funnel is handed: 2^-149 of x units
+-- x * 2 ^ -149 units, rounded
 unfoldable pub exact : Way → Parts → Option ℤ
 exact way x = way binary32 (2 ^ 149) (of x)
 
--- a product, rounded
+-- the product of two numbers taken apart, rounded
 abbrev pub exact₂ : Way → Parts → Parts → Option ℤ
 exact₂ way x y = way binary32 (2 ^ 149) (of x *ℤ of y)
 
--- both directed roundings
+-- r has the patterns of a result rounded down and of one rounded up, each a number or none
 pub record BothOf (low high : Option ℤ) (r : Both) : Type 0 where
   pub lower : r .down ≡ holdDown low
   pub upper : r .up ≡ holdUp high
 
 -- ---- exact values, up to what no rounding sees
 
+-- x * 2 ^ -149 units has the three roundings of X / D units, and can be rounded
 pub record Same (D : ℕ) (X : ℤ) (x : Parts) : Type 0 where
   pub downs : exact down x ≡ down binary32 D X
   pub ups : exact up x ≡ up binary32 D X
   pub nears : exact near x ≡ near binary32 D X
   pub small : Small (x .sig) (x .exp)
 
+-- two numbers to be multiplied, and their product
 pub record Factors (x y : Parts) : Type 0 where
   pub first : Short x
   pub second : Short y
@@ -100,6 +105,7 @@ pub record Factors (x y : Parts) : Type 0 where
 abbrev pub ProductIs : Parts → Parts → Parts → Type 0
 ProductIs x y r = Same (2 ^ 149) (of x *ℤ of y) r
 
+-- two numbers to be added, and their sum: 2 ^ (149 - lift) is 1 for a sum, 2 for a midpoint
 pub record Summands (x y : Parts) (lift : ℕ) : Type 0 where
   pub first : Short x
   pub second : Short y
@@ -108,40 +114,42 @@ pub record Summands (x y : Parts) (lift : ℕ) : Type 0 where
 abbrev pub SumIs : Parts → Parts → ℕ → Parts → Type 0
 SumIs x y lift r = Same (2 ^ (149 - lift)) (of x +ℤ of y) r
 
--- two summands, the first with the larger exponent
+-- two numbers to be added, the first with the larger exponent
 pub record Larger (x y : Parts) (lift : ℕ) : Type 0 where
   pub first : Short x
   pub second : Short y
   pub lifts : lift ≤ 149
   pub order : y .exp ≤ x .exp
 
--- the value of an operation on two patterns, rounded
+-- an exact value, rounded; none where there is none
 abbrev pub exactly : Way → Exact → Option ℤ
 exactly way (Value x) = exact way x
 exactly way Unknown = none
 
+-- it can be rounded
 abbrev pub Safe : Exact → Type 0
 Safe (Value x) = Small (x .sig) (x .exp)
 Safe Unknown = Unit {0}
 
+-- r has the three roundings of the operation op on the patterns a and b, and can be rounded
 pub record Rounds (op : Way → ℤ → ℤ → Option ℤ) (a b : ℕ) (r : Exact) : Type 0 where
   pub downs : exactly down r ≡ with₂ (op down) a b
   pub ups : exactly up r ≡ with₂ (op up) a b
   pub nears : exactly near r ≡ with₂ (op near) a b
   pub safe : Safe r
 
--- ---- the corner products of a, b and c, d, as patterns: the least of four, the greatest of four
+-- ---- r has the patterns of the least of the four products of a, b and c, d, each rounded down, and of the greatest, each rounded up
 pub record CornersOf (a b c d : Parts) (r : Both) : Type 0 where
   pub lower : r .down ≡ holdDown (all₄ least₄ (exact₂ down a c) (exact₂ down a d) (exact₂ down b c) (exact₂ down b d))
   pub upper : r .up ≡ holdUp (all₄ greatest₄ (exact₂ up a c) (exact₂ up a d) (exact₂ up b c) (exact₂ up b d))
 
--- the sign of a number
+-- ---- a sum: the sign of a number
 abbrev pub sgn : ℤ → ℤ
 sgn (pos zero) = pos 0
 sgn (pos (suc n)) = pos 1
 sgn (negsuc n) = negsuc 0
 
--- two summands in the order of their exponents
+-- two summands in the order of their exponents, the one with the larger exponent first
 abbrev pub choose : Bool → Parts → Parts → Parts
 choose true x y = y
 choose false x y = x

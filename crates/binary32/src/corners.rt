@@ -13,7 +13,7 @@ use crate::parts::Parts;
 use crate::parts::both_finite;
 use crate::parts::decode;
 
-// Of a, b × c, d.
+// Of the products of a and b with c and d: the least rounded down, the greatest rounded up.
 fn of_parts(a: Parts, b: Parts, c: Parts, d: Parts) -> Both
     requires { ⌜ Short a × Short b × Short c × Short d ⌝ }
     ensures { λ r. ⌜ CornersOf a b c d r ⌝ }
@@ -28,6 +28,7 @@ fn of_parts(a: Parts, b: Parts, c: Parts, d: Parts) -> Both
     }
 }
 
+// Whether all four patterns stand for numbers.
 fn all_finite(al: u32, au: u32, bl: u32, bu: u32) -> bool
     ensures { λ r. ⌜ r ≡ cond (finites al au) (finites bl bu) false ⌝ }
 {

@@ -15,7 +15,7 @@ pub enum Exact {
     Unknown,
 }
 
-// x × y
+// x × y, exactly.
 pub fn times(x: Parts, y: Parts) -> Parts
     requires { ⌜ Factors x y ⌝ }
     ensures { λ r. ⌜ ProductIs x y r ⌝ }
@@ -26,6 +26,7 @@ pub fn times(x: Parts, y: Parts) -> Parts
     }
 }
 
+// -1, 0 or 1.
 fn sign(x: i64) -> i64
     ensures { λ r. ⌜ r ≡ sgn x ⌝ }
 {
@@ -64,7 +65,7 @@ fn joined(x: Parts, y: Parts, lift: u32) -> Parts
     }
 }
 
-// The two in the order of their exponents, the larger first.
+// Of the two the one with the larger exponent; x where they are equal.
 fn first(x: Parts, y: Parts) -> Parts
     ensures { λ r. ⌜ r ≡ earlier x y ⌝ }
 {
@@ -74,6 +75,7 @@ fn first(x: Parts, y: Parts) -> Parts
     x
 }
 
+// The other one.
 fn second(x: Parts, y: Parts) -> Parts
     ensures { λ r. ⌜ r ≡ later x y ⌝ }
 {
@@ -83,7 +85,7 @@ fn second(x: Parts, y: Parts) -> Parts
     y
 }
 
-// (x + y) × 2^(lift - 149) units
+// (x + y) × 2^(lift - 149) units.
 fn plus(x: Parts, y: Parts, lift: u32) -> Parts
     requires { ⌜ Summands x y lift ⌝ }
     ensures { λ r. ⌜ SumIs x y lift r ⌝ }
@@ -91,6 +93,7 @@ fn plus(x: Parts, y: Parts, lift: u32) -> Parts
     joined(first(x, y), second(x, y), lift)
 }
 
+// a × b, where both patterns stand for numbers.
 pub fn product(a: u32, b: u32) -> Exact
     ensures { λ r. ⌜ Rounds mul a b r ⌝ }
 {
@@ -100,7 +103,7 @@ pub fn product(a: u32, b: u32) -> Exact
     Exact::Unknown
 }
 
-// a + b with lift 149, their midpoint with 148.
+// (a + b) × 2^(lift - 149), where both patterns stand for numbers: with lift 149 their sum, with 148 their midpoint.
 pub fn total(a: u32, b: u32, lift: u32) -> Exact
     requires { ⌜ lift ≤ 149 ⌝ }
     ensures { λ r. ⌜ Rounds (lifted lift) a b r ⌝ }

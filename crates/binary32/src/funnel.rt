@@ -7,17 +7,19 @@
 //     r = 2^n / 2                  c       c + 1    c or c + 1, the even one
 //     2^n / 2 < r                  c       c + 1    c + 1
 ghost use mathlib.Core.Path.{_≡_};
-ghost use Prim.Native.Nat.{_*_, _^_, _≤_, _<_, min};
+ghost use Prim.Native.Nat.{_^_, _≤_, _<_};
 ghost use lib.IntN.{pos, natAbs, _+ℤ_, _*ℤ_};
 ghost use lib.Signed.{shrZ};
 ghost use Rattle.rounding.specs.Rounding.{up, down, near};
 ghost use Rattle.rounding.specs.Quotient.{bit, rem};
 ghost use Rattle.binary32.specs.Number.{holdDown, holdUp, holdNear};
 ghost use Rattle.binary32.specs.Steps.{packed, Split, IsCut, Small, exact, BothOf};
+use crate::Binary32;
 use crate::partial::Both;
 use crate::parts::Parts;
 use crate::parts::magnitude;
 use crate::parts::power;
+use crate::parts::smaller;
 
 // The significands of the three roundings, each to be shifted up by the same number of places.
 pub struct Ways {
@@ -25,12 +27,6 @@ pub struct Ways {
     pub up: i64,
     pub near: i64,
     pub shift: u32,
-}
-
-fn least(a: u32, b: u32) -> u32
-    ensures { λ r. ⌜ r ≡ min a b ⌝ }
-{
-    if a <= b { a } else { b }
 }
 
 // c, or the next above it.
@@ -75,7 +71,7 @@ fn split(w: i64, n: u32, shift: u32) -> Ways
     }
 }
 
-// s × 2^e × 2^-149 units, rounded three ways: s is first shifted up to 61 digits, so that the shift down is never negative.
+// s × 2^e × 2^-149 units, rounded three ways (173 is 149 + 24, 210 is 149 + 61). First s is shifted up to 61 digits, so that the shift down is never negative.
 fn cut(s: i64, e: u32) -> Ways
     requires { ⌜ Small s e ⌝ }
     ensures { λ r. ⌜ IsCut (s *ℤ pos (2 ^ e)) r ⌝ }
@@ -90,8 +86,8 @@ fn cut(s: i64, e: u32) -> Ways
     }
     let zeros = u64::leading_zeros(magnitude(s));
     let top = 64 - zeros + e;
-    let kept = least(top, 173);
-    split(s * power(zeros - 3), least(210 - kept, 62), top - kept)
+    let kept = smaller(top, 173);
+    split(s * power(zeros - 3), smaller(210 - kept, 62), top - kept)
 }
 
 // The pattern of c × 2^shift units; else one of the two patterns for a value that is too large.
@@ -112,14 +108,16 @@ fn pack(c: i64, shift: u32, below: u32, above: u32) -> u32
     above
 }
 
+// x, rounded down: minus infinity below all numbers, the largest number above.
 pub fn round_down(x: Parts) -> u32
     requires { ⌜ Small (x .sig) (x .exp) ⌝ }
     ensures { λ r. ⌜ r ≡ holdDown (exact down x) ⌝ }
 {
     let c = cut(x.sig, x.exp);
-    pack(c.down, c.shift, 0xFF80_0000, 0x7F7F_FFFF)
+    pack(c.down, c.shift, 0xFF80_0000, Binary32::LARGEST)
 }
 
+// x, rounded up: infinity above all numbers, the least number below.
 pub fn round_up(x: Parts) -> u32
     requires { ⌜ Small (x .sig) (x .exp) ⌝ }
     ensures { λ r. ⌜ r ≡ holdUp (exact up x) ⌝ }
@@ -128,6 +126,7 @@ pub fn round_up(x: Parts) -> u32
     pack(c.up, c.shift, 0xFF7F_FFFF, 0x7F80_0000)
 }
 
+// x, rounded to nearest: infinity from half a step beyond the largest number on.
 pub fn round_near(x: Parts) -> u32
     requires { ⌜ Small (x .sig) (x .exp) ⌝ }
     ensures { λ r. ⌜ r ≡ holdNear (exact near x) ⌝ }
@@ -136,12 +135,13 @@ pub fn round_near(x: Parts) -> u32
     pack(c.near, c.shift, 0x7F80_0000, 0x7F80_0000)
 }
 
+// x, rounded down and rounded up, from one shift.
 pub fn round_both(x: Parts) -> Both
     requires { ⌜ Small (x .sig) (x .exp) ⌝ }
     ensures { λ r. ⌜ BothOf (exact down x) (exact up x) r ⌝ }
 {
     let c = cut(x.sig, x.exp);
-    let down = pack(c.down, c.shift, 0xFF80_0000, 0x7F7F_FFFF);
+    let down = pack(c.down, c.shift, 0xFF80_0000, Binary32::LARGEST);
     let up = pack(c.up, c.shift, 0xFF7F_FFFF, 0x7F80_0000);
     Both { down: down, up: up }
 }

@@ -6,6 +6,7 @@ ghost use Rattle.binary32.specs.Operations.{addDown, addUp, addNear, sub
 pub mod corners;
 mod exact;
 mod funnel;
+mod hold;
 pub mod order;
 pub mod partial;
 mod parts;
@@ -43,72 +44,84 @@ fn checked(a: u32, b: u32, r: u32) -> Rounded
     Rounded::Overflow
 }
 
+// a + b, rounded down.
 pub fn add_down(a: u32, b: u32) -> Rounded
     ensures { λ r. ⌜ r ≡ addDown a b ⌝ }
 {
     checked(a, b, partial::add_down(a, b))
 }
 
+// a + b, rounded up.
 pub fn add_up(a: u32, b: u32) -> Rounded
     ensures { λ r. ⌜ r ≡ addUp a b ⌝ }
 {
     checked(a, b, partial::add_up(a, b))
 }
 
+// a + b, rounded to nearest.
 pub fn add_near(a: u32, b: u32) -> Rounded
     ensures { λ r. ⌜ r ≡ addNear a b ⌝ }
 {
     checked(a, b, partial::add_near(a, b))
 }
 
+// a - b, rounded down.
 pub fn sub_down(a: u32, b: u32) -> Rounded
     ensures { λ r. ⌜ r ≡ subDown a b ⌝ }
 {
     checked(a, b, partial::sub_down(a, b))
 }
 
+// a - b, rounded up.
 pub fn sub_up(a: u32, b: u32) -> Rounded
     ensures { λ r. ⌜ r ≡ subUp a b ⌝ }
 {
     checked(a, b, partial::sub_up(a, b))
 }
 
+// a - b, rounded to nearest.
 pub fn sub_near(a: u32, b: u32) -> Rounded
     ensures { λ r. ⌜ r ≡ subNear a b ⌝ }
 {
     checked(a, b, partial::sub_near(a, b))
 }
 
+// a × b, rounded down.
 pub fn mul_down(a: u32, b: u32) -> Rounded
     ensures { λ r. ⌜ r ≡ mulDown a b ⌝ }
 {
     checked(a, b, partial::mul_down(a, b))
 }
 
+// a × b, rounded up.
 pub fn mul_up(a: u32, b: u32) -> Rounded
     ensures { λ r. ⌜ r ≡ mulUp a b ⌝ }
 {
     checked(a, b, partial::mul_up(a, b))
 }
 
+// a × b, rounded to nearest.
 pub fn mul_near(a: u32, b: u32) -> Rounded
     ensures { λ r. ⌜ r ≡ mulNear a b ⌝ }
 {
     checked(a, b, partial::mul_near(a, b))
 }
 
+// The exact midpoint of a and b, rounded down.
 pub fn midpoint_down(a: u32, b: u32) -> Rounded
     ensures { λ r. ⌜ r ≡ midpointDown a b ⌝ }
 {
     checked(a, b, partial::midpoint_down(a, b))
 }
 
+// The exact midpoint of a and b, rounded up.
 pub fn midpoint_up(a: u32, b: u32) -> Rounded
     ensures { λ r. ⌜ r ≡ midpointUp a b ⌝ }
 {
     checked(a, b, partial::midpoint_up(a, b))
 }
 
+// The exact midpoint of a and b, rounded to nearest.
 pub fn midpoint_near(a: u32, b: u32) -> Rounded
     ensures { λ r. ⌜ r ≡ midpointNear a b ⌝ }
 {

@@ -20,7 +20,7 @@ pub fn magnitude(p: u32) -> u32
     p % 0x8000_0000
 }
 
-// The place of a pattern among all.
+// The place of a pattern among all, both zeros at 0.
 fn key(p: u32) -> i64
     ensures { λ r. ⌜ r ≡ keyOf p ⌝ }
 {
@@ -28,19 +28,21 @@ fn key(p: u32) -> i64
     if p < 0x8000_0000 { m } else { -m }
 }
 
-// a ≤ b
+// Whether a's number is at most b's.
 pub fn at_most(a: u32, b: u32) -> bool
     ensures { λ r. ⌜ r ≡ atMost a b ⌝ }
 {
     key(a) <= key(b)
 }
 
+// The pattern of the lesser number; a where they are equal.
 pub fn least(a: u32, b: u32) -> u32
     ensures { λ r. ⌜ r ≡ leastOf a b ⌝ }
 {
     if at_most(a, b) { a } else { b }
 }
 
+// The pattern of the greater number; b where they are equal.
 pub fn greatest(a: u32, b: u32) -> u32
     ensures { λ r. ⌜ r ≡ greatestOf a b ⌝ }
 {

@@ -5,14 +5,14 @@ ghost use mathlib.Core.Path.{_≡_};
 ghost use Rattle.rounding.specs.Rounding.{up, down, near};
 ghost use Rattle.binary32.specs.Number.{holdDown, holdUp, holdNear};
 ghost use Rattle.binary32.specs.Operations.{add, sub, mul, midpoint, with₂};
-ghost use Rattle.binary32.specs.Steps.{exactly, BothOf, Safe};
-use crate::exact::Exact;
+ghost use Rattle.binary32.specs.Steps.{BothOf};
+use crate::Binary32;
 use crate::exact::product;
 use crate::exact::total;
-use crate::funnel::round_both;
-use crate::funnel::round_down;
-use crate::funnel::round_near;
-use crate::funnel::round_up;
+use crate::hold::both_of;
+use crate::hold::down_of;
+use crate::hold::near_of;
+use crate::hold::up_of;
 use crate::order::negate;
 
 // Both directed roundings of one exact value, each a pattern that holds a number or none.
@@ -21,128 +21,98 @@ pub struct Both {
     pub up: u32,
 }
 
-fn down_of(x: Exact) -> u32
-    requires { ⌜ Safe x ⌝ }
-    ensures { λ r. ⌜ r ≡ holdDown (exactly down x) ⌝ }
-{
-    match x {
-        Exact::Value(p) => round_down(p),
-        Exact::Unknown => 0xFF80_0000,
-    }
-}
-
-fn up_of(x: Exact) -> u32
-    requires { ⌜ Safe x ⌝ }
-    ensures { λ r. ⌜ r ≡ holdUp (exactly up x) ⌝ }
-{
-    match x {
-        Exact::Value(p) => round_up(p),
-        Exact::Unknown => 0x7F80_0000,
-    }
-}
-
-fn near_of(x: Exact) -> u32
-    requires { ⌜ Safe x ⌝ }
-    ensures { λ r. ⌜ r ≡ holdNear (exactly near x) ⌝ }
-{
-    match x {
-        Exact::Value(p) => round_near(p),
-        Exact::Unknown => 0x7F80_0000,
-    }
-}
-
-fn both_of(x: Exact) -> Both
-    requires { ⌜ Safe x ⌝ }
-    ensures { λ r. ⌜ BothOf (exactly down x) (exactly up x) r ⌝ }
-{
-    match x {
-        Exact::Value(p) => round_both(p),
-        Exact::Unknown => Both {
-            down: 0xFF80_0000,
-            up: 0x7F80_0000,
-        },
-    }
-}
-
+// a × b, rounded down.
 pub fn mul_down(a: u32, b: u32) -> u32
     ensures { λ r. ⌜ r ≡ holdDown (with₂ (mul down) a b) ⌝ }
 {
     down_of(product(a, b))
 }
 
+// a × b, rounded up.
 pub fn mul_up(a: u32, b: u32) -> u32
     ensures { λ r. ⌜ r ≡ holdUp (with₂ (mul up) a b) ⌝ }
 {
     up_of(product(a, b))
 }
 
+// a × b, rounded to nearest.
 pub fn mul_near(a: u32, b: u32) -> u32
     ensures { λ r. ⌜ r ≡ holdNear (with₂ (mul near) a b) ⌝ }
 {
     near_of(product(a, b))
 }
 
+// a + b, rounded down.
 pub fn add_down(a: u32, b: u32) -> u32
     ensures { λ r. ⌜ r ≡ holdDown (with₂ (add down) a b) ⌝ }
 {
-    down_of(total(a, b, 149))
+    down_of(total(a, b, Binary32::SMALLEST_EXPONENT))
 }
 
+// a + b, rounded up.
 pub fn add_up(a: u32, b: u32) -> u32
     ensures { λ r. ⌜ r ≡ holdUp (with₂ (add up) a b) ⌝ }
 {
-    up_of(total(a, b, 149))
+    up_of(total(a, b, Binary32::SMALLEST_EXPONENT))
 }
 
+// a + b, rounded to nearest.
 pub fn add_near(a: u32, b: u32) -> u32
     ensures { λ r. ⌜ r ≡ holdNear (with₂ (add near) a b) ⌝ }
 {
-    near_of(total(a, b, 149))
+    near_of(total(a, b, Binary32::SMALLEST_EXPONENT))
 }
 
+// The exact midpoint of a and b, rounded down.
 pub fn midpoint_down(a: u32, b: u32) -> u32
     ensures { λ r. ⌜ r ≡ holdDown (with₂ (midpoint down) a b) ⌝ }
 {
-    down_of(total(a, b, 148))
+    down_of(total(a, b, Binary32::SMALLEST_EXPONENT - 1))
 }
 
+// The exact midpoint of a and b, rounded up.
 pub fn midpoint_up(a: u32, b: u32) -> u32
     ensures { λ r. ⌜ r ≡ holdUp (with₂ (midpoint up) a b) ⌝ }
 {
-    up_of(total(a, b, 148))
+    up_of(total(a, b, Binary32::SMALLEST_EXPONENT - 1))
 }
 
+// The exact midpoint of a and b, rounded to nearest.
 pub fn midpoint_near(a: u32, b: u32) -> u32
     ensures { λ r. ⌜ r ≡ holdNear (with₂ (midpoint near) a b) ⌝ }
 {
-    near_of(total(a, b, 148))
+    near_of(total(a, b, Binary32::SMALLEST_EXPONENT - 1))
 }
 
-// Down and up of the same exact value.
+// a × b, rounded down and rounded up.
 pub fn mul_both(a: u32, b: u32) -> Both
     ensures { λ r. ⌜ BothOf (with₂ (mul down) a b) (with₂ (mul up) a b) r ⌝ }
 {
     both_of(product(a, b))
 }
 
+// a + b, rounded down and rounded up.
 pub fn add_both(a: u32, b: u32) -> Both
     ensures { λ r. ⌜ BothOf (with₂ (add down) a b) (with₂ (add up) a b) r ⌝ }
 {
-    both_of(total(a, b, 149))
+    both_of(total(a, b, Binary32::SMALLEST_EXPONENT))
 }
 
+// a - b, rounded down.
 pub fn sub_down(a: u32, b: u32) -> u32
     ensures { λ r. ⌜ r ≡ holdDown (with₂ (sub down) a b) ⌝ }
 {
     add_down(a, negate(b))
 }
 
+// a - b, rounded up.
 pub fn sub_up(a: u32, b: u32) -> u32
     ensures { λ r. ⌜ r ≡ holdUp (with₂ (sub up) a b) ⌝ }
 {
     add_up(a, negate(b))
 }
 
+// a - b, rounded to nearest.
 pub fn sub_near(a: u32, b: u32) -> u32
     ensures { λ r. ⌜ r ≡ holdNear (with₂ (sub near) a b) ⌝ }
 {

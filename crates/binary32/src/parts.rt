@@ -1,10 +1,11 @@
-// A pattern taken apart: its number is sig × 2^exp units of 2^-149.
+// A pattern taken apart, and small steps on the machine's numbers.
 ghost use mathlib.Core.Path.{_≡_};
-ghost use Prim.Native.Nat.{_^_, _≤_, _<_};
+ghost use Prim.Native.Nat.{_^_, _≤_, _<_, min};
 ghost use lib.IntN.{pos, natAbs};
 ghost use Rattle.binary32.specs.Number.{Finite, finite, finites, signedBy};
 ghost use Rattle.binary32.specs.Steps.{Decoded};
 
+// sig × 2^exp: of a pattern's number in units of 2^-149, of an exact product or sum in 2^-149 of a unit.
 pub struct Parts {
     pub sig: i64,
     pub exp: u32,
@@ -17,6 +18,7 @@ pub fn is_finite(p: u32) -> bool
     p % 0x8000_0000 < 0x7F80_0000
 }
 
+// Whether both patterns stand for numbers.
 pub fn both_finite(a: u32, b: u32) -> bool
     ensures { λ r. ⌜ r ≡ finites a b ⌝ }
 {
@@ -24,6 +26,13 @@ pub fn both_finite(a: u32, b: u32) -> bool
         return false;
     }
     is_finite(b)
+}
+
+// The smaller of two.
+pub fn smaller(a: u32, b: u32) -> u32
+    ensures { λ r. ⌜ r ≡ min a b ⌝ }
+{
+    if a <= b { a } else { b }
 }
 
 // 2^n
@@ -34,6 +43,7 @@ pub fn power(n: u32) -> i64
     (1u64 << n) as i64
 }
 
+// |x|
 pub fn magnitude(x: i64) -> u64
     requires { ⌜ natAbs x < 2 ^ 62 ⌝ }
     ensures { λ r. ⌜ r ≡ natAbs x ⌝ }
@@ -41,6 +51,7 @@ pub fn magnitude(x: i64) -> u64
     if x < 0 { (-x) as u64 } else { x as u64 }
 }
 
+// m, or -m where neg is set.
 fn with_sign(neg: bool, m: u64) -> i64
     requires { ⌜ m < 2 ^ 62 ⌝ }
     ensures { λ r. ⌜ r ≡ signedBy neg m ⌝ }
@@ -49,6 +60,7 @@ fn with_sign(neg: bool, m: u64) -> i64
     if neg { -s } else { s }
 }
 
+// The number of a pattern: its fraction, with the leading digit where the exponent field is not 0, and its exponent.
 pub fn decode(p: u32) -> Parts
     requires { ⌜ Finite p ⌝ }
     ensures { λ r. ⌜ Decoded p r ⌝ }

@@ -96,7 +96,7 @@ module _ (A B : Matrix) (p q : ℕ) (fa : faultAt A p ≡ Fine) (fb : faultAt B 
 
   four : (way : Way) (f : ℤ → ℤ → ℤ → ℤ → ℤ)
       → all₄ f (way binary32 (2 ^ 149) (valueOf (lowerAt A p) *ℤ valueOf (lowerAt B q))) (way binary32 (2 ^ 149) (valueOf (lowerAt A p) *ℤ valueOf (upperAt B q)))
-        (way binary32 (2 ^ 149) (valueOf (upperAt A p) *ℤ valueOf (lowerAt B q))) (way binary32 (2 ^ 149) (valueOf (upperAt A p) *ℤ valueOf (upperAt B q)))
+      (way binary32 (2 ^ 149) (valueOf (upperAt A p) *ℤ valueOf (lowerAt B q))) (way binary32 (2 ^ 149) (valueOf (upperAt A p) *ℤ valueOf (upperAt B q)))
       ≡ all₄ f (with₂ (mul way) (lowerAt A p) (lowerAt B q)) (with₂ (mul way) (lowerAt A p) (upperAt B q)) (with₂ (mul way) (upperAt A p) (lowerAt B q)) (with₂ (mul way) (upperAt A p) (upperAt B q))
   four way f =
       ap₂ (λ w x. all₄ f w x (way binary32 (2 ^ 149) (valueOf (upperAt A p) *ℤ valueOf (lowerAt B q))) (way binary32 (2 ^ 149) (valueOf (upperAt A p) *ℤ valueOf (upperAt B q)))) (product way (lowerAt A p) (lowerAt B q) al bl) (product way (lowerAt A p) (upperAt B q) al bu)

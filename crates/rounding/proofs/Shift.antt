@@ -74,7 +74,7 @@ unfolding expo
 ex-shr f s k = ap (λ x. x - f .prec) (size-shr s k)
 
 -- ---- a common factor is taken out: N = s * u, and the step is m * u
-ceil-same : (a b c d : ℕ) → 0 < b → 0 < d → a * d ≡ c * b → ceil a b ≡ ceil c d
+pub ceil-same : (a b c d : ℕ) → 0 < b → 0 < d → a * d ≡ c * b → ceil a b ≡ ceil c d
 ceil-same a b c d B D e = le-antisymm (at-most a b c d B D e) (at-most c d a b D B (sym e))
   where
     at-most : (a b c d : ℕ) → 0 < b → 0 < d → a * d ≡ c * b → ceil a b ≤ ceil c d

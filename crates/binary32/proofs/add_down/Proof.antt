@@ -1,3 +1,4 @@
+-- `binary32::add_down` meets its contract: `checked` turns what `partial::add_down` holds, a number or none, into the answer (`checked-is`).
 use mathlib.Core.Path.{refl, ap, _∙_}
 use lib.Dec.{lit<}
 use Rattle.rounding.specs.Rounding.{down}
@@ -17,7 +18,8 @@ checked-requires c κs = search needs
 returns : tie.Need-returns
 returns c =
     let s = c .before .before .args in
-    c .checked .ensures ∙ ap (checkedOf (s .a) (s .b)) (c .before .add-down .ensures) ∙ checked-is (add down) (s .a) (s .b) 0xFF800000 refl (down-fits 1 (lit< tt) _)
+    c .checked .ensures ∙ ap (checkedOf (s .a) (s .b)) (c .before .add-down .ensures)
+    ∙ checked-is (add down) (s .a) (s .b) 0xFF800000 refl (down-fits 1 (lit< tt) _)
 
 pub add-down-spec : {M : Type 1} → statement M
 add-down-spec = tie.close (tie.spec add-down-requires checked-requires returns)

@@ -1,3 +1,4 @@
+-- `binary32::add_near` meets its contract: `checked` turns what `partial::add_near` holds, a number or none, into the answer (`checked-is`).
 use mathlib.Core.Path.{refl, ap, _∙_}
 use lib.Dec.{lit<}
 use Rattle.rounding.specs.Rounding.{near}
@@ -17,7 +18,8 @@ checked-requires c κs = search needs
 returns : tie.Need-returns
 returns c =
     let s = c .before .before .args in
-    c .checked .ensures ∙ ap (checkedOf (s .a) (s .b)) (c .before .add-near .ensures) ∙ checked-is (add near) (s .a) (s .b) 0x7F800000 refl (near-fits 1 (lit< tt) _)
+    c .checked .ensures ∙ ap (checkedOf (s .a) (s .b)) (c .before .add-near .ensures)
+    ∙ checked-is (add near) (s .a) (s .b) 0x7F800000 refl (near-fits 1 (lit< tt) _)
 
 pub add-near-spec : {M : Type 1} → statement M
 add-near-spec = tie.close (tie.spec add-near-requires checked-requires returns)

@@ -1,8 +1,9 @@
-use mathlib.Core.Path.{sym, ap, ap₂, _∙_}
-use mathlib.Core.Bool.{cond}
+-- `binary32::checked` meets its contract: its two tests are those of `checkedOf`.
+use mathlib.Core.Path.{_≡_, sym, ap, ap₂, _∙_}
+use mathlib.Core.Bool.{true, false, cond}
 use borrow.Author.Tests.{not-true, not-false}
 use Rattle.binary32.specs.declared.Rounded.the-variants.{Number, NotFinite, Overflow}
-use Rattle.binary32.specs.Number.{finite}
+use Rattle.binary32.specs.Number.{finite, finites}
 use Rattle.binary32.specs.Operations.{checkedOf}
 use borrow.Author.Needs.{needs}
 use Rattle.binary32.proofs.checked.Statement.{statement}
@@ -15,7 +16,9 @@ returns : tie.Need-returns
 unfolding checkedOf
 returns c =
     let s = c .before .before .args in
-    sym (ap (λ t. cond t (cond (finite (s .r)) (Number (s .r)) Overflow) NotFinite) (sym (c .before .both-finite .ensures) ∙ not-true _ (c .if1 .taken)))
+    let r = s .r in
+    let some-not : finites (s .a) (s .b) ≡ false = sym (c .before .both-finite .ensures) ∙ not-true _ (c .if1 .taken) in
+    sym (ap (λ t. cond t (cond (finite r) (Number r) Overflow) NotFinite) some-not)
 
 is-finite-requires : tie.Need-is-finite-requires
 is-finite-requires c κs = search needs
@@ -23,16 +26,22 @@ is-finite-requires c κs = search needs
 returns-2 : tie.Need-returns-2
 unfolding checkedOf
 returns-2 c =
-    let k = c .before .before .before in
-    let r = k .before .args .r in
-    sym (ap₂ (λ t u. cond t (cond u (Number r) Overflow) NotFinite) (sym (k .both-finite .ensures) ∙ not-false _ (c .before .before .if1 .left)) (sym (c .before .is-finite .ensures) ∙ c .if2 .taken))
+    let tested = c .before .before .before in
+    let s = tested .before .args in
+    let r = s .r in
+    let both : finites (s .a) (s .b) ≡ true = sym (tested .both-finite .ensures) ∙ not-false _ (c .before .before .if1 .left) in
+    let yes : finite r ≡ true = sym (c .before .is-finite .ensures) ∙ c .if2 .taken in
+    sym (ap₂ (λ t u. cond t (cond u (Number r) Overflow) NotFinite) both yes)
 
 returns-3 : tie.Need-returns-3
 unfolding checkedOf
 returns-3 c =
-    let k = c .before .before .before in
-    let r = k .before .args .r in
-    sym (ap₂ (λ t u. cond t (cond u (Number r) Overflow) NotFinite) (sym (k .both-finite .ensures) ∙ not-false _ (c .before .before .if1 .left)) (sym (c .before .is-finite .ensures) ∙ c .if2 .left))
+    let tested = c .before .before .before in
+    let s = tested .before .args in
+    let r = s .r in
+    let both : finites (s .a) (s .b) ≡ true = sym (tested .both-finite .ensures) ∙ not-false _ (c .before .before .if1 .left) in
+    let no : finite r ≡ false = sym (c .before .is-finite .ensures) ∙ c .if2 .left in
+    sym (ap₂ (λ t u. cond t (cond u (Number r) Overflow) NotFinite) both no)
 
 pub checked-spec : {M : Type 1} → statement M
 checked-spec =

@@ -1,3 +1,4 @@
+-- `binary32::midpoint_down` meets its contract: `checked` turns what `partial::midpoint_down` holds, a number or none, into the answer (`checked-is`).
 use mathlib.Core.Path.{refl, ap, _∙_}
 use lib.Dec.{lit<}
 use Rattle.rounding.specs.Rounding.{down}
@@ -17,7 +18,8 @@ checked-requires c κs = search needs
 returns : tie.Need-returns
 returns c =
     let s = c .before .before .args in
-    c .checked .ensures ∙ ap (checkedOf (s .a) (s .b)) (c .before .midpoint-down .ensures) ∙ checked-is (midpoint down) (s .a) (s .b) 0xFF800000 refl (down-fits 2 (lit< tt) _)
+    c .checked .ensures ∙ ap (checkedOf (s .a) (s .b)) (c .before .midpoint-down .ensures)
+    ∙ checked-is (midpoint down) (s .a) (s .b) 0xFF800000 refl (down-fits 2 (lit< tt) _)
 
 pub midpoint-down-spec : {M : Type 1} → statement M
 midpoint-down-spec = tie.close (tie.spec midpoint-down-requires checked-requires returns)

@@ -1,3 +1,4 @@
+-- `binary32::midpoint_up` meets its contract: `checked` turns what `partial::midpoint_up` holds, a number or none, into the answer (`checked-is`).
 use mathlib.Core.Path.{refl, ap, _∙_}
 use lib.Dec.{lit<}
 use Rattle.rounding.specs.Rounding.{up}
@@ -17,7 +18,8 @@ checked-requires c κs = search needs
 returns : tie.Need-returns
 returns c =
     let s = c .before .before .args in
-    c .checked .ensures ∙ ap (checkedOf (s .a) (s .b)) (c .before .midpoint-up .ensures) ∙ checked-is (midpoint up) (s .a) (s .b) 0x7F800000 refl (up-fits 2 (lit< tt) _)
+    c .checked .ensures ∙ ap (checkedOf (s .a) (s .b)) (c .before .midpoint-up .ensures)
+    ∙ checked-is (midpoint up) (s .a) (s .b) 0x7F800000 refl (up-fits 2 (lit< tt) _)
 
 pub midpoint-up-spec : {M : Type 1} → statement M
 midpoint-up-spec = tie.close (tie.spec midpoint-up-requires checked-requires returns)

@@ -1,3 +1,4 @@
+-- `binary32::mul_down` meets its contract: `checked` turns what `partial::mul_down` holds, a number or none, into the answer (`checked-is`).
 use mathlib.Core.Path.{refl, ap, _∙_}
 use Prim.Native.Nat.{_^_}
 use lib.Pow.{pow-pos}
@@ -18,7 +19,8 @@ checked-requires c κs = search needs
 returns : tie.Need-returns
 returns c =
     let s = c .before .before .args in
-    c .checked .ensures ∙ ap (checkedOf (s .a) (s .b)) (c .before .mul-down .ensures) ∙ checked-is (mul down) (s .a) (s .b) 0xFF800000 refl (down-fits (2 ^ 149) (pow-pos 149) _)
+    c .checked .ensures ∙ ap (checkedOf (s .a) (s .b)) (c .before .mul-down .ensures)
+    ∙ checked-is (mul down) (s .a) (s .b) 0xFF800000 refl (down-fits (2 ^ 149) (pow-pos 149) _)
 
 pub mul-down-spec : {M : Type 1} → statement M
 mul-down-spec = tie.close (tie.spec mul-down-requires checked-requires returns)

@@ -1,3 +1,4 @@
+-- `binary32::mul_up` meets its contract: `checked` turns what `partial::mul_up` holds, a number or none, into the answer (`checked-is`).
 use mathlib.Core.Path.{refl, ap, _∙_}
 use Prim.Native.Nat.{_^_}
 use lib.Pow.{pow-pos}
@@ -18,7 +19,8 @@ checked-requires c κs = search needs
 returns : tie.Need-returns
 returns c =
     let s = c .before .before .args in
-    c .checked .ensures ∙ ap (checkedOf (s .a) (s .b)) (c .before .mul-up .ensures) ∙ checked-is (mul up) (s .a) (s .b) 0x7F800000 refl (up-fits (2 ^ 149) (pow-pos 149) _)
+    c .checked .ensures ∙ ap (checkedOf (s .a) (s .b)) (c .before .mul-up .ensures)
+    ∙ checked-is (mul up) (s .a) (s .b) 0x7F800000 refl (up-fits (2 ^ 149) (pow-pos 149) _)
 
 pub mul-up-spec : {M : Type 1} → statement M
 mul-up-spec = tie.close (tie.spec mul-up-requires checked-requires returns)

@@ -1,3 +1,4 @@
+-- `binary32::sub_down` meets its contract: `checked` turns what `partial::sub_down` holds, a number or none, into the answer (`checked-is`).
 use mathlib.Core.Path.{refl, ap, _∙_}
 use lib.Dec.{lit<}
 use Rattle.rounding.specs.Rounding.{down}
@@ -17,7 +18,8 @@ checked-requires c κs = search needs
 returns : tie.Need-returns
 returns c =
     let s = c .before .before .args in
-    c .checked .ensures ∙ ap (checkedOf (s .a) (s .b)) (c .before .sub-down .ensures) ∙ checked-is (sub down) (s .a) (s .b) 0xFF800000 refl (down-fits 1 (lit< tt) _)
+    c .checked .ensures ∙ ap (checkedOf (s .a) (s .b)) (c .before .sub-down .ensures)
+    ∙ checked-is (sub down) (s .a) (s .b) 0xFF800000 refl (down-fits 1 (lit< tt) _)
 
 pub sub-down-spec : {M : Type 1} → statement M
 sub-down-spec = tie.close (tie.spec sub-down-requires checked-requires returns)

@@ -1,3 +1,4 @@
+-- `binary32::corners::all_finite` meets its contract: its test and its call are the two of the definition.
 use mathlib.Core.Path.{sym, ap, _∙_}
 use mathlib.Core.Bool.{cond, false}
 use borrow.Author.Tests.{not-true, not-false}
@@ -19,9 +20,10 @@ both-finite-requires-2 c κs = search needs
 
 returns-2 : tie.Need-returns-2
 returns-2 c =
-    let k = c .before .before in
-    let s = k .before .args in
-    c .both-finite2 .ensures ∙ sym (ap (λ t. cond t (finites (s .bl) (s .bu)) false) (sym (k .both-finite .ensures) ∙ not-false _ (c .before .if1 .left)))
+    let tested = c .before .before in
+    let s = tested .before .args in
+    c .both-finite2 .ensures
+    ∙ sym (ap (λ t. cond t (finites (s .bl) (s .bu)) false) (sym (tested .both-finite .ensures) ∙ not-false _ (c .before .if1 .left)))
 
 pub all-finite-spec : {M : Type 1} → statement M
 all-finite-spec =

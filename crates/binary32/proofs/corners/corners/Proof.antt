@@ -1,3 +1,5 @@
+-- `binary32::corners::corners` meets its contract: all four patterns are finite, and `of_parts` finds both ends (`corners-some`), or one is not
+-- and a corner product is refused (`corners-none`).
 use mathlib.Core.Path.{_≡_, sym, _∙_}
 use mathlib.Core.Bool.{true, false, cond}
 use borrow.Author.Tests.{not-true, not-false}
@@ -33,13 +35,19 @@ decode-requires : tie.Need-decode-requires
 decode-requires c κs = finite-is (S c .args .al) (finites-first (S c .args .al) (S c .args .au) (first c))
 
 decode-requires-2 : tie.Need-decode-requires-2
-decode-requires-2 c κs = let k = c .before in finite-is (S k .args .au) (finites-second (S k .args .al) (S k .args .au) (first k))
+decode-requires-2 c κs =
+    let e = c .before in
+    finite-is (S e .args .au) (finites-second (S e .args .al) (S e .args .au) (first e))
 
 decode-requires-3 : tie.Need-decode-requires-3
-decode-requires-3 c κs = let k = c .before .before in finite-is (S k .args .bl) (finites-first (S k .args .bl) (S k .args .bu) (second k))
+decode-requires-3 c κs =
+    let e = c .before .before in
+    finite-is (S e .args .bl) (finites-first (S e .args .bl) (S e .args .bu) (second e))
 
 decode-requires-4 : tie.Need-decode-requires-4
-decode-requires-4 c κs = let k = c .before .before .before in finite-is (S k .args .bu) (finites-second (S k .args .bl) (S k .args .bu) (second k))
+decode-requires-4 c κs =
+    let e = c .before .before .before in
+    finite-is (S e .args .bu) (finites-second (S e .args .bl) (S e .args .bu) (second e))
 
 of-parts-requires : tie.Need-of-parts-requires
 of-parts-requires c κs = search needs
@@ -47,8 +55,11 @@ of-parts-requires c κs = search needs
 returns-2 : tie.Need-returns-2
 returns-2 c =
     let d = c .before in
-    let k = d .before .before .before .before in
-    corners-some (S k .args .al) (S k .args .au) (S k .args .bl) (S k .args .bu) (first k) (second k) (d .before .before .before .decode .ensures) (d .before .before .decode2 .ensures) (d .before .decode3 .ensures) (d .decode4 .ensures) (c .of-parts .ensures)
+    let e = d .before .before .before .before in
+    let s = S e .args in
+    corners-some (s .al) (s .au) (s .bl) (s .bu) (first e) (second e)
+    (d .before .before .before .decode .ensures) (d .before .before .decode2 .ensures) (d .before .decode3 .ensures) (d .decode4 .ensures)
+    (c .of-parts .ensures)
 
 pub corners-spec : {M : Type 1} → statement M
 corners-spec =

@@ -1,3 +1,5 @@
+-- `binary32::corners::of_parts` meets its contract: the least of four patterns rounded down holds the least of four numbers, or none, and the
+-- greatest of four rounded up the greatest (`corners-of`).
 use mathlib.Core.Path.{ap₂, _∙_}
 use Rattle.binary32.specs.Order.{leastOf, greatestOf}
 use Rattle.binary32.proofs.CornerLaws.{both-same, corners-of}
@@ -47,17 +49,20 @@ greatest-requires-2 c κs = search needs
 greatest-requires-3 : tie.Need-greatest-requires-3
 greatest-requires-3 c κs = search needs
 
+-- the four products p, q, r, s in their order, then the two ends
 returns : tie.Need-returns
 returns c =
     let l = c .before .before .before in
-    let k = l .before .before .before in
-    let k₃ = k .before .before in
-    let k₂ = k₃ .before .before in
-    let k₁ = k₂ .before .before in
-    let s = k₁ .before .before .args in
-    corners-of (s .a) (s .b) (s .c) (s .d) (k₁ .round-both .result) (k₂ .round-both2 .result) (k₃ .round-both3 .result) (k .round-both4 .result) _
-    (both-same (s .a) (s .c) (k₁ .before .times .ensures) (k₁ .round-both .ensures)) (both-same (s .a) (s .d) (k₂ .before .times2 .ensures) (k₂ .round-both2 .ensures))
-    (both-same (s .b) (s .c) (k₃ .before .times3 .ensures) (k₃ .round-both3 .ensures)) (both-same (s .b) (s .d) (k .before .times4 .ensures) (k .round-both4 .ensures))
+    let s = l .before .before .before in
+    let r = s .before .before in
+    let q = r .before .before in
+    let p = q .before .before in
+    let x = p .before .before .args in
+    corners-of (x .a) (x .b) (x .c) (x .d) (p .round-both .result) (q .round-both2 .result) (r .round-both3 .result) (s .round-both4 .result) _
+    (both-same (x .a) (x .c) (p .before .times .ensures) (p .round-both .ensures))
+    (both-same (x .a) (x .d) (q .before .times2 .ensures) (q .round-both2 .ensures))
+    (both-same (x .b) (x .c) (r .before .times3 .ensures) (r .round-both3 .ensures))
+    (both-same (x .b) (x .d) (s .before .times4 .ensures) (s .round-both4 .ensures))
     (l .least3 .ensures ∙ ap₂ leastOf (l .before .before .least .ensures) (l .before .least2 .ensures))
     (c .greatest3 .ensures ∙ ap₂ greatestOf (c .before .before .greatest .ensures) (c .before .greatest2 .ensures))
 

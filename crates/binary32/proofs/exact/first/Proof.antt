@@ -1,12 +1,17 @@
+-- `binary32::exact::first` meets its contract: by its test, which is that of `earlier`.
 use Rattle.binary32.proofs.Sums.{first-y, first-x}
 use Rattle.binary32.proofs.exact.first.Statement.{statement}
 use Rattle.binary32.proofs.exact.first.Tie as tie
 
 returns : tie.Need-returns
-returns c = first-y (c .before .before .before .args .x) (c .before .before .before .args .y) (c .if1 .taken)
+returns c =
+    let s = c .before .before .before .args in
+    first-y (s .x) (s .y) (c .if1 .taken)
 
 returns-2 : tie.Need-returns-2
-returns-2 c = first-x (c .before .before .before .args .x) (c .before .before .before .args .y) (c .if1 .left)
+returns-2 c =
+    let s = c .before .before .before .args in
+    first-x (s .x) (s .y) (c .if1 .left)
 
 pub first-spec : {M : Type 1} → statement M
 first-spec = tie.close (tie.spec returns returns-2)

@@ -1,3 +1,5 @@
+-- `binary32::exact::joined` meets its contract: up to 36 places apart the sum is exact (`same-close`), beyond that the sign of y is enough
+-- (`same-apart`).
 use mathlib.Core.Path.{_≡_, ap, sym, _∙_, subst}
 use Prim.Native.Nat.{_-_, _^_, _<_}
 use native.Mathlib.Omega.{arith}
@@ -11,16 +13,18 @@ use borrow.Author.Needs.{needs}
 use Rattle.binary32.proofs.exact.joined.Statement.{statement}
 use Rattle.binary32.proofs.exact.joined.Tie as tie
 
-signed : (g : tie.After-sign) → g .sign .result ≡ sgn (g .before .before .before .before .before .args .y .sig)
-signed g =
-    let s = g .before .before .before .before .before in
-    sgn-read (s .args .y .sig) (g .sign .result) (s .pre .second .few) (g .sign .ensures)
+-- the far summand's sign, as the call gave it
+abbrev S : tie.After-sign → tie.Start
+S c = c .before .before .before .before .before
 
-short : (g : tie.After-sign) → natAbs (g .sign .result) < 2 ^ 24
-short g = subst (λ (t : ℤ). natAbs t < 2 ^ 24) (sym (signed g)) (sgn-short (g .before .before .before .before .before .args .y .sig))
+signed : (c : tie.After-sign) → c .sign .result ≡ sgn (S c .args .y .sig)
+signed c = sgn-read (S c .args .y .sig) (c .sign .result) (S c .pre .second .few) (c .sign .ensures)
 
-few : (g : tie.After-sign) → natAbs (toZ w64 (ofZ w64 (g .sign .result))) < 2 ^ 24
-few g = rw (read (g .sign .result) (g .sign .ok)) (short g)
+short : (c : tie.After-sign) → natAbs (c .sign .result) < 2 ^ 24
+short c = subst (λ (t : ℤ). natAbs t < 2 ^ 24) (sym (signed c)) (sgn-short (S c .args .y .sig))
+
+few : (c : tie.After-sign) → natAbs (toZ w64 (ofZ w64 (c .sign .result))) < 2 ^ 24
+few c = rw (read (c .sign .result) (c .sign .ok)) (short c)
 
 sub-d : tie.Need-sub-d
 sub-d c = search needs
@@ -31,12 +35,16 @@ placed-requires c κs = search needs
 add-t7 : tie.Need-add-t7
 add-t7 c = search needs
 
+-- not far apart
 returns : tie.Need-returns
 returns c =
-    let k = c .before in
-    let s = k .before .before .before .before .before .before in
-    same-close (s .pre) _ (k .before .before .before .if1 .taken)
-    (read (k .placed .result) (k .placed .ok) ∙ placed-read (s .args .x .sig) (s .args .y .sig) (k .placed .result) (s .args .x .exp - s .args .y .exp) (s .pre .first .few) (s .pre .second .few) (k .placed .ensures))
+    let m = c .before in
+    let s = m .before .before .before .before .before .before in
+    let x = s .args .x in
+    let y = s .args .y in
+    same-close (s .pre) _ (m .before .before .before .if1 .taken)
+    (read (m .placed .result) (m .placed .ok)
+    ∙ placed-read (x .sig) (y .sig) (m .placed .result) (x .exp - y .exp) (s .pre .first .few) (s .pre .second .few) (m .placed .ensures))
 
 sign-requires : tie.Need-sign-requires
 sign-requires c κs = search needs
@@ -52,13 +60,16 @@ sub-t10 c = search needs
 add-t11 : tie.Need-add-t11
 add-t11 c = search needs
 
+-- far apart
 returns-2 : tie.Need-returns-2
 returns-2 c =
-    let k = c .before in
-    let g = k .before .before in
-    let s = g .before .before .before .before .before in
-    same-apart (s .pre) _ (g .before .before .if1 .left)
-    (read (k .placed2 .result) (k .placed2 .ok) ∙ placed-read (s .args .x .sig) (g .sign .result) (k .placed2 .result) 36 (s .pre .first .few) (short g) (k .placed2 .ensures) ∙ ap (λ (t : ℤ). s .args .x .sig *ℤ pos (2 ^ 36) +ℤ t) (signed g))
+    let m = c .before in
+    let g = m .before .before in
+    let x = S g .args .x in
+    same-apart (S g .pre) _ (g .before .before .if1 .left)
+    (read (m .placed2 .result) (m .placed2 .ok)
+    ∙ placed-read (x .sig) (g .sign .result) (m .placed2 .result) 36 (S g .pre .first .few) (short g) (m .placed2 .ensures)
+    ∙ ap (λ (t : ℤ). x .sig *ℤ pos (2 ^ 36) +ℤ t) (signed g))
 
 pub joined-spec : {M : Type 1} → statement M
 joined-spec =

@@ -1,27 +1,42 @@
-use mathlib.Core.Path.{_≡_}
-use Prim.Native.Nat.{_^_}
+-- `binary32::exact::placed` meets its contract: product and sum fit, since 24 digits are shifted by at most 36 places (`placed-short`).
+use mathlib.Core.Path.{_≡_, ap₂, _∙_}
+use Prim.Native.Nat.{ℕ, _^_, _<_}
 use native.Mathlib.Omega.{arith}
-use lib.IntN.{ℤ, pos, _+ℤ_, _*ℤ_}
+use lib.IntN.{ℤ, pos, natAbs, _+ℤ_, _*ℤ_}
 use mir.Syntax.{w64}
 use mir.Val.{SFits, ofZ, toZ}
 use mir.ValLaws.{toZ-ofZ}
-use Rattle.binary32.proofs.Ints.{read, fits-of}
+use Rattle.algebra.proofs.Machine.{fits-natAbs}
+use Rattle.binary32.proofs.Ints.{read}
 use Rattle.binary32.proofs.Sums.{placed-short}
 use borrow.Author.Needs.{needs}
 use Rattle.binary32.proofs.exact.placed.Statement.{statement}
 use Rattle.binary32.proofs.exact.placed.Tie as tie
 
-product-is : (c : tie.After-power) → toZ w64 (ofZ w64 (c .before .args .x)) *ℤ toZ w64 (ofZ w64 (c .power .result)) ≡ c .before .args .x *ℤ pos (2 ^ c .before .args .n)
-product-is c = rw (toZ-ofZ w64 (c .before .args .x) (c .before .fits .x), read (c .power .result) (c .power .ok), c .power .ensures)
+module _ (c : tie.After-power) where
+  abbrev x : ℤ
+  x = c .before .args .x
 
-product-fits : (c : tie.After-power) → SFits w64 (c .before .args .x *ℤ pos (2 ^ c .before .args .n))
-product-fits c = fits-of _ (omega (arith, placed-short (c .before .args .x) (c .before .args .y) (c .before .args .n) (c .before .pre .0) (c .before .pre .1) (c .before .pre .2) .0))
+  abbrev y : ℤ
+  y = c .before .args .y
 
-sum-is : (c : tie.After-power) → toZ w64 (ofZ w64 (toZ w64 (ofZ w64 (c .before .args .x)) *ℤ toZ w64 (ofZ w64 (c .power .result)))) +ℤ toZ w64 (ofZ w64 (c .before .args .y)) ≡ c .before .args .x *ℤ pos (2 ^ c .before .args .n) +ℤ c .before .args .y
-sum-is c = rw (product-is c, toZ-ofZ w64 _ (product-fits c), toZ-ofZ w64 (c .before .args .y) (c .before .fits .y))
+  abbrev n : ℕ
+  n = c .before .args .n
 
-sum-fits : (c : tie.After-power) → SFits w64 (c .before .args .x *ℤ pos (2 ^ c .before .args .n) +ℤ c .before .args .y)
-sum-fits c = fits-of _ (omega (arith, placed-short (c .before .args .x) (c .before .args .y) (c .before .args .n) (c .before .pre .0) (c .before .pre .1) (c .before .pre .2) .1))
+  short : (natAbs (x *ℤ pos (2 ^ n)) < 2 ^ 61) × (natAbs (x *ℤ pos (2 ^ n) +ℤ y) < 2 ^ 61)
+  short = placed-short x y n (c .before .pre .0) (c .before .pre .1) (c .before .pre .2)
+
+  product-is : toZ w64 (ofZ w64 x) *ℤ toZ w64 (ofZ w64 (c .power .result)) ≡ x *ℤ pos (2 ^ n)
+  product-is = ap₂ _*ℤ_ (toZ-ofZ w64 x (c .before .fits .x)) (read (c .power .result) (c .power .ok) ∙ c .power .ensures)
+
+  product-fits : SFits w64 (x *ℤ pos (2 ^ n))
+  product-fits = fits-natAbs _ (omega (arith, short .0))
+
+  sum-is : toZ w64 (ofZ w64 (toZ w64 (ofZ w64 x) *ℤ toZ w64 (ofZ w64 (c .power .result)))) +ℤ toZ w64 (ofZ w64 y) ≡ x *ℤ pos (2 ^ n) +ℤ y
+  sum-is = rw (product-is, toZ-ofZ w64 _ product-fits, toZ-ofZ w64 y (c .before .fits .y))
+
+  sum-fits : SFits w64 (x *ℤ pos (2 ^ n) +ℤ y)
+  sum-fits = fits-natAbs _ (omega (arith, short .1))
 
 power-requires : tie.Need-power-requires
 power-requires c κs = search needs

@@ -1,10 +1,12 @@
+-- `binary32::exact::times` meets its contract: the product of two numbers of 24 digits fits, and is exact (`product-is`).
 use mathlib.Core.Path.{_≡_, ap, ap₂, _∙_}
 use native.Mathlib.Omega.{arith}
 use lib.IntN.{ℤ, _*ℤ_}
 use mir.Syntax.{w64}
 use mir.Val.{SFits, ofZ, toZ}
 use mir.ValLaws.{toZ-ofZ}
-use Rattle.binary32.proofs.Ints.{read-small, fits-of}
+use Rattle.algebra.proofs.Machine.{fits-natAbs}
+use Rattle.binary32.proofs.Ints.{read-small}
 use Rattle.binary32.proofs.Products.{product-short, product-is}
 use borrow.Author.Needs.{needs}
 use Rattle.binary32.proofs.exact.times.Statement.{statement}
@@ -14,7 +16,7 @@ is : (s : tie.Start) → toZ w64 (ofZ w64 (s .args .x .sig)) *ℤ toZ w64 (ofZ w
 is s = ap₂ _*ℤ_ (read-small (s .args .x .sig) (omega (arith, s .pre .first .few))) (read-small (s .args .y .sig) (omega (arith, s .pre .second .few)))
 
 fits : (s : tie.Start) → SFits w64 (s .args .x .sig *ℤ s .args .y .sig)
-fits s = fits-of _ (omega (arith, product-short (s .args .x .sig) (s .args .y .sig) (s .pre .first .few) (s .pre .second .few)))
+fits s = fits-natAbs _ (omega (arith, product-short (s .args .x .sig) (s .args .y .sig) (s .pre .first .few) (s .pre .second .few)))
 
 mul-t3 : tie.Need-mul-t3
 mul-t3 c = rw (is (c .before .before .before .before)) (fits (c .before .before .before .before))

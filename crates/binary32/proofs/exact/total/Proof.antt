@@ -1,3 +1,4 @@
+-- `binary32::exact::total` meets its contract: of two finite patterns `plus` has the sum, else there is none.
 use mathlib.Core.Path.{_≡_, sym, _∙_}
 use mathlib.Core.Bool.{true}
 use Prim.Native.Nat.{_-_, _^_}
@@ -18,10 +19,14 @@ told : (c : tie.Then1) → finites (c .before .before .args .a) (c .before .befo
 told c = sym (c .before .both-finite .ensures) ∙ c .if1 .taken
 
 decode-requires : tie.Need-decode-requires
-decode-requires c κs = finite-is (c .before .before .args .a) (finites-first (c .before .before .args .a) (c .before .before .args .b) (told c))
+decode-requires c κs =
+    let s = c .before .before .args in
+    finite-is (s .a) (finites-first (s .a) (s .b) (told c))
 
 decode-requires-2 : tie.Need-decode-requires-2
-decode-requires-2 c κs = finite-is (c .before .before .before .args .b) (finites-second (c .before .before .before .args .a) (c .before .before .before .args .b) (told (c .before)))
+decode-requires-2 c κs =
+    let s = c .before .before .before .args in
+    finite-is (s .b) (finites-second (s .a) (s .b) (told (c .before)))
 
 plus-requires : tie.Need-plus-requires
 plus-requires c κs = search needs
@@ -29,11 +34,13 @@ plus-requires c κs = search needs
 returns : tie.Need-returns
 returns c =
     let d = c .before in
-    let s = d .before .before .before .before in
-    rounds-value (2 ^ (149 - s .args .lift)) _+ℤ_ (s .args .a) (s .args .b) (told (d .before .before)) (d .before .decode .ensures) (d .decode2 .ensures) (c .plus .ensures)
+    let s = d .before .before .before .before .args in
+    rounds-value (2 ^ (149 - s .lift)) _+ℤ_ (s .a) (s .b) (told (d .before .before)) (d .before .decode .ensures) (d .decode2 .ensures) (c .plus .ensures)
 
 returns-2 : tie.Need-returns-2
-returns-2 c = rounds-none (lifted (c .before .before .args .lift)) (c .before .before .args .a) (c .before .before .args .b) (sym (c .before .both-finite .ensures) ∙ c .if1 .left)
+returns-2 c =
+    let s = c .before .before .args in
+    rounds-none (lifted (s .lift)) (s .a) (s .b) (sym (c .before .both-finite .ensures) ∙ c .if1 .left)
 
 pub total-spec : {M : Type 1} → statement M
 total-spec =

@@ -1,3 +1,4 @@
+-- `binary32::funnel::floor` meets its contract: the machine's signed shift is `shrZ`, and what it gives fits.
 use Prim.Native.Nat.{_^_}
 use lib.Signed.{shrZ, mag-shr}
 use mir.Syntax.{w64}

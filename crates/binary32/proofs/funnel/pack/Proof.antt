@@ -1,3 +1,4 @@
+-- `binary32::funnel::pack` meets its contract: its four returns are the four ways of `packed`, by size and by sign.
 use mathlib.Core.Path.{_≡_, ap, _∙_}
 use mathlib.Core.Bool.{true, false}
 use native.Mathlib.Omega.{arith}

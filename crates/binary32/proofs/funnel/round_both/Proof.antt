@@ -1,6 +1,7 @@
+-- `binary32::funnel::round_both` meets its contract: `pack` makes the patterns of two of the significands that `cut` found (`gives`).
 use Rattle.rounding.specs.Rounding.{down, up}
 use Rattle.binary32.specs.Number.{holdDown, holdUp}
-use Rattle.binary32.proofs.Products.{gives}
+use Rattle.binary32.proofs.Packing.{gives}
 use borrow.Author.Needs.{needs}
 use Rattle.binary32.proofs.funnel.round_both.Statement.{statement}
 use Rattle.binary32.proofs.funnel.round_both.Tie as tie
@@ -16,10 +17,15 @@ pack-requires-2 c κs = search needs
 
 returns : tie.Need-returns
 returns c =
-    let k = c .before .before .before .before in
+    let cut = c .before .before .before .before in
+    let s = cut .before .before in
     record {
-      lower = gives down holdDown (k .before .before .args .x) (k .cut .result .down) (k .cut .result .shift) 0xFF800000 0x7F7FFFFF _ (k .before .before .pre) (k .cut .ensures .down-few) (c .before .before .pack .ensures) (k .cut .ensures .downs);
-      upper = gives up holdUp (k .before .before .args .x) (k .cut .result .up) (k .cut .result .shift) 0xFF7FFFFF 0x7F800000 _ (k .before .before .pre) (k .cut .ensures .up-few) (c .pack2 .ensures) (k .cut .ensures .ups);
+      lower =
+          gives down holdDown (s .args .x) (cut .cut .result .down) (cut .cut .result .shift) 0xFF800000 0x7F7FFFFF _
+          (s .pre) (cut .cut .ensures .down-few) (c .before .before .pack .ensures) (cut .cut .ensures .downs);
+      upper =
+          gives up holdUp (s .args .x) (cut .cut .result .up) (cut .cut .result .shift) 0xFF7FFFFF 0x7F800000 _
+          (s .pre) (cut .cut .ensures .up-few) (c .pack2 .ensures) (cut .cut .ensures .ups);
     }
 
 pub round-both-spec : {M : Type 1} → statement M

@@ -1,6 +1,7 @@
+-- `binary32::funnel::round_up` meets its contract: `pack` makes the pattern of the significand that `cut` found (`gives`).
 use Rattle.rounding.specs.Rounding.{up}
 use Rattle.binary32.specs.Number.{holdUp}
-use Rattle.binary32.proofs.Products.{gives}
+use Rattle.binary32.proofs.Packing.{gives}
 use borrow.Author.Needs.{needs}
 use Rattle.binary32.proofs.funnel.round_up.Statement.{statement}
 use Rattle.binary32.proofs.funnel.round_up.Tie as tie
@@ -13,8 +14,10 @@ pack-requires c κs = search needs
 
 returns : tie.Need-returns
 returns c =
-    let k = c .before .before in
-    gives up holdUp (k .before .before .args .x) (k .cut .result .up) (k .cut .result .shift) 0xFF7FFFFF 0x7F800000 _ (k .before .before .pre) (k .cut .ensures .up-few) (c .pack .ensures) (k .cut .ensures .ups)
+    let cut = c .before .before in
+    let s = cut .before .before in
+    gives up holdUp (s .args .x) (cut .cut .result .up) (cut .cut .result .shift) 0xFF7FFFFF 0x7F800000 _
+    (s .pre) (cut .cut .ensures .up-few) (c .pack .ensures) (cut .cut .ensures .ups)
 
 pub round-up-spec : {M : Type 1} → statement M
 round-up-spec = tie.close (tie.spec cut-requires pack-requires returns)

@@ -1,3 +1,4 @@
+-- `binary32::funnel::split` meets its contract: the shift is down, and one more where its test says so is up and nearest (`ups-is`, `nears-is`).
 use mathlib.Core.Path.{_≡_, refl, ap, _∙_}
 use Prim.Native.Nat.{_*_, _%_, _^_, _<_}
 use native.Mathlib.Omega.{arith}
@@ -15,14 +16,21 @@ use borrow.Author.Needs.{needs}
 use Rattle.binary32.proofs.funnel.split.Statement.{statement}
 use Rattle.binary32.proofs.funnel.split.Tie as tie
 
+-- the floor and the rest, as the calls gave them
 floored : (c : tie.After-floor) → c .floor .result ≡ shrZ (c .before .args .w) (2 ^ c .before .args .n)
-floored c = c .floor .ensures ∙ ap (λ (t : ℤ). shrZ t (2 ^ c .before .args .n)) (toZ-ofZ w64 (c .before .args .w) (c .before .fits .w))
+floored c =
+    let s = c .before in
+    c .floor .ensures ∙ ap (λ (t : ℤ). shrZ t (2 ^ s .args .n)) (toZ-ofZ w64 (s .args .w) (s .fits .w))
 
 few : (c : tie.After-floor) → natAbs (toZ w64 (ofZ w64 (c .floor .result))) < 2 ^ 62
-few c = rw (read (c .floor .result) (c .floor .ok), floored c) (omega (arith, shr-less (c .before .args .w) (2 ^ c .before .args .n), c .before .pre .0))
+few c =
+    let s = c .before in
+    rw (read (c .floor .result) (c .floor .ok), floored c) (omega (arith, shr-less (s .args .w) (2 ^ s .args .n), s .pre .0))
 
 rested : (c : tie.After-rest) → c .rest .result ≡ rem (c .before .before .args .w) (2 ^ c .before .before .args .n)
-rested c = c .rest .ensures ∙ ap (λ (t : ℤ). rem t (2 ^ c .before .before .args .n)) (toZ-ofZ w64 (c .before .before .args .w) (c .before .before .fits .w))
+rested c =
+    let s = c .before .before in
+    c .rest .ensures ∙ ap (λ (t : ℤ). rem t (2 ^ s .args .n)) (toZ-ofZ w64 (s .args .w) (s .fits .w))
 
 small : (c : tie.After-rest) → c .rest .result < 2 ^ 62
 small c =
@@ -33,7 +41,9 @@ floor-requires : tie.Need-floor-requires
 floor-requires c κs = search needs
 
 rest-requires : tie.Need-rest-requires
-rest-requires c κs = rw (toZ-ofZ w64 (c .before .args .w) (c .before .fits .w)) (c .before .pre .0, c .before .pre .1, read (c .floor .result) (c .floor .ok) ∙ floored c)
+rest-requires c κs =
+    let s = c .before in
+    rw (toZ-ofZ w64 (s .args .w) (s .fits .w)) (s .pre .0, s .pre .1, read (c .floor .result) (c .floor .ok) ∙ floored c)
 
 magnitude-requires : tie.Need-magnitude-requires
 magnitude-requires c κs = few (c .before)
@@ -55,13 +65,21 @@ next-requires-2 c κs = few (c .before .before .before)
 
 returns : tie.Need-returns
 returns c =
-    let s = c .before .before .before .before in
-    let k = s .before .args in
-    let f : toZ w64 (ofZ w64 (s .floor .result)) ≡ shrZ (k .w) (2 ^ k .n) = read (s .floor .result) (s .floor .ok) ∙ floored s in
+    let u = c .before in
+    let o = u .before in
+    let r = o .before in
+    let q = r .before in
+    let s = q .before .args in
+    let f : toZ w64 (ofZ w64 (q .floor .result)) ≡ shrZ (s .w) (2 ^ s .n) = read (q .floor .result) (q .floor .ok) ∙ floored q in
     record {
       downs = f;
-      ups = ups-is (k .w) (toZ w64 (ofZ w64 (s .floor .result))) _ (2 ^ k .n) (c .before .before .before .rest .result) (pow-pos (k .n)) f (rested (c .before .before .before)) (read (c .before .next .result) (c .before .next .ok) ∙ c .before .next .ensures);
-      nears = nears-is (k .w) (toZ w64 (ofZ w64 (s .floor .result))) _ (2 ^ k .n) (1 * 2 ^ k .n % 2 ^ 64) (c .before .before .before .rest .result) (c .before .before .magnitude .result) (pow-pos (k .n)) (shifted (k .n) (s .before .pre .1)) f (rested (c .before .before .before)) (c .before .before .magnitude .ensures) (read (c .next2 .result) (c .next2 .ok) ∙ c .next2 .ensures);
+      ups =
+          ups-is (s .w) (toZ w64 (ofZ w64 (q .floor .result))) _ (2 ^ s .n) (r .rest .result) (pow-pos (s .n)) f (rested r)
+          (read (u .next .result) (u .next .ok) ∙ u .next .ensures);
+      nears =
+          nears-is (s .w) (toZ w64 (ofZ w64 (q .floor .result))) _ (2 ^ s .n) (1 * 2 ^ s .n % 2 ^ 64) (r .rest .result) (o .magnitude .result)
+          (pow-pos (s .n)) (shifted (s .n) (q .before .pre .1)) f (rested r) (o .magnitude .ensures)
+          (read (c .next2 .result) (c .next2 .ok) ∙ c .next2 .ensures);
       shifts = refl;
     }
 

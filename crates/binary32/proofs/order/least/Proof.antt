@@ -1,3 +1,4 @@
+-- `binary32::order::least` meets its contract: by the test that `at_most` made.
 use mathlib.Core.Path.{sym, ap, _∙_}
 use mathlib.Core.Bool.{cond}
 use Rattle.binary32.specs.Order.{leastOf}

@@ -1,3 +1,4 @@
+-- `binary32::order::negate` meets its contract: by its test, which is that of `negated`.
 use Rattle.binary32.proofs.Negation.{negated-low, negated-high}
 use borrow.Author.Needs.{needs}
 use Rattle.binary32.proofs.order.negate.Statement.{statement}

@@ -1,3 +1,4 @@
+-- `binary32::partial::add_both` meets its contract: `both_of` rounds what `total` found, which rounds as the exact sum does.
 use mathlib.Core.Path.{ap, _∙_}
 use Rattle.binary32.specs.Number.{holdDown, holdUp}
 use borrow.Author.Needs.{needs}

@@ -1,3 +1,4 @@
+-- `binary32::partial::add_near` meets its contract: `near_of` rounds what `total` found, which rounds as the exact value does.
 use mathlib.Core.Path.{ap, _∙_}
 use Rattle.binary32.specs.Number.{holdNear}
 use borrow.Author.Needs.{needs}

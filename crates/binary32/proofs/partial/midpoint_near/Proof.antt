@@ -1,8 +1,12 @@
+-- `binary32::partial::midpoint_near` meets its contract: `near_of` rounds what `total` found, which rounds as the exact value does.
 use mathlib.Core.Path.{ap, _∙_}
 use Rattle.binary32.specs.Number.{holdNear}
 use borrow.Author.Needs.{needs}
 use Rattle.binary32.proofs.partial.midpoint_near.Statement.{statement}
 use Rattle.binary32.proofs.partial.midpoint_near.Tie as tie
+
+sub-total : tie.Need-sub-total
+sub-total c = search needs
 
 total-requires : tie.Need-total-requires
 total-requires c κs = search needs
@@ -14,4 +18,4 @@ returns : tie.Need-returns
 returns c = c .near-of .ensures ∙ ap holdNear (c .before .total .ensures .nears)
 
 pub midpoint-near-spec : {M : Type 1} → statement M
-midpoint-near-spec = tie.close (tie.spec total-requires near-of-requires returns)
+midpoint-near-spec = tie.close (tie.spec sub-total total-requires near-of-requires returns)

@@ -1,3 +1,4 @@
+-- `binary32::partial::mul_both` meets its contract: `both_of` rounds what `product` found, which rounds as the exact product does.
 use mathlib.Core.Path.{ap, _∙_}
 use Rattle.binary32.specs.Number.{holdDown, holdUp}
 use borrow.Author.Needs.{needs}

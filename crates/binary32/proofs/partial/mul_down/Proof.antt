@@ -1,3 +1,4 @@
+-- `binary32::partial::mul_down` meets its contract: `down_of` rounds what `product` found, which rounds as the exact value does.
 use mathlib.Core.Path.{ap, _∙_}
 use Rattle.binary32.specs.Number.{holdDown}
 use borrow.Author.Needs.{needs}

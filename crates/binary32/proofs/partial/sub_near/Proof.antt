@@ -1,3 +1,4 @@
+-- `binary32::partial::sub_near` meets its contract: to subtract is to add the pattern with the other sign (`sub-is`).
 use mathlib.Core.Path.{ap, _∙_}
 use native.Mathlib.Omega.{arith}
 use Rattle.rounding.specs.Rounding.{near}
@@ -17,7 +18,8 @@ add-near-requires c κs = search needs
 returns : tie.Need-returns
 returns c =
     let s = c .before .before in
-    c .add-near .ensures ∙ ap (λ p. holdNear (with₂ (add near) (s .args .a) p)) (c .before .negate .ensures) ∙ ap holdNear (sub-is near (s .args .a) (s .args .b) (omega arith))
+    c .add-near .ensures ∙ ap (λ p. holdNear (with₂ (add near) (s .args .a) p)) (c .before .negate .ensures)
+    ∙ ap holdNear (sub-is near (s .args .a) (s .args .b) (omega arith))
 
 pub sub-near-spec : {M : Type 1} → statement M
 sub-near-spec = tie.close (tie.spec negate-requires add-near-requires returns)

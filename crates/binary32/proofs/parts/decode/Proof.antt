@@ -1,3 +1,4 @@
+-- `binary32::parts::decode` meets its contract: exponent field 0 (`decoded-low`), or 1 to 254 (`decoded-high`).
 use mathlib.Core.Path.{_∙_}
 use Rattle.binary32.proofs.Ints.{read}
 use Rattle.binary32.proofs.Values.{decoded-low, decoded-high}
@@ -12,7 +13,9 @@ with-sign-requires : tie.Need-with-sign-requires
 with-sign-requires c κs = search needs
 
 returns : tie.Need-returns
-returns c = decoded-low (c .before .before .args .p) _ (c .before .if1 .taken) (read (c .with-sign .result) (c .with-sign .ok) ∙ c .with-sign .ensures)
+returns c =
+    let s = c .before .before in
+    decoded-low (s .args .p) _ (c .before .if1 .taken) (read (c .with-sign .result) (c .with-sign .ok) ∙ c .with-sign .ensures)
 
 add-with-sign : tie.Need-add-with-sign
 add-with-sign c = search needs
@@ -27,7 +30,9 @@ sub-t12 : tie.Need-sub-t12
 sub-t12 c = search needs
 
 returns-2 : tie.Need-returns-2
-returns-2 c = decoded-high (c .before .before .args .p) _ (c .before .before .pre) (c .before .if1 .left) (read (c .with-sign2 .result) (c .with-sign2 .ok) ∙ c .with-sign2 .ensures)
+returns-2 c =
+    let s = c .before .before in
+    decoded-high (s .args .p) _ (s .pre) (c .before .if1 .left) (read (c .with-sign2 .result) (c .with-sign2 .ok) ∙ c .with-sign2 .ensures)
 
 pub decode-spec : {M : Type 1} → statement M
 decode-spec =

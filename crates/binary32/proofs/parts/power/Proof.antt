@@ -1,20 +1,16 @@
-use mathlib.Core.Path.{_≡_, ap, _∙_}
-use Prim.Native.Nat.{ℕ, _*_, _%_, _^_, _<_, _≤_}
-use native.Mathlib.Nat.{one-mul, mod-eq-of-lt}
+-- `binary32::parts::power` meets its contract: for n up to 62 the shifted bit is 2 ^ n (`shifted`), which fits.
+use Prim.Native.Nat.{ℕ, _^_, _<_, _≤_}
 use native.Mathlib.Omega.{arith}
-use borrow.Author.Needs.{needs}
 use lib.Pow.{pow-lt}
 use mir.Syntax.{w64}
 use mir.ValLaws.{toZ-pos}
+use Rattle.binary32.proofs.Rests.{shifted}
+use borrow.Author.Needs.{needs}
 use Rattle.binary32.proofs.parts.power.Statement.{statement}
 use Rattle.binary32.proofs.parts.power.Tie as tie
 
--- the shifted one
-shifted : (s : ℕ) → s ≤ 62 → 1 * 2 ^ s % 2 ^ 64 ≡ 2 ^ s
-shifted s h = ap (λ (t : ℕ). t % 2 ^ 64) (one-mul (2 ^ s)) ∙ mod-eq-of-lt (pow-lt {i = s} {j = 64} (omega arith))
-
-below : (s : ℕ) → s ≤ 62 → 2 ^ s < 2 ^ 63
-below s h = pow-lt {i = s} {j = 63} (omega arith)
+below : (n : ℕ) → n ≤ 62 → 2 ^ n < 2 ^ 63
+below n h = pow-lt {i = n} {j = 63} (omega arith)
 
 shl-result : tie.Need-shl-result
 shl-result c = search needs

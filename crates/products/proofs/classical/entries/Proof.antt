@@ -241,9 +241,14 @@ loop-again c =
     let h = c .before .before .before .before .loop in
     let s : Head = c .before .before .before .before .before .before in
     let o = place-out (c .before .before .before) in
-    let e = whole-entry c in
-    (omega arith, omega arith, c .before .loop2 .inv .1, stop-more (E s) (h .at) (c .before .loop2 .s) (h .inv .3) e,
-     filled-more _ _ _ _ _ (omega arith) (lower-is (E s) (h .at) (c .before .loop2 .s) e) (h .inv .4), filled-more _ _ _ _ _ (omega arith) (upper-is (E s) (h .at) (c .before .loop2 .s) e) (h .inv .5))
+    let e = whole-entry c in (
+      omega arith,
+      omega arith,
+      c .before .loop2 .inv .1,
+      stop-more (E s) (h .at) (c .before .loop2 .s) (h .inv .3) e,
+      filled-more _ _ _ _ _ (omega arith) (lower-is (E s) (h .at) (c .before .loop2 .s) e) (h .inv .4),
+      filled-more _ _ _ _ _ (omega arith) (upper-is (E s) (h .at) (c .before .loop2 .s) e) (h .inv .5),
+    )
 
 add-i : tie.Need-add-i Inv-loop2 μ-loop2 Inv-loop μ-loop Inv-search μ-search
 add-i c = omega arith

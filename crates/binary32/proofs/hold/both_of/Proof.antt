@@ -1,9 +1,10 @@
+-- `binary32::hold::both_of` meets its contract: a value is rounded by `round_both`, and where there is none the two infinities stand for it.
 use mathlib.Core.Path.{subst, sym}
 use Rattle.rounding.specs.Rounding.{down, up}
 use Rattle.binary32.specs.Steps.{exactly, BothOf, Safe}
 use borrow.Author.Needs.{needs}
-use Rattle.binary32.proofs.partial.both_of.Statement.{statement}
-use Rattle.binary32.proofs.partial.both_of.Tie as tie
+use Rattle.binary32.proofs.hold.both_of.Statement.{statement}
+use Rattle.binary32.proofs.hold.both_of.Tie as tie
 
 enum-known-x : tie.Need-enum-known-x
 enum-known-x c = search needs

@@ -1,10 +1,11 @@
+-- `binary32::hold::down_of` meets its contract: a value is rounded by `round_down`, and where there is none the infinity stands for it.
 use mathlib.Core.Path.{sym, ap, subst, _∙_}
 use Rattle.rounding.specs.Rounding.{down}
 use Rattle.binary32.specs.Number.{holdDown}
 use Rattle.binary32.specs.Steps.{exactly, Safe}
 use borrow.Author.Needs.{needs}
-use Rattle.binary32.proofs.partial.down_of.Statement.{statement}
-use Rattle.binary32.proofs.partial.down_of.Tie as tie
+use Rattle.binary32.proofs.hold.down_of.Statement.{statement}
+use Rattle.binary32.proofs.hold.down_of.Tie as tie
 
 enum-known-x : tie.Need-enum-known-x
 enum-known-x c = search needs

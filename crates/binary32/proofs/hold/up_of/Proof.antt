@@ -1,10 +1,11 @@
+-- `binary32::hold::up_of` meets its contract: a value is rounded by `round_up`, and where there is none the infinity stands for it.
 use mathlib.Core.Path.{sym, ap, subst, _∙_}
 use Rattle.rounding.specs.Rounding.{up}
 use Rattle.binary32.specs.Number.{holdUp}
 use Rattle.binary32.specs.Steps.{exactly, Safe}
 use borrow.Author.Needs.{needs}
-use Rattle.binary32.proofs.partial.up_of.Statement.{statement}
-use Rattle.binary32.proofs.partial.up_of.Tie as tie
+use Rattle.binary32.proofs.hold.up_of.Statement.{statement}
+use Rattle.binary32.proofs.hold.up_of.Tie as tie
 
 enum-known-x : tie.Need-enum-known-x
 enum-known-x c = search needs
