@@ -1,0 +1,22 @@
+/* The operations in plain C, not proved: what the benchmark compares with.
+   Each returns the pattern of the result, or 0x7F800003 or 0x7F800005 for
+   refusal 3 or 5, as the functions of face.h do. */
+#ifndef PLAIN_H
+#define PLAIN_H
+
+#include <stdint.h>
+
+uint32_t plain_add_down(uint32_t a, uint32_t b);
+uint32_t plain_add_up(uint32_t a, uint32_t b);
+uint32_t plain_add_near(uint32_t a, uint32_t b);
+uint32_t plain_sub_down(uint32_t a, uint32_t b);
+uint32_t plain_sub_up(uint32_t a, uint32_t b);
+uint32_t plain_sub_near(uint32_t a, uint32_t b);
+uint32_t plain_mul_down(uint32_t a, uint32_t b);
+uint32_t plain_mul_up(uint32_t a, uint32_t b);
+uint32_t plain_mul_near(uint32_t a, uint32_t b);
+uint32_t plain_midpoint_down(uint32_t a, uint32_t b);
+uint32_t plain_midpoint_up(uint32_t a, uint32_t b);
+uint32_t plain_midpoint_near(uint32_t a, uint32_t b);
+
+#endif

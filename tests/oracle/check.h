@@ -1,0 +1,43 @@
+/* Independent implementation, not proved: what the self-test's files share. */
+#ifndef CHECK_H
+#define CHECK_H
+
+#include <stdbool.h>
+
+#include "oracle.h"
+
+#define CHECK(condition) check((condition), #condition, __FILE__, __LINE__)
+
+#define UNTOUCHED 0x55AA55AAu   /* fills numbers that are lent */
+#define SPARE 0x5A              /* fills bytes that are lent */
+#define ONE 0x3F800000u
+#define TWO 0x40000000u
+#define THREE 0x40400000u
+#define FOUR 0x40800000u
+#define MAX 0x7F7FFFFFu
+#define NEGATIVE 0x80000000u
+#define INFINITY_PATTERN 0x7F800000u
+#define NAN_PATTERN 0x7FC00000u
+
+/* Counts a check, and says where it fails. */
+void check(bool holds, const char *condition, const char *file, int line);
+
+bool is(struct refusal refusal, uint32_t number, uint32_t matrix,
+        uint32_t row, uint32_t column);
+void fill(uint32_t *cells, size_t count, uint32_t value);
+bool all_are(const uint32_t *cells, size_t count, uint32_t value);
+
+/* The bytes of a sheet, put down by hand. */
+void put_head(uint8_t *s, unsigned first, unsigned rows, unsigned columns, unsigned records);
+void put_cell(uint8_t *s, unsigned index, unsigned next, unsigned row, unsigned column,
+              uint32_t lo, uint32_t hi, unsigned wear_class);
+
+void check_products(void);
+void check_product_refusals(void);
+void check_reading(void);
+void check_read_refusals(void);
+void check_writing(void);
+void check_job(void);
+void check_print(void);
+
+#endif

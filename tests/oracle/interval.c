@@ -1,0 +1,60 @@
+/* Independent implementation, not proved: the two ways to hold an interval
+   and the checks on cells and sizes. */
+#include "parts.h"
+
+struct refusal refuse(uint32_t number, uint32_t matrix, size_t row, size_t column)
+{
+    struct refusal refusal = {number, matrix, (uint32_t)row, (uint32_t)column};
+    return refusal;
+}
+
+bool size_in_range(size_t size)
+{
+    return size >= 1 && size <= MAX_SIZE;
+}
+
+uint32_t check_bounds(uint32_t lo, uint32_t hi)
+{
+    if (!is_finite(lo) || !is_finite(hi))
+        return 3;
+    if (value_of(lo) > value_of(hi))
+        return 4;
+    return 0;
+}
+
+/* m is (lo + hi)/2 rounded up, r is m - lo rounded up. */
+struct refusal oracle_to_midrad(uint32_t lo, uint32_t hi,
+                                uint32_t *m, uint32_t *r)
+{
+    uint32_t number = check_bounds(lo, hi);
+    if (number != 0)
+        return refuse(number, 0, 0, 0);
+    uint32_t midpoint, radius;
+    number = oracle_operate(MIDPOINT, UP, lo, hi, &midpoint);
+    if (number == 0)
+        number = oracle_operate(SUB, UP, midpoint, lo, &radius);
+    if (number != 0)
+        return refuse(number, 0, 0, 0);
+    *m = midpoint;
+    *r = radius;
+    return ACCEPTED;
+}
+
+/* lo is m - r rounded down, hi is m + r rounded up. */
+struct refusal oracle_to_bounds(uint32_t m, uint32_t r,
+                                uint32_t *lo, uint32_t *hi)
+{
+    if (!is_finite(m) || !is_finite(r))
+        return refuse(3, 0, 0, 0);
+    if (value_of(r) < 0)
+        return refuse(4, 0, 0, 0);
+    uint32_t lower, upper;
+    uint32_t number = oracle_operate(SUB, DOWN, m, r, &lower);
+    if (number == 0)
+        number = oracle_operate(ADD, UP, m, r, &upper);
+    if (number != 0)
+        return refuse(number, 0, 0, 0);
+    *lo = lower;
+    *hi = upper;
+    return ACCEPTED;
+}

@@ -1,0 +1,157 @@
+/* Independent implementation, not proved: the rounded operations, done with
+   the machine's own binary32 arithmetic and rounding modes.
+
+   The operands and the result of each rounded step are volatile and stand
+   between two calls of fesetround. Reads and writes of volatile objects may
+   not be moved over those calls, so the step runs in the mode that is set
+   and is not worked out by the compiler. */
+#include <fenv.h>
+#include <float.h>
+#include <math.h>
+#include <stdlib.h>
+#include <string.h>
+
+#include "parts.h"
+
+_Static_assert(FLT_EVAL_METHOD == 0, "float steps must be rounded to float");
+_Static_assert(FLT_MANT_DIG == 24 && FLT_MAX_EXP == 128, "float is binary32");
+_Static_assert(DBL_MANT_DIG == 53 && DBL_MIN_EXP == -1021, "double is binary64");
+
+bool is_finite(uint32_t pattern)
+{
+    return ((pattern >> 23) & 0xFF) != 0xFF;
+}
+
+float value_of(uint32_t pattern)
+{
+    float value;
+    memcpy(&value, &pattern, sizeof value);
+    return value;
+}
+
+/* A zero of either sign is the pattern 0. */
+static uint32_t pattern_of(float value)
+{
+    uint32_t pattern;
+    memcpy(&pattern, &value, sizeof pattern);
+    return pattern == SIGN_BIT ? 0 : pattern;
+}
+
+uint32_t magnitude(uint32_t pattern)
+{
+    return pattern & ~SIGN_BIT;
+}
+
+static void set_mode(int mode)
+{
+    if (fesetround(mode) != 0)
+        abort();
+}
+
+static int mode_of(enum direction direction)
+{
+    switch (direction) {
+    case DOWN: return FE_DOWNWARD;
+    case UP:   return FE_UPWARD;
+    default:   return FE_TONEAREST;
+    }
+}
+
+static float rounded_sum(int mode, float a, float b)
+{
+    volatile float x = a, y = b, result;
+    int before = fegetround();
+    set_mode(mode);
+    result = x + y;
+    set_mode(before);
+    return result;
+}
+
+static float rounded_difference(int mode, float a, float b)
+{
+    volatile float x = a, y = b, result;
+    int before = fegetround();
+    set_mode(mode);
+    result = x - y;
+    set_mode(before);
+    return result;
+}
+
+static float rounded_product(int mode, float a, float b)
+{
+    volatile float x = a, y = b, result;
+    int before = fegetround();
+    set_mode(mode);
+    result = x * y;
+    set_mode(before);
+    return result;
+}
+
+static float narrowed(int mode, double value)
+{
+    volatile double x = value;
+    volatile float result;
+    int before = fegetround();
+    set_mode(mode);
+    result = (float)x;
+    set_mode(before);
+    return result;
+}
+
+/* a + b in binary64, rounded to odd: toward zero, and where bits are lost the
+   last bit is made 1. */
+static double sum_to_odd(float a, float b)
+{
+    volatile double x = a, y = b, sum;
+    int before = fegetround();
+    set_mode(FE_TOWARDZERO);
+    feclearexcept(FE_INEXACT);
+    sum = x + y;
+    int lost = fetestexcept(FE_INEXACT);
+    set_mode(before);
+
+    double result = sum;
+    if (lost) {
+        uint64_t bits;
+        memcpy(&bits, &result, sizeof bits);
+        bits |= 1;
+        memcpy(&result, &bits, sizeof bits);
+    }
+    return result;
+}
+
+/* One rounding of the exact (a + b)/2. Where the sum fits binary64 it is
+   exact. Where it does not, the sum to odd lies strictly between the same two
+   neighbouring binary64 numbers with an even last bit as the exact sum. Every
+   binary32 number, and every point halfway between two of them (one half of a
+   unit included), doubled, has at most 25 significant bits and so an even
+   last bit in binary64. Hence the sum to odd is on the same side of all these
+   points as the exact sum, and rounding it gives what rounding the exact
+   value gives. The halving is exact: the least magnitude is 2^-150 and
+   binary64 is normal down to 2^-1022. Nor can the sum overflow there. */
+static float rounded_midpoint(int mode, float a, float b)
+{
+    return narrowed(mode, sum_to_odd(a, b) * 0.5);
+}
+
+/* The machine gives an infinity exactly where the papers refuse: up above
+   MAX, down below -MAX, nearest from 2^128 - 2^103 on. Up below -MAX it gives
+   -MAX, and down above MAX it gives MAX. */
+uint32_t oracle_operate(enum operation operation, enum direction direction,
+                        uint32_t a, uint32_t b, uint32_t *result)
+{
+    if (!is_finite(a) || !is_finite(b))
+        return 3;
+    float x = value_of(a), y = value_of(b), rounded;
+    int mode = mode_of(direction);
+    switch (operation) {
+    case ADD: rounded = rounded_sum(mode, x, y); break;
+    case SUB: rounded = rounded_difference(mode, x, y); break;
+    case MUL: rounded = rounded_product(mode, x, y); break;
+    default:  rounded = rounded_midpoint(mode, x, y); break;
+    }
+    if (isinf(rounded))
+        return 5;
+    *result = pattern_of(rounded);
+    return 0;
+}

@@ -1,0 +1,75 @@
+/* Independent implementation of the library's papers, not proved: interface.
+
+   It is written from the papers alone and rounds with the machine's own
+   rounding modes, so that the library's answers can be compared with answers
+   that share no code with it. Numbers are binary32 patterns. A slice is a
+   pointer followed by its length; a length of zero is allowed. Matrices are
+   held by rows. */
+#ifndef ORACLE_H
+#define ORACLE_H
+
+#include <stddef.h>
+#include <stdint.h>
+
+enum operation { ADD, SUB, MUL, MIDPOINT };
+enum direction { DOWN, UP, NEAR };
+
+/* number 0: accepted, and the other three are 0 as well.
+   matrix: 1 is A, 2 is B, 3 is the result, 0 is none of them. */
+struct refusal { uint32_t number, matrix, row, column; };
+
+/* One operation, rounded once. Returns 0, 3 or 5; *result is written only
+   on 0. MIDPOINT is (a + b)/2 and asks for no order of a and b. */
+uint32_t oracle_operate(enum operation operation, enum direction direction,
+                        uint32_t a, uint32_t b, uint32_t *result);
+
+/* [lo, hi] to <m, r>: refused with 3 or 4. Writes only when accepted. */
+struct refusal oracle_to_midrad(uint32_t lo, uint32_t hi,
+                                uint32_t *m, uint32_t *r);
+
+/* <m, r> to [lo, hi]: refused with 3, 4 or 5. Writes only when accepted. */
+struct refusal oracle_to_bounds(uint32_t m, uint32_t r,
+                                uint32_t *lo, uint32_t *hi);
+
+/* Refusal 1 of a product on four sizes: A's sizes (matrix 1), then B's sizes
+   or the mismatch of A's columns and B's rows (matrix 2). */
+struct refusal oracle_check_sizes(size_t a_rows, size_t a_columns,
+                                  size_t b_rows, size_t b_columns);
+
+/* A (m by k) times B (k by n) by method 1, 3, 4 or 7. m_a, r_a, m_b, r_b are
+   the work slices, c_lo and c_hi the result. After success and after refusal
+   5 the work slices hold midpoints and radii (method 1: untouched); after 5
+   the result cells are 0; after any other refusal nothing is touched. */
+struct refusal oracle_product(uint32_t method, size_t m, size_t k, size_t n,
+    const uint32_t *a_lo, size_t a_lo_len, const uint32_t *a_hi, size_t a_hi_len,
+    const uint32_t *b_lo, size_t b_lo_len, const uint32_t *b_hi, size_t b_hi_len,
+    uint32_t *m_a, size_t m_a_len, uint32_t *r_a, size_t r_a_len,
+    uint32_t *m_b, size_t m_b_len, uint32_t *r_b, size_t r_b_len,
+    uint32_t *c_lo, size_t c_lo_len, uint32_t *c_hi, size_t c_hi_len);
+
+/* Reads a coupling sheet of len bytes. When accepted, writes all rows times
+   columns cells and both sizes; otherwise touches nothing. */
+struct refusal oracle_read(const uint8_t *s, size_t len,
+                           uint32_t *lo, size_t lo_len,
+                           uint32_t *hi, size_t hi_len,
+                           size_t *rows, size_t *columns);
+
+/* Writes a coupling sheet to the front of out. *written is the length of
+   that front part, 0 on a refusal, which leaves out untouched. */
+struct refusal oracle_write(size_t rows, size_t columns,
+                            const uint32_t *lo, size_t lo_len,
+                            const uint32_t *hi, size_t hi_len,
+                            uint8_t *out, size_t out_len, size_t *written);
+
+/* The sheet job: reads two sheets, multiplies, writes the third. Returns the
+   length written, or 1,000,000 number + 10,000 matrix + 100 row + column;
+   then out is untouched. */
+uint32_t oracle_job(uint32_t method, const uint8_t *a, size_t a_len,
+                    const uint8_t *b, size_t b_len,
+                    uint8_t *out, size_t out_len);
+
+/* The program: what it prints for this standard input. Returns the length of
+   the whole text and puts as much of it into text as there is room for. */
+size_t oracle_print(const uint8_t *input, size_t len, char *text, size_t room);
+
+#endif

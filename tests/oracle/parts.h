@@ -1,0 +1,52 @@
+/* Independent implementation, not proved: what its files share. */
+#ifndef PARTS_H
+#define PARTS_H
+
+#include <stdbool.h>
+
+#include "oracle.h"
+
+#define SIGN_BIT 0x80000000u
+#define MAX_SIZE 32
+#define MAX_CELLS 1024
+
+static const struct refusal ACCEPTED = {0, 0, 0, 0};
+
+/* A matrix of bounds in memory of its own. */
+struct matrix {
+    size_t rows, columns;
+    uint32_t lo[MAX_CELLS], hi[MAX_CELLS];
+};
+
+/* One pair of an entry: A's cell and B's cell, in bounds and, unless the
+   method is 1, in midpoint and radius. */
+struct pair {
+    uint32_t a_lo, a_hi, b_lo, b_hi;
+    uint32_t m_a, r_a, m_b, r_b;
+};
+
+/* One entry of a product; refused when one of its steps was refused. */
+struct entry {
+    uint32_t lo, hi;
+    bool refused;
+};
+
+/* number.c */
+bool is_finite(uint32_t pattern);             /* exponent field not 255 */
+float value_of(uint32_t pattern);             /* of a finite pattern */
+uint32_t magnitude(uint32_t pattern);         /* |x| */
+
+/* interval.c */
+struct refusal refuse(uint32_t number, uint32_t matrix, size_t row, size_t column);
+uint32_t check_bounds(uint32_t lo, uint32_t hi);       /* 0, 3 or 4 */
+bool size_in_range(size_t size);                       /* 1 to 32 */
+
+/* methods.c */
+bool method_known(uint32_t method);
+struct entry entry_by_method(uint32_t method, const struct pair *pairs, size_t k);
+
+/* job.c: reads both sheets and multiplies; matrix numbers are the job's. */
+struct refusal multiply_sheets(uint32_t method, const uint8_t *a, size_t a_len,
+                               const uint8_t *b, size_t b_len, struct matrix *c);
+
+#endif
