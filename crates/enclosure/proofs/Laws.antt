@@ -1,0 +1,44 @@
+-- The laws of a rounded arithmetic: all that enclosure and width use of it. `FormatLaws` shows them for every format.
+use mathlib.Core.Path.{_≡_}
+use mathlib.Core.List.{[], _∷_}
+use mathlib.Core.Option.{some}
+use Prim.Native.Nat.{ℕ, _*_, _≤_, _<_}
+use native.Mathlib.Omega.{arith}
+use lib.IntN.{ℤ, pos, negℤ, natAbs, _*ℤ_}
+use Rattle.algebra.specs.Order.{_≼_}
+use Rattle.algebra.proofs.Linear.{reading, le, lin-le}
+use Rattle.rounding.specs.Property.{Err}
+use Rattle.enclosure.specs.Arithmetic.{Arithmetic}
+
+pub record Laws (A : Arithmetic) : Type 1 where
+  -- a directed rounding errs by at most a P-th, the nearest by half of that
+  pub P : ℕ
+  pub MAX : ℕ
+  pub Num : ℤ → Type 0
+  pub num-within : {w : ℤ} → Num w → natAbs w ≤ MAX
+  -- the constants: 2 ^ -prec is 1 / (2 * P), and method 3 adds 2 * P units
+  pub units-above : 0 < A .units
+  pub eps-is : 2 * P * A .eps ≡ A .units
+  pub tiny-is : A .tiny ≡ 2 * P
+  -- up: the least number not below, and none above MAX. Below -MAX it is -MAX, so there the error has no bound
+  pub up-above : {D : ℕ} {X v : ℤ} → 0 < D → A .up D X ≡ some v → X ≼ v *ℤ pos D
+  pub up-least : {D : ℕ} {X v : ℤ} → 0 < D → A .up D X ≡ some v → (w : ℤ) → Num w → X ≼ w *ℤ pos D → v ≼ w
+  pub up-room : {D : ℕ} {X v : ℤ} → 0 < D → A .up D X ≡ some v → X ≼ pos (MAX * D)
+  pub up-err : {D : ℕ} {X v : ℤ} → 0 < D → A .up D X ≡ some v → negℤ (pos (MAX * D)) ≼ X → Err P D X v
+  -- down, the mirror image
+  pub down-below : {D : ℕ} {X v : ℤ} → 0 < D → A .down D X ≡ some v → v *ℤ pos D ≼ X
+  pub down-room : {D : ℕ} {X v : ℤ} → 0 < D → A .down D X ≡ some v → negℤ (pos (MAX * D)) ≼ X
+  pub down-err : {D : ℕ} {X v : ℤ} → 0 < D → A .down D X ≡ some v → X ≼ pos (MAX * D) → Err P D X v
+  -- nearest
+  pub near-err : {D : ℕ} {X v : ℤ} → 0 < D → A .near D X ≡ some v → Err (2 * P) D X v
+
+pub one : 0 < 1
+one = omega arith
+
+-- ---- of a sum, which is a whole number of units
+module _ {A : Arithmetic} (L : Laws A) where
+  pub up-sum : {X v : ℤ} → A .up 1 X ≡ some v → X ≼ v
+  up-sum {X} {v} h = lin-le (X ∷ v ∷ []) (le (L .up-above one h) ∷ []) (search reading depth 20) (omega arith)
+
+  pub down-sum : {X v : ℤ} → A .down 1 X ≡ some v → v ≼ X
+  down-sum {X} {v} h = lin-le (X ∷ v ∷ []) (le (L .down-below one h) ∷ []) (search reading depth 20) (omega arith)
