@@ -1,0 +1,42 @@
+-- The bounds of an entry that is accepted are numbers of the format, so that their patterns stand for them.
+use mathlib.Core.Path.{_≡_, refl, sym, ap, _∙_}
+use mathlib.Core.Option.{Option, none, some, bind, Option·none-ne-some, Option·some-injective}
+use Prim.Native.Nat.{ℕ}
+use lib.Dec.{lit<}
+use lib.IntN.{ℤ, _+ℤ_, _-ℤ_}
+use Rattle.rounding.specs.Format.{binary32, Num}
+use Rattle.rounding.specs.Rounding.{up, down}
+use Rattle.enclosure.specs.Arithmetic.{of}
+use Rattle.enclosure.specs.Methods.{Method, classical, three, four, seven, Range, total, ends, entry₁, entry}
+use Rattle.binary32.proofs.Held.{Fits}
+use Rattle.binary32.proofs.Numbers.{down-fits, up-fits}
+use Rattle.products.specs.Matrix.{Matrix}
+use Rattle.products.specs.Entries.{entryOf}
+use Rattle.products.proofs.Running.{lowerTo, upperTo, lower-fits, upper-fits}
+
+pub record Numbers (e : Range) : Type 0 where
+  pub lower : Num binary32 (e .lower)
+  pub upper : Num binary32 (e .upper)
+
+-- two partial results that make a range are its bounds
+both-numbers : (x y : Option ℤ) (e : Range) → Fits x → Fits y → (bind x λ l. bind y λ u. some (record { lower = l; upper = u })) ≡ some e → Numbers e
+unfolding bind Fits
+both-numbers none y e f g h = absurd (Option·none-ne-some e h)
+both-numbers (some l) none e f g h = absurd (Option·none-ne-some e h)
+both-numbers (some l) (some u) e f g h =
+    let s = Option·some-injective (record { lower = l; upper = u }) e h in
+    record { lower = f (e .lower) (ap (λ r. some (r .lower)) s); upper = g (e .upper) (ap (λ r. some (r .upper)) s) }
+
+ends-numbers : (R S T : Option ℤ) (e : Range) → ends (of binary32) R S T ≡ some e → Numbers e
+unfolding ends bind
+ends-numbers none S T e h = absurd (Option·none-ne-some e h)
+ends-numbers (some r) none T e h = absurd (Option·none-ne-some e h)
+ends-numbers (some r) (some s) none e h = absurd (Option·none-ne-some e h)
+ends-numbers (some r) (some s) (some t) e h = both-numbers (down binary32 1 (s -ℤ r)) (up binary32 1 (t +ℤ r)) e (down-fits 1 (lit< tt) (s -ℤ r)) (up-fits 1 (lit< tt) (t +ℤ r)) h
+
+pub entry-numbers : (m : Method) (k n : ℕ) (A B : Matrix) (i j : ℕ) (e : Range) → entryOf m k n A B i j ≡ some e → Numbers e
+unfolding entryOf entry entry₁ total lowerTo upperTo
+entry-numbers classical k n A B i j e h = both-numbers (lowerTo k n A B i j k) (upperTo k n A B i j k) e (lower-fits k n A B i j k) (upper-fits k n A B i j k) h
+entry-numbers three k n A B i j e h = ends-numbers _ _ _ e h
+entry-numbers four k n A B i j e h = ends-numbers _ _ _ e h
+entry-numbers seven k n A B i j e h = ends-numbers _ _ _ e h

@@ -1,0 +1,93 @@
+-- The lines of 01 that are marked *, as one statement about a table: what the definitions give is what the paper states. Numbers are patterns.
+use mathlib.Core.Path.{_≡_, refl}
+use mathlib.Core.Bool.{cond}
+use mathlib.Core.List.{List, [], _∷_, _++_, map}
+use mathlib.Core.Option.{bind}
+use Prim.Native.Nat.{ℕ}
+use lib.Ieee.{size}
+use lib.ListN.{drop, getD, length, replicate}
+use Rattle.algebra.specs.Extremes.{minℤ, maxℤ}
+use Rattle.rounding.specs.Format.{MAX, expo}
+use Rattle.rounding.specs.Rounding.{ceil, lo, hi, nr, up, down, near}
+use Rattle.rounding.specs.Pattern.{val, place}
+use Rattle.enclosure.specs.Sums.{sum}
+use Rattle.enclosure.specs.Conversion.{mid, rad}
+use Rattle.enclosure.specs.Methods.{entry, entry₁, ends, radius₃, radius₄, radius₇, centre, centre₇, total}
+use Rattle.enclosure.specs.Methods.{leastTerm, greatestTerm, innerTerm, outerTerm, raisedTerm, sharedTerm, midTerm, partTerm, part}
+use Rattle.binary32.specs.declared.Rounded.{Rounded}
+use Rattle.binary32.specs.declared.Rounded.the-variants as N
+use Rattle.binary32.specs.Number.{valueOf, held, negated}
+use Rattle.binary32.specs.Operations.{with₂, answer, addDown, addUp, addNear, mulDown, mulUp}
+use Rattle.intervals.specs.declared.Converted.{Converted}
+use Rattle.intervals.specs.declared.Converted.the-variants.{MidRad, NoMidRad}
+use Rattle.intervals.specs.Conversion.{faultOf, midOf, radOf, midradOf}
+use Rattle.products.specs.declared.Outcome.{Outcome}
+use Rattle.products.specs.declared.Outcome.the-variants.{Done, Refused}
+use Rattle.products.specs.Lists.{tabulate, first}
+use Rattle.products.specs.Matrix.{cellAt}
+use Rattle.products.specs.Entries.{entryOf, entryAt, stopOf, lowerOf, upperOf}
+use Rattle.products.specs.Checks.{Given, given, methodOf, checkMethod, checkSizes, longEnough, checkOperands, checkLent, checkLengths, checkCells, checkBoth, checkShapes, checkOf}
+use Rattle.products.specs.Product.{outcomeOf, resultAfter}
+
+pub record Line : Type 0 where
+  pub found : List ℕ
+  pub stated : List ℕ
+
+-- an operation's pattern, a conversion's two, a product's lower and upper one; or the number of the refusal alone
+abbrev number : Rounded → List ℕ
+number (N.Number p) = 0 ∷ p ∷ []
+number N.NotFinite = 3 ∷ []
+number N.Overflow = 5 ∷ []
+
+abbrev midrad : Converted → List ℕ
+midrad (MidRad m r) = m ∷ r ∷ []
+midrad (NoMidRad r) = []
+
+abbrev answer-of : Outcome → List ℕ → List ℕ
+answer-of Done cells = cells
+answer-of (Refused r) cells = []
+
+-- [al, au] × [bl, bu], one row and one column
+abbrev product : ℕ → (al au bl bu : ℕ) → List ℕ
+product method al au bl bu =
+    let g = given method 1 1 1 1 (al ∷ []) (au ∷ []) (bl ∷ []) (bu ∷ []) 1 1 1 1 1 1 in
+    answer-of (outcomeOf g) (resultAfter g lowerOf (0 ∷ []) ++ resultAfter g upperOf (0 ∷ []))
+
+abbrev by : List ℕ → List ℕ → Line
+by found stated = record { found = found; stated = stated }
+
+unfoldable pub table : List Line
+table =
+    -- 1 + 2^-24: up 1 + 2^-23, down 1, nearest 1
+    by (number (addUp 0x3F800000 0x33800000)) (0 ∷ 0x3F800001 ∷ [])
+    ∷ by (number (addDown 0x3F800000 0x33800000)) (0 ∷ 0x3F800000 ∷ [])
+    ∷ by (number (addNear 0x3F800000 0x33800000)) (0 ∷ 0x3F800000 ∷ [])
+    -- MAX + 2^103 nearest: 5. MAX + 1 unit: up 5, down MAX
+    ∷ by (number (addNear 0x7F7FFFFF 0x73000000)) (5 ∷ [])
+    ∷ by (number (addUp 0x7F7FFFFF 1)) (5 ∷ [])
+    ∷ by (number (addDown 0x7F7FFFFF 1)) (0 ∷ 0x7F7FFFFF ∷ [])
+    -- one unit × one unit: up one unit, down 0. Minus one unit × one unit: down minus one unit, up 0
+    ∷ by (number (mulUp 1 1)) (0 ∷ 1 ∷ [])
+    ∷ by (number (mulDown 1 1)) (0 ∷ 0 ∷ [])
+    ∷ by (number (mulDown 0x80000001 1)) (0 ∷ 0x80000001 ∷ [])
+    ∷ by (number (mulUp 0x80000001 1)) (0 ∷ 0 ∷ [])
+    -- [MAX, MAX] gives <MAX, 0>, [-MAX, MAX] gives <0, MAX>
+    ∷ by (midrad (midradOf 0x7F7FFFFF 0x7F7FFFFF)) (0x7F7FFFFF ∷ 0 ∷ [])
+    ∷ by (midrad (midradOf 0xFF7FFFFF 0x7F7FFFFF)) (0 ∷ 0x7F7FFFFF ∷ [])
+    -- [1 - 2^-24, 1 + 2^-23] gives <1 + 2^-23, 3 × 2^-24>
+    ∷ by (midrad (midradOf 0x3F7FFFFF 0x3F800001)) (0x3F800001 ∷ 0x34400000 ∷ [])
+    -- [0, 2] × [0, 2]: method 4 [-2, 4], methods 1 and 7 [0, 4]
+    ∷ by (product 4 0 0x40000000 0 0x40000000) (0xC0000000 ∷ 0x40800000 ∷ [])
+    ∷ by (product 1 0 0x40000000 0 0x40000000) (0 ∷ 0x40800000 ∷ [])
+    ∷ by (product 7 0 0x40000000 0 0x40000000) (0 ∷ 0x40800000 ∷ [])
+    -- [1, 2] × [-1, 3]: methods 1 and 7 [-2, 6], method 3 patterns C0400004 and 40C00002
+    ∷ by (product 1 0x3F800000 0x40000000 0xBF800000 0x40400000) (0xC0000000 ∷ 0x40C00000 ∷ [])
+    ∷ by (product 7 0x3F800000 0x40000000 0xBF800000 0x40400000) (0xC0000000 ∷ 0x40C00000 ∷ [])
+    ∷ by (product 3 0x3F800000 0x40000000 0xBF800000 0x40400000) (0xC0400004 ∷ 0x40C00002 ∷ [])
+    ∷ []
+
+pub stated-is-found : map (λ l. l .found) table ≡ map (λ l. l .stated) table
+unfolding table answer with₂ held valueOf negated bind faultOf midOf radOf midradOf outcomeOf resultAfter checkOf checkShapes checkMethod methodOf checkSizes checkLengths checkOperands
+    checkLent longEnough checkBoth checkCells first stopOf tabulate entryAt entryOf cellAt entry entry₁ ends radius₃ radius₄ radius₇ centre centre₇ total sum leastTerm greatestTerm
+    innerTerm outerTerm raisedTerm sharedTerm midTerm partTerm part minℤ maxℤ mid rad up down near lo hi nr ceil expo size MAX val place
+stated-is-found = refl

@@ -1,0 +1,138 @@
+-- A product that is done keeps demand 3: each of its cells is the pattern of an entry that was accepted, and so encloses.
+use mathlib.Core.Path.{_≡_, refl, sym, ap, ap₂, _∙_, subst}
+use mathlib.Core.Bool.{Bool, true, false, cond}
+use mathlib.Core.List.{List}
+use mathlib.Core.Option.{Option, none, some}
+use Prim.Native.Nat.{ℕ, _+_, _*_, _/_, _%_, _≤_, _<_}
+use native.Mathlib.Omega.{arith}
+use lib.Arith.{digits-div, digits-mod}
+use lib.Dec.{ltb}
+use lib.ListN.{getD}
+use borrow.Author.Tests.{ltb-false, le-ltb}
+use Rattle.rounding.specs.Format.{binary32}
+use Rattle.enclosure.specs.Methods.{Range}
+use Rattle.enclosure.specs.Demand.{Valid, ValidCells, Kept}
+use Rattle.enclosure.proofs.Demand.{demand-kept}
+use Rattle.binary32.specs.Number.{valueOf, patternOf}
+use Rattle.binary32.proofs.Held.{pattern-value}
+use Rattle.intervals.specs.declared.Fault.the-variants.{Fine}
+use Rattle.intervals.proofs.Faults.{fine-tells}
+use Rattle.refusals.specs.declared.Refusal.the-variants as R
+use Rattle.products.specs.declared.sums.Next.{Next}
+use Rattle.products.specs.declared.Outcome.{Outcome}
+use Rattle.products.specs.declared.Outcome.the-variants.{Done, Refused}
+use Rattle.products.specs.Lists.{front, first, zeros}
+use Rattle.products.specs.Matrix.{Matrix, AllFine, lowerAt, upperAt, cellAt, faultAt}
+use Rattle.products.specs.Entries.{patternsOf, entryOf, entryAt, refused, lowerOf, upperOf, stopOf}
+use Rattle.products.specs.Checks.{Given, then, chosen, checkOf}
+use Rattle.products.specs.Product.{entries, cells, stop, outcomeOf, resultAfter, unlessRefused, Left}
+use Rattle.products.specs.Demand.{Keeps, rowOf, columnOf, rangeAt}
+use Rattle.products.proofs.CheckTells.{Checked, checked-tells, then-tells}
+use Rattle.products.proofs.EntryNumbers.{Numbers, entry-numbers}
+use Rattle.products.proofs.Firsts.{first-le, first-before}
+use Rattle.products.proofs.Fronts.{getD-front}
+use Rattle.products.proofs.Writing.{below}
+
+-- ---- an entry that is not refused
+record Accepted (m : Option Range) (n : Next) : Type 0 where
+  e : Range
+  is : m ≡ some e
+  lower : lowerOf n ≡ patternOf (e .lower)
+  upper : upperOf n ≡ patternOf (e .upper)
+
+accepted : (m : Option Range) → refused (patternsOf m) ≡ false → Accepted m (patternsOf m)
+accepted (some e) h = record { e = e; is = refl; lower = refl; upper = refl }
+accepted none h = absurd (no h)
+  where
+    no : true ≡ false → ⊥
+    no e = subst (λ x. cond x (Unit {0}) ⊥) e tt
+
+-- ---- a cell without a fault
+valid : (X : Matrix) (c : ℕ) → faultAt X c ≡ Fine → Valid binary32 (cellAt X c)
+unfolding cellAt
+valid X c h =
+    let o = fine-tells (lowerAt X c) (upperAt X c) h in
+    record { low-number = o .low-num; high-number = o .high-num; ordered = o .order; converted = refl }
+
+module _ (g : Given) (ok : Checked g) where
+  row-valid : (i : ℕ) → i < g .a-rows → ValidCells binary32 (g .a-columns) (rowOf g i)
+  row-valid i h l t = valid (g .A) (i * g .a-columns + l) (ok .a-fine (i * g .a-columns + l) (below i (g .a-rows) l (g .a-columns) h t))
+
+  column-valid : (j : ℕ) → j < g .b-columns → ValidCells binary32 (g .a-columns) (columnOf g j)
+  column-valid j h l t = valid (g .B) (l * g .b-columns + j) (ok .b-fine (l * g .b-columns + j) (below l (g .b-rows) j (g .b-columns) (subst (λ k. l < k) (ok .sizes .inner) t) h))
+
+  within : (i j : ℕ) → i < g .a-rows → j < g .b-columns → i * g .b-columns + j < cells g
+  within i j h k = below i (g .a-rows) j (g .b-columns) h k
+
+  -- the theorem, of the entry in row i and column j
+  entry-keeps : (i j : ℕ) → i < g .a-rows → j < g .b-columns → (e : Range) → entryOf (chosen (g .method)) (g .a-columns) (g .b-columns) (g .A) (g .B) i j ≡ some e
+      → Kept (chosen (g .method)) (g .a-columns) (rowOf g i) (columnOf g j) e
+  unfolding entryOf
+  entry-keeps i j hi hj e h =
+      demand-kept (chosen (g .method)) (g .a-columns) (rowOf g i) (columnOf g j) e (ok .sizes .a-columns-above) (ok .sizes .a-columns-below) (row-valid i hi) (column-valid j hj) h
+
+  abbrev entry-at : ℕ → ℕ → Option Range
+  entry-at i j = entryOf (chosen (g .method)) (g .a-columns) (g .b-columns) (g .A) (g .B) i j
+
+  here : (i j : ℕ) → j < g .b-columns → entries g (i * g .b-columns + j) ≡ patternsOf (entry-at i j)
+  unfolding entryAt
+  here i j h = ap₂ (λ r t. patternsOf (entry-at r t)) (digits-div i h) (digits-mod i h)
+
+  -- where none is refused, that entry is accepted
+  accepted-at : stop g ≡ cells g → (i j : ℕ) → i < g .a-rows → j < g .b-columns → Accepted (entry-at i j) (entries g (i * g .b-columns + j))
+  unfolding stopOf
+  accepted-at s i j hi hj =
+      let f = first-before (λ c. refused (entries g c)) (cells g) s (i * g .b-columns + j) (within i j hi hj) in
+      subst (Accepted (entry-at i j)) (sym (here i j hj)) (accepted (entry-at i j) (sym (ap refused (here i j hj)) ∙ f))
+
+  -- the same of what is left in the result
+  keeps-at : (lo up : List ℕ) → stop g ≡ cells g → (i j : ℕ) → i < g .a-rows → j < g .b-columns
+      → Kept (chosen (g .method)) (g .a-columns) (rowOf g i) (columnOf g j) (rangeAt g (front (cells g) (λ c. lowerOf (entries g c)) lo) (front (cells g) (λ c. upperOf (entries g c)) up) i j)
+  keeps-at lo up s i j hi hj =
+      rw (getD-front (λ c. lowerOf (entries g c)) (cells g) lo (i * g .b-columns + j) (within i j hi hj), getD-front (λ c. upperOf (entries g c)) (cells g) up (i * g .b-columns + j) (within i j hi hj))
+      (told (accepted-at s i j hi hj))
+    where
+      told : Accepted (entry-at i j) (entries g (i * g .b-columns + j))
+          → Kept (chosen (g .method)) (g .a-columns) (rowOf g i) (columnOf g j) (record { lower = valueOf (lowerOf (entries g (i * g .b-columns + j))); upper = valueOf (upperOf (entries g (i * g .b-columns + j))) })
+      told a =
+          let n = entry-numbers (chosen (g .method)) (g .a-columns) (g .b-columns) (g .A) (g .B) i j (a .e) (a .is) in
+          let l : valueOf (lowerOf (entries g (i * g .b-columns + j))) ≡ a .e .lower = ap valueOf (a .lower) ∙ pattern-value (n .lower) in
+          let u : valueOf (upperOf (entries g (i * g .b-columns + j))) ≡ a .e .upper = ap valueOf (a .upper) ∙ pattern-value (n .upper) in
+          rw (l, u) (entry-keeps i j hi hj (a .e) (a .is))
+
+-- ---- what a product leaves when it is done
+module _ (g : Given) where
+  bounded : stop g ≤ cells g
+  unfolding stopOf
+  bounded = first-le (λ c. refused (entries g c)) (cells g)
+
+  outcome-tells : outcomeOf g ≡ Done → (checkOf g ≡ Done) × (stop g ≡ cells g)
+  unfolding outcomeOf
+  outcome-tells e =
+      let t = then-tells (checkOf g) _ e in
+      (t .0, whole (ltb (stop g) (cells g)) refl (t .1))
+    where
+      no : Refused (R.Overflow 3 (stop g / g .b-columns) (stop g % g .b-columns)) ≡ Done → ⊥
+      no e = let z : _≡_ {A = ℕ} 0 1 = cc in absurd (omega arith)
+
+      whole : (b : Bool) → ltb (stop g) (cells g) ≡ b → cond b (Refused (R.Overflow 3 (stop g / g .b-columns) (stop g % g .b-columns))) Done ≡ Done → stop g ≡ cells g
+      whole true t e = absurd (no e)
+      whole false t e =
+          let h : cells g ≤ stop g = ltb-false (stop g) (cells g) t in
+          let l : stop g ≤ cells g = bounded in
+          omega arith
+
+  result-done : (bound : Next → ℕ) (d : List ℕ) → checkOf g ≡ Done → stop g ≡ cells g → resultAfter g bound d ≡ front (cells g) (λ c. bound (entries g c)) d
+  unfolding resultAfter
+  result-done bound d e s = rw (e, le-ltb (stop g) (cells g) (omega arith))
+
+pub left-keeps : {g : Given} {ma ra mb rb lo up : List ℕ} {r : Outcome} {ma′ ra′ mb′ rb′ lo′ up′ : List ℕ} → Left g ma ra mb rb lo up r ma′ ra′ mb′ rb′ lo′ up′
+    → Left g ma ra mb rb lo up r ma′ ra′ mb′ rb′ lo′ up′ × Keeps g r lo′ up′
+unfolding Keeps
+left-keeps {g = g} {lo = lo} {up = up} L = (
+  L,
+  λ done i j hi hj.
+      let t = outcome-tells g (sym (L .outcome) ∙ done) in
+      rw (L .lowers ∙ result-done g lowerOf lo (t .0) (t .1), L .uppers ∙ result-done g upperOf up (t .0) (t .1))
+      (keeps-at g (checked-tells g (t .0)) lo up (t .1) i j hi hj),
+)

@@ -1,0 +1,143 @@
+-- What a product leaves on each way out: refused by a check, by method 1, and by methods 3, 4 and 7.
+use mathlib.Core.Path.{_≡_, refl, sym, ap, subst, _∙_}
+use mathlib.Core.Bool.{Bool, true, false, cond}
+use mathlib.Core.List.{List, _++_}
+use Prim.Native.Nat.{ℕ, _+_, _-_, _/_, _%_, _≤_}
+use native.Mathlib.Omega.{arith}
+use lib.Dec.{ltb}
+use lib.ListN.{drop, replicate}
+use lib.Seq.{drop-drop, drop-at}
+use borrow.Author.Tests.{ltb-false, eq-eqb, ne-eqb}
+use Rattle.enclosure.specs.Methods.{Method, classical}
+use Rattle.refusals.specs.declared.Refusal.{Refusal}
+use Rattle.refusals.specs.declared.Refusal.the-variants as R
+use Rattle.products.specs.declared.sums.Next.{Next}
+use Rattle.products.specs.declared.sums.Place.{Place}
+use Rattle.products.specs.declared.sums.Place.the-variants.{Nowhere, At}
+use Rattle.products.specs.declared.Outcome.{Outcome}
+use Rattle.products.specs.declared.Outcome.the-variants.{Done, Refused}
+use Rattle.products.specs.Lists.{tabulate, front, zeros}
+use Rattle.products.specs.Matrix.{midAt, radAt}
+use Rattle.products.specs.Entries.{entryAt, refused, lowerOf, upperOf, stopOf, placeOf, Written}
+use Rattle.products.specs.Checks.{Given, methodOf, chosen, checkOf}
+use Rattle.products.specs.Converted.{Multiplied}
+use Rattle.products.specs.Product.{Left, Finished, entries, cells, stop, outcomeOf, resultAfter, workAfter, outcomeAt, clearedAt}
+use Rattle.products.proofs.Firsts.{first-le}
+use Rattle.products.proofs.Fronts.{tabulate-length}
+use Rattle.products.proofs.Accepted.{inner}
+
+-- clearing forgets what was written in front
+zeros-front : (n c : ℕ) (f : ℕ → ℕ) (d : List ℕ) → c ≤ n → zeros n (front c f d) ≡ zeros n d
+zeros-front n c f d h = ap (λ (l : List ℕ). replicate n 0 ++ l) rest
+  where
+    rest : drop n (front c f d) ≡ drop n d
+    rest =
+        let s : c + (n - c) ≡ n = omega arith in
+        let w : drop c (front c f d) ≡ drop c d = drop-at (tabulate c f) (drop c d) c (tabulate-length c f) in
+        subst (λ (t : ℕ). drop t (front c f d) ≡ drop t d) s
+        (sym (drop-drop (n - c) c (front c f d)) ∙ ap (λ (l : List ℕ). drop (n - c) l) w ∙ drop-drop (n - c) c d)
+
+-- ---- the end, by the entry that is refused
+pub finished-nowhere : (p : Place) (n : ℕ) (lo up : List ℕ) → p ≡ Nowhere → Finished p n lo up Done lo up
+finished-nowhere p n lo up e = record { outcome = rw e; lowers = rw e; uppers = rw e }
+
+pub finished-at : (p : Place) (n : ℕ) (lo up : List ℕ) (i j : ℕ) (lo′ up′ : List ℕ) → p ≡ At i j → lo′ ≡ zeros n lo → up′ ≡ zeros n up
+    → Finished p n lo up (Refused (R.Overflow 3 i j)) lo′ up′
+finished-at p n lo up i j lo′ up′ e l u = record { outcome = rw e; lowers = rw e l; uppers = rw e u }
+
+stop-le : (E : ℕ → Next) (n : ℕ) → stopOf E n ≤ n
+unfolding stopOf
+stop-le E n = first-le (λ c. refused (E c)) n
+
+chosen-1 : (n : ℕ) → n ≡ 1 → classical ≡ chosen n
+unfolding methodOf
+chosen-1 n e = subst (λ (k : ℕ). classical ≡ chosen k) (sym e) refl
+
+-- refused by a check
+pub left-refused : (g : Given) (z : Outcome) (x : Refusal) (ma ra mb rb lo up : List ℕ) → z ≡ checkOf g → z ≡ Refused x
+    → Left g ma ra mb rb lo up (Refused x) ma ra mb rb lo up
+unfolding outcomeOf workAfter resultAfter
+left-refused g z x ma ra mb rb lo up d f =
+    let e : checkOf g ≡ Refused x = sym d ∙ f in
+    record { outcome = rw e; a-mids = rw e; a-rads = rw e; b-mids = rw e; b-rads = rw e; lowers = rw e; uppers = rw e }
+
+-- accepted by the checks
+module _ (g : Given) (ok : checkOf g ≡ Done) where
+  abbrev row : ℕ
+  row = stop g / g .b-columns
+
+  abbrev column : ℕ
+  column = stop g % g .b-columns
+
+  abbrev place : Place
+  place = placeOf (g .a-rows) (g .b-columns) (stop g)
+
+  -- ---- the entries were written up to the first that is refused, then kept or cleared
+  outcome-is : (p : Place) (r : Outcome) → p ≡ place → r ≡ outcomeAt p → r ≡ outcomeOf g
+  unfolding outcomeOf
+  outcome-is p r e f = f ∙ ap outcomeAt e ∙ rw ok (go (ltb (stop g) (cells g)))
+    where
+      go : (b : Bool) → outcomeAt (cond b (At row column) Nowhere) ≡ cond b (Refused (R.Overflow 3 row column)) Done
+      go true = refl
+      go false = refl
+
+  result-is : (bound : Next → ℕ) (p : Place) (d d′ d″ : List ℕ) → p ≡ place → d′ ≡ front (stop g) (λ c. bound (entries g c)) d → d″ ≡ clearedAt p (cells g) d′
+      → d″ ≡ resultAfter g bound d
+  unfolding resultAfter
+  result-is bound p d d′ d″ e w f =
+      f ∙ ap (λ q. clearedAt q (cells g) d′) e ∙ ap (λ l. clearedAt place (cells g) l) w ∙ rw ok (go (ltb (stop g) (cells g)) refl)
+    where
+      h : ℕ → ℕ
+      h c = bound (entries g c)
+
+      le : stop g ≤ cells g
+      le = stop-le (entries g) (cells g)
+
+      go : (b : Bool) → ltb (stop g) (cells g) ≡ b
+          → clearedAt (cond b (At row column) Nowhere) (cells g) (front (stop g) h d) ≡ cond b (zeros (cells g) d) (front (cells g) h d)
+      go true t = zeros-front (cells g) (stop g) h d le
+      go false t =
+          let all : cells g ≤ stop g = ltb-false (stop g) (cells g) t in
+          let same : stop g ≡ cells g = omega (arith, le) in
+          ap (λ (n : ℕ). front n h d) same
+
+  -- ---- the work cells
+  kept-is : (n : ℕ) (f : ℕ → ℕ) (d : List ℕ) → g .method ≡ 1 → d ≡ workAfter g n f d
+  unfolding workAfter
+  kept-is n f d e = rw (ok, eq-eqb (g .method) 1 e)
+
+  converted-is : (n : ℕ) (f : ℕ → ℕ) (d d′ : List ℕ) → (g .method ≡ 1 → ⊥) → d′ ≡ front n f d → d′ ≡ workAfter g n f d
+  unfolding workAfter
+  converted-is n f d d′ e w = rw (ok, ne-eqb (g .method) 1 e) w
+
+  -- ---- all of it
+  pub left-classical : (ma ra mb rb lo up : List ℕ) (p : Place) (lo′ up′ : List ℕ) (r : Outcome) (lo″ up″ : List ℕ) → g .method ≡ 1
+      → Written (entryAt classical (g .a-columns) (g .b-columns) (g .A) (g .B)) (g .a-rows) (g .b-columns) lo up p lo′ up′
+      → Finished p (cells g) lo′ up′ r lo″ up″ → Left g ma ra mb rb lo up r ma ra mb rb lo″ up″
+  left-classical ma ra mb rb lo up p lo′ up′ r lo″ up″ e w f =
+      let by : Method → Type 0 = λ (m : Method). Written (entryAt m (g .a-columns) (g .b-columns) (g .A) (g .B)) (g .a-rows) (g .b-columns) lo up p lo′ up′ in
+      let v : Written (entries g) (g .a-rows) (g .b-columns) lo up p lo′ up′ = subst by (chosen-1 (g .method) e) w in
+      record {
+        outcome = outcome-is p r (v .place) (f .outcome);
+        a-mids = kept-is _ _ ma e;
+        a-rads = kept-is _ _ ra e;
+        b-mids = kept-is _ _ mb e;
+        b-rads = kept-is _ _ rb e;
+        lowers = result-is lowerOf p lo lo′ lo″ (v .place) (v .lowers) (f .lowers);
+        uppers = result-is upperOf p up up′ up″ (v .place) (v .uppers) (f .uppers);
+      }
+
+  pub left-converted : (ma ra mb rb lo up : List ℕ) (p : Place) (ma′ ra′ mb′ rb′ lo′ up′ : List ℕ) (r : Outcome) (lo″ up″ : List ℕ) → (g .method ≡ 1 → ⊥)
+      → Multiplied (g .method) (g .a-rows) (g .a-columns) (g .b-columns) (g .A) (g .B) ma ra mb rb lo up p ma′ ra′ mb′ rb′ lo′ up′
+      → Finished p (cells g) lo′ up′ r lo″ up″ → Left g ma ra mb rb lo up r ma′ ra′ mb′ rb′ lo″ up″
+  left-converted ma ra mb rb lo up p ma′ ra′ mb′ rb′ lo′ up′ r lo″ up″ e w f =
+      let v = w .written in
+      record {
+        outcome = outcome-is p r (v .place) (f .outcome);
+        a-mids = converted-is _ _ ma ma′ e (w .a-mids);
+        a-rads = converted-is _ _ ra ra′ e (w .a-rads);
+        b-mids = converted-is _ _ mb mb′ e (w .b-mids ∙ ap (λ (n : ℕ). front n (midAt (g .B)) mb) (inner g ok));
+        b-rads = converted-is _ _ rb rb′ e (w .b-rads ∙ ap (λ (n : ℕ). front n (radAt (g .B)) rb) (inner g ok));
+        lowers = result-is lowerOf p lo lo′ lo″ (v .place) (v .lowers) (f .lowers);
+        uppers = result-is upperOf p up up′ up″ (v .place) (v .uppers) (f .uppers);
+      }

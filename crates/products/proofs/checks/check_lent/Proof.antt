@@ -1,0 +1,39 @@
+-- `products::checks::check_lent` meets its contract: the answers are put together as in the definition.
+use mathlib.Core.Path.{ap₂, _∙_}
+use Rattle.products.specs.Checks.{then, checkLent}
+use borrow.Author.Needs.{needs}
+use Rattle.products.proofs.checks.check_lent.Statement.{statement}
+use Rattle.products.proofs.checks.check_lent.Tie as tie
+
+check-lengths-requires : tie.Need-check-lengths-requires
+check-lengths-requires c κs = search needs
+
+check-lengths-requires-2 : tie.Need-check-lengths-requires-2
+check-lengths-requires-2 c κs = search needs
+
+first-of-requires : tie.Need-first-of-requires
+first-of-requires c κs = search needs
+
+check-lengths-requires-3 : tie.Need-check-lengths-requires-3
+check-lengths-requires-3 c κs = search needs
+
+first-of-requires-2 : tie.Need-first-of-requires-2
+first-of-requires-2 c κs = search needs
+
+returns : tie.Need-returns
+unfolding checkLent
+returns c =
+    let s = c .before .before in
+    c .first-of2 .ensures ∙ ap₂ then (c .before .check-lengths3 .ensures)
+    (s .first-of .ensures ∙ ap₂ then (s .before .check-lengths2 .ensures) (s .before .before .check-lengths .ensures))
+
+pub check-lent-spec : {M : Type 1} → statement M
+check-lent-spec =
+    tie.close
+    (tie.spec
+    check-lengths-requires
+    check-lengths-requires-2
+    first-of-requires
+    check-lengths-requires-3
+    first-of-requires-2
+    returns)

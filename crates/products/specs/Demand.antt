@@ -1,0 +1,27 @@
+-- Demand 3 of a product's result: in every entry lies whatever fractions make, and method 4's are no wider than the bound. Definitions only.
+use mathlib.Core.Path.{_≡_}
+use mathlib.Core.List.{List}
+use Prim.Native.Nat.{ℕ, _+_, _*_, _<_}
+use lib.ListN.{getD}
+use Rattle.enclosure.specs.Cell.{Cell}
+use Rattle.enclosure.specs.Demand.{Kept}
+use Rattle.enclosure.specs.Methods.{Range}
+use Rattle.binary32.specs.Number.{valueOf}
+use Rattle.products.specs.declared.Outcome.{Outcome}
+use Rattle.products.specs.declared.Outcome.the-variants.{Done}
+use Rattle.products.specs.Matrix.{cellAt}
+use Rattle.products.specs.Checks.{Given, chosen}
+
+-- A's row i and B's column j, as handed in
+abbrev pub rowOf : Given → ℕ → ℕ → Cell
+rowOf g i l = cellAt (g .A) (i * g .a-columns + l)
+
+abbrev pub columnOf : Given → ℕ → ℕ → Cell
+columnOf g j l = cellAt (g .B) (l * g .b-columns + j)
+
+-- the range in row i and column j of the result, in units
+abbrev pub rangeAt : Given → (lo up : List ℕ) → ℕ → ℕ → Range
+rangeAt g lo up i j = record { lower = valueOf (getD lo (i * g .b-columns + j) 0); upper = valueOf (getD up (i * g .b-columns + j) 0) }
+
+unfoldable pub Keeps : Given → Outcome → (lo up : List ℕ) → Type 0
+Keeps g r lo up = r ≡ Done → (i j : ℕ) → i < g .a-rows → j < g .b-columns → Kept (chosen (g .method)) (g .a-columns) (rowOf g i) (columnOf g j) (rangeAt g lo up i j)

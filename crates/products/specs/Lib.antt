@@ -1,0 +1,12 @@
+pub mod Lists
+pub mod Running
+pub mod Matrix
+pub mod Entries
+pub mod Stages
+pub mod Derived
+pub mod MidRad
+pub mod Factors
+pub mod Checks
+pub mod Converted
+pub mod Product
+pub mod Demand

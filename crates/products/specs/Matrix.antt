@@ -1,0 +1,43 @@
+-- A matrix as handed in: the patterns of its lower and of its upper bounds, cells by rows. Definitions only.
+use mathlib.Core.Path.{_≡_}
+use mathlib.Core.List.{List}
+use Prim.Native.Nat.{ℕ, _<_}
+use lib.ListN.{getD}
+use Rattle.rounding.specs.Format.{binary32}
+use Rattle.enclosure.specs.Arithmetic.{of}
+use Rattle.enclosure.specs.Cell.{Cell}
+use Rattle.enclosure.specs.Conversion.{cellOf}
+use Rattle.binary32.specs.Number.{valueOf}
+use Rattle.intervals.specs.declared.Fault.{Fault}
+use Rattle.intervals.specs.declared.Fault.the-variants.{Fine}
+use Rattle.intervals.specs.Conversion.{faultOf, midOf, radOf}
+
+pub record Matrix : Type 0 where
+  pub lowers : List ℕ
+  pub uppers : List ℕ
+
+module _ (X : Matrix) where
+  abbrev pub lowerAt : ℕ → ℕ
+  lowerAt c = getD (X .lowers) c 0
+
+  abbrev pub upperAt : ℕ → ℕ
+  upperAt c = getD (X .uppers) c 0
+
+  -- the cell at place c, in units, with what it is converted to
+  unfoldable pub cellAt : ℕ → Cell
+  cellAt c = cellOf (of binary32) (valueOf (lowerAt c)) (valueOf (upperAt c))
+
+  -- its midpoint and radius as patterns
+  abbrev pub midAt : ℕ → ℕ
+  midAt c = midOf (lowerAt c) (upperAt c)
+
+  abbrev pub radAt : ℕ → ℕ
+  radAt c = radOf (lowerAt c) (upperAt c)
+
+  -- what is wrong with it
+  abbrev pub faultAt : ℕ → Fault
+  faultAt c = faultOf (lowerAt c) (upperAt c)
+
+-- the first n cells are numbers in order
+abbrev pub AllFine : Matrix → ℕ → Type 0
+AllFine X n = (c : ℕ) → c < n → faultAt X c ≡ Fine

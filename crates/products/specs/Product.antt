@@ -1,0 +1,71 @@
+-- A product's answer, and what it leaves in lent memory, on all arguments. Definitions only (01, "Four products", "When a call is turned down").
+use mathlib.Core.Path.{_≡_}
+use mathlib.Core.Bool.{cond}
+use mathlib.Core.List.{List}
+use Prim.Native.Nat.{ℕ, _*_, _/_, _%_}
+use lib.Dec.{ltb, eqb}
+use Rattle.refusals.specs.declared.Refusal.the-variants as R
+use Rattle.products.specs.declared.sums.Next.{Next}
+use Rattle.products.specs.declared.sums.Place.{Place}
+use Rattle.products.specs.declared.sums.Place.the-variants.{Nowhere, At}
+use Rattle.products.specs.declared.Outcome.{Outcome}
+use Rattle.products.specs.declared.Outcome.the-variants.{Done, Refused}
+use Rattle.products.specs.Lists.{front, zeros}
+use Rattle.products.specs.Matrix.{midAt, radAt}
+use Rattle.products.specs.Entries.{entryAt, stopOf, lowerOf, upperOf}
+use Rattle.products.specs.Checks.{Given, then, chosen, checkOf}
+
+-- the entries by place
+abbrev pub entries : Given → ℕ → Next
+entries g = entryAt (chosen (g .method)) (g .a-columns) (g .b-columns) (g .A) (g .B)
+
+abbrev pub cells : Given → ℕ
+cells g = g .a-rows * g .b-columns
+
+-- how many entries come before the first that is refused
+abbrev pub stop : Given → ℕ
+stop g = stopOf (entries g) (cells g)
+
+-- 5 names the first entry by rows that has a refused step
+unfoldable pub outcomeOf : Given → Outcome
+outcomeOf g = then (checkOf g) (cond (ltb (stop g) (cells g)) (Refused (R.Overflow 3 (stop g / g .b-columns) (stop g % g .b-columns))) Done)
+
+-- ---- lent memory: a refusal by a check leaves all as it was
+
+abbrev pub unlessRefused : Outcome → List ℕ → List ℕ → List ℕ
+unlessRefused Done after before = after
+unlessRefused (Refused r) after before = before
+
+-- the result's cells: the entries, or zeros after 5
+unfoldable pub resultAfter : Given → (Next → ℕ) → List ℕ → List ℕ
+resultAfter g bound d = unlessRefused (checkOf g) (cond (ltb (stop g) (cells g)) (zeros (cells g) d) (front (cells g) (λ c. bound (entries g c)) d)) d
+
+-- the work cells: as converted, after 5 too; method 1 leaves them as they were
+unfoldable pub workAfter : Given → ℕ → (ℕ → ℕ) → List ℕ → List ℕ
+workAfter g count converted d = unlessRefused (checkOf g) (cond (eqb (g .method) 1) d (front count converted d)) d
+
+-- what `product` leaves
+pub record Left (g : Given) (ma ra mb rb lo up : List ℕ) (r : Outcome) (ma′ ra′ mb′ rb′ lo′ up′ : List ℕ) : Type 0 where
+  pub outcome : r ≡ outcomeOf g
+  pub a-mids : ma′ ≡ workAfter g (g .a-rows * g .a-columns) (midAt (g .A)) ma
+  pub a-rads : ra′ ≡ workAfter g (g .a-rows * g .a-columns) (radAt (g .A)) ra
+  pub b-mids : mb′ ≡ workAfter g (g .b-rows * g .b-columns) (midAt (g .B)) mb
+  pub b-rads : rb′ ≡ workAfter g (g .b-rows * g .b-columns) (radAt (g .B)) rb
+  pub lowers : lo′ ≡ resultAfter g lowerOf lo
+  pub uppers : up′ ≡ resultAfter g upperOf up
+
+-- ---- the end of a product: an entry that is refused clears the result's cells
+
+abbrev pub outcomeAt : Place → Outcome
+outcomeAt Nowhere = Done
+outcomeAt (At i j) = Refused (R.Overflow 3 i j)
+
+abbrev pub clearedAt : Place → ℕ → List ℕ → List ℕ
+clearedAt Nowhere count d = d
+clearedAt (At i j) count d = zeros count d
+
+-- what `finish` leaves
+pub record Finished (place : Place) (count : ℕ) (lo up : List ℕ) (r : Outcome) (lo′ up′ : List ℕ) : Type 0 where
+  pub outcome : r ≡ outcomeAt place
+  pub lowers : lo′ ≡ clearedAt place count lo
+  pub uppers : up′ ≡ clearedAt place count up

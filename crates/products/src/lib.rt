@@ -1,0 +1,116 @@
+// Products of interval matrices by four methods: classical, three, four and seven.
+ghost use mathlib.Core.Path.{_≡_};
+ghost use Prim.Native.Nat.{_≤_};
+ghost use lib.ListN.{length};
+ghost use Rattle.products.specs.Checks.{given};
+ghost use Rattle.products.specs.Product.{Finished, Left};
+ghost use Rattle.products.specs.Demand.{Keeps};
+use cells::clear;
+use checks::check_all;
+use refusals::Refusal;
+use sums::Place;
+
+mod cells;
+mod checks;
+mod classical;
+mod converted;
+pub mod derived;
+mod midrad;
+mod stages;
+pub mod sums;
+
+// Done, or the first refusal whose condition holds.
+pub enum Outcome {
+    Done,
+    Refused(Refusal),
+}
+
+// A refused entry clears the result's cells.
+fn finish(place: Place, count: usize, lo: &mut [u32], up: &mut [u32]) -> Outcome
+    requires { ⌜ (count ≤ length (now lo)) × (count ≤ length (now up)) ⌝ }
+    ensures { λ r. ⌜ Finished place count (now (lo .entry)) (now (up .entry)) r (now (lo .exit)) (now (up .exit)) ⌝ }
+{
+    match place {
+        Place::Nowhere => Outcome::Done,
+        Place::At(i, j) => {
+            clear(count, lo);
+            clear(count, up);
+            Outcome::Refused(Refusal::Overflow(3, i, j))
+        }
+    }
+}
+
+// A times B by the method with this number: its cells in lo and up, in ma, ra, mb and rb what A's and B's cells were converted to.
+pub fn product(
+    method: u32,
+    a_rows: usize,
+    a_columns: usize,
+    b_rows: usize,
+    b_columns: usize,
+    al: &[u32],
+    au: &[u32],
+    bl: &[u32],
+    bu: &[u32],
+    ma: &mut [u32],
+    ra: &mut [u32],
+    mb: &mut [u32],
+    rb: &mut [u32],
+    lo: &mut [u32],
+    up: &mut [u32],
+) -> Outcome
+    ensures { λ r. ⌜ Left (given method «a_rows» «a_columns» «b_rows» «b_columns» (now (al .entry)) (now (au .entry)) (now (bl .entry)) (now (bu .entry)) (length (now (ma .entry))) (length (now (ra .entry))) (length (now (mb .entry))) (length (now (rb .entry))) (length (now (lo .entry))) (length (now (up .entry)))) (now (ma .entry)) (now (ra .entry)) (now (mb .entry)) (now (rb .entry)) (now (lo .entry)) (now (up .entry)) r (now (ma .exit)) (now (ra .exit)) (now (mb .exit)) (now (rb .exit)) (now (lo .exit)) (now (up .exit)) ⌝ }
+    ensures { λ r. ⌜ Keeps (given method «a_rows» «a_columns» «b_rows» «b_columns» (now (al .entry)) (now (au .entry)) (now (bl .entry)) (now (bu .entry)) (length (now (ma .entry))) (length (now (ra .entry))) (length (now (mb .entry))) (length (now (rb .entry))) (length (now (lo .entry))) (length (now (up .entry)))) r (now (lo .exit)) (now (up .exit)) ⌝ }
+{
+    match check_all(
+        method,
+        a_rows,
+        a_columns,
+        b_rows,
+        b_columns,
+        al,
+        au,
+        bl,
+        bu,
+        ma.len(),
+        ra.len(),
+        mb.len(),
+        rb.len(),
+        lo.len(),
+        up.len(),
+    ) {
+        Outcome::Done => {
+            let count = a_rows * b_columns;
+            if method == 1 {
+                finish(
+                    classical::entries(a_rows, a_columns, b_columns, al, au, bl, bu, lo, up),
+                    count,
+                    lo,
+                    up,
+                )
+            } else {
+                finish(
+                    converted::multiply(
+                        method,
+                        a_rows,
+                        a_columns,
+                        b_columns,
+                        al,
+                        au,
+                        bl,
+                        bu,
+                        ma,
+                        ra,
+                        mb,
+                        rb,
+                        lo,
+                        up,
+                    ),
+                    count,
+                    lo,
+                    up,
+                )
+            }
+        }
+        Outcome::Refused(r) => Outcome::Refused(r),
+    }
+}

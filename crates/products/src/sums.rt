@@ -1,0 +1,65 @@
+// One entry's running sums, a value that takes a pair of cells and comes back.
+ghost use mathlib.Core.Path.{_≡_};
+ghost use Rattle.products.specs.Running.{heldNext, zeroSums, stepOf, addOf};
+use binary32::corners::corners;
+use binary32::partial::add_down;
+use binary32::partial::add_up;
+use binary32::partial::mul_both;
+use intervals::is_finite;
+
+// The lower sum, rounded down, and the upper one, rounded up.
+pub struct Sums {
+    pub lower: u32,
+    pub upper: u32,
+}
+
+// The next sums, or that a step was refused.
+pub enum Next {
+    More(Sums),
+    Overflow,
+}
+
+// The first entry by rows that is refused, if there is one.
+pub enum Place {
+    Nowhere,
+    At(usize, usize),
+}
+
+pub fn both_held(lo: u32, hi: u32) -> Next
+    ensures { λ r. ⌜ r ≡ heldNext lo hi ⌝ }
+{
+    if !is_finite(lo) {
+        return Next::Overflow;
+    }
+    if !is_finite(hi) {
+        return Next::Overflow;
+    }
+    Next::More(Sums {
+        lower: lo,
+        upper: hi,
+    })
+}
+
+impl Sums {
+    pub fn new() -> Self
+        ensures { λ r. ⌜ r ≡ zeroSums ⌝ }
+    {
+        Sums { lower: 0, upper: 0 }
+    }
+
+    // The classical step: the lower sum and the least of the four corner products, each rounded down; the upper sum and the greatest, each rounded up.
+    pub fn step(self, al: u32, au: u32, bl: u32, bu: u32) -> Next
+        ensures { λ r. ⌜ r ≡ stepOf self al au bl bu ⌝ }
+    {
+        let c = corners(al, au, bl, bu);
+        both_held(add_down(self.lower, c.down), add_up(self.upper, c.up))
+    }
+
+    // Both sums and the product a × b.
+    pub fn add(self, a: u32, b: u32) -> Next
+        ensures { λ r. ⌜ r ≡ addOf self a b ⌝ }
+    {
+        let p = mul_both(a, b);
+        both_held(add_down(self.lower, p.down), add_up(self.upper, p.up))
+    }
+}
