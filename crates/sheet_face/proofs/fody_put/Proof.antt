@@ -1,0 +1,54 @@
+-- `fody_put` meets its contract.
+use mathlib.Core.Path.{refl}
+use Rattle.sheet_face.specs.Codes.{writeCode}
+use Rattle.sheet_face.proofs.Answers.{write-is, out-is}
+use borrow.Author.Needs.{needs}
+use Rattle.sheet_face.proofs.fody_put.Statement.{statement}
+use Rattle.sheet_face.proofs.fody_put.Tie as tie
+
+put-requires : tie.Need-put-requires
+put-requires c κs = search needs
+
+enum-known-n : tie.Need-enum-known-n
+enum-known-n c = search needs
+
+cast-result : tie.Need-cast-result
+cast-result c = search needs
+
+enum-known-r : tie.Need-enum-known-r
+enum-known-r c = search needs
+
+code-requires : tie.Need-code-requires
+code-requires c κs = search needs
+
+same-length : tie.Need-same-length
+same-length c = search needs
+
+returns : tie.Need-returns
+unfolding writeCode
+returns c =
+    let r = c .before .before .before .before .before .put .ensures in
+    (write-is _ _ _ _ (r .0) (c .before .n .given .1) refl, out-is _ _ _ _ _ _ _ _ (r .0) (r .1 .0))
+
+same-length-2 : tie.Need-same-length-2
+same-length-2 c = search needs
+
+returns-2 : tie.Need-returns-2
+unfolding writeCode
+returns-2 c =
+    let r = c .before .before .before .before .before .before .put .ensures in
+    (write-is _ _ _ _ (r .0) (c .before .before .r .given .1) (c .code .ensures), out-is _ _ _ _ _ _ _ _ (r .0) (r .1 .0))
+
+pub fody-put-spec : {M : Type 1} → statement M
+fody-put-spec =
+    tie.close
+    (tie.spec
+    put-requires
+    enum-known-n
+    cast-result
+    enum-known-r
+    code-requires
+    same-length
+    returns
+    same-length-2
+    returns-2)

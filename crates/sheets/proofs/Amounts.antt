@@ -1,0 +1,37 @@
+-- The rule of the wear amounts, shown over the whole table: each is the pattern of 0, or of 2^(c-11) for its class c. Assumes nothing.
+use mathlib.Core.Path.{_≡_, ap}
+use mathlib.Core.Bool.{Bool, false}
+use mathlib.Core.List.{List, [], _∷_}
+use Prim.Native.Nat.{ℕ, _<_}
+use lib.Dec.{T, eqb, eqb→eq}
+use lib.Ieee.{size}
+use lib.IntN.{ℤ, pos, negsuc}
+use lib.ListN.{getD}
+use Rattle.rounding.specs.Pattern.{val, place}
+use Rattle.rounding.specs.Format.{expo}
+use Rattle.binary32.specs.Number.{valueOf}
+use Rattle.sheets.specs.Wear.{unitsOf, amountOf}
+use Rattle.sheets.proofs.Table.{both, both-left, both-right, at}
+
+abbrev pub amounts : List ℕ
+amounts = 0 ∷ 0x3A800000 ∷ 0x3B000000 ∷ 0x3B800000 ∷ 0x3C000000 ∷ 0x3C800000 ∷ 0x3D000000 ∷ 0x3D800000 ∷ []
+
+abbrev isUnits : ℤ → ℕ → Bool
+isUnits (pos n) m = eqb n m
+isUnits (negsuc n) m = false
+
+is-units : (z : ℤ) (m : ℕ) → T (isUnits z m) → z ≡ pos m
+is-units (pos n) m t = ap pos (eqb→eq n m t)
+is-units (negsuc n) m t = absurd t
+
+abbrev right : ℕ → ℕ → Bool
+right c x = both (eqb x (amountOf c)) (isUnits (valueOf x) (unitsOf c))
+
+pub amount-right : (c : ℕ) → c < 8 → (getD amounts c 0 ≡ amountOf c) × (valueOf (getD amounts c 0) ≡ pos (unitsOf c))
+unfolding unitsOf amountOf valueOf val place expo size
+amount-right c h =
+    let x : ℕ = getD amounts c 0 in
+    let t : T (right c x) = at right amounts tt c h in (
+      eqb→eq x (amountOf c) (both-left (eqb x (amountOf c)) (isUnits (valueOf x) (unitsOf c)) t),
+      is-units (valueOf x) (unitsOf c) (both-right (eqb x (amountOf c)) (isUnits (valueOf x) (unitsOf c)) t),
+    )

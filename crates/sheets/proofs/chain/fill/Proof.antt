@@ -1,0 +1,122 @@
+-- `chain::fill` meets its contract: the cells left from here, put into what is there, give the whole walk's cells put in at the start.
+use mathlib.Core.Path.{_≡_, refl, sym, _∙_}
+use Prim.Native.Nat.{ℕ, _+_, _-_, _*_, _≤_, _<_}
+use native.Mathlib.Omega.{arith}
+use lib.ListN.{length, length-set}
+use borrow.Author.Needs.{needs}
+use Rattle.sheets.specs.Chain.{more, walk}
+use Rattle.sheets.specs.Reading.{putIn, lowerOf, upperOf}
+use Rattle.sheets.proofs.Fits.{small}
+use Rattle.sheets.proofs.Walking.{visited, visit-place, walk-end, walk-refused, walk-cell}
+use Rattle.sheets.proofs.Placing.{put-none, put-more}
+use Rattle.sheets.proofs.chain.fill.Statement.{statement}
+use Rattle.sheets.proofs.chain.fill.Tie as tie
+
+abbrev Inv-loop : tie.InvT-loop
+Inv-loop s rows columns first lowers₀ uppers₀ index₀ least₀ lowers uppers index least =
+    (t : ℕ) × (rows * columns < t + least) × (least ≤ rows * columns) × (length lowers ≡ length lowers₀) × (length uppers ≡ length uppers₀)
+    × (putIn lowerOf lowers (walk s rows columns t index least .cells) ≡ putIn lowerOf lowers₀ (walk s rows columns (rows * columns + 1) first 0 .cells))
+    × (putIn upperOf uppers (walk s rows columns t index least .cells) ≡ putIn upperOf uppers₀ (walk s rows columns (rows * columns + 1) first 0 .cells))
+
+abbrev μ-loop : tie.MeasureT-loop
+μ-loop s rows columns first lowers₀ uppers₀ index₀ least₀ lowers uppers index least = rows * columns - least
+
+loop-holds : tie.Need-loop-holds Inv-loop μ-loop
+loop-holds c =
+    let a = c .before .before .before .args in
+    (a .rows * a .columns + 1, omega arith, omega arith, refl, refl, refl, refl)
+
+visit-requires : tie.Need-visit-requires Inv-loop μ-loop
+visit-requires c κs = search needs
+
+enum-known-c : tie.Need-enum-known-c Inv-loop μ-loop
+enum-known-c c = search needs
+
+-- a turn that passes the cell x
+turned : (c : tie.After-known-told Inv-loop μ-loop) →
+    let h = c .before .before .before .before .before in
+    let a = h .before .before .before .before .args in
+    let x = c .before .c .given .0 .0 in
+    (h .loop .least ≤ x .place) × (x .place < a .rows * a .columns) × (a .rows * a .columns ≤ 1024)
+    × (walk (a .s .now) (a .rows) (a .columns) (h .loop .inv .0) (h .loop .index) (h .loop .least) ≡ more x (walk (a .s .now) (a .rows) (a .columns) (h .loop .inv .0 - 1) (x .next) (x .place + 1)))
+turned c =
+    let h = c .before .before .before .before .before in
+    let a = h .before .before .before .before .args in
+    let e = visited (a .s .now) (a .rows) (a .columns) (h .loop .index) (h .loop .least) _ _ (c .before .before .before .visit .ensures) (c .before .c .given .1) in
+    let j = visit-place (a .s .now) (a .rows) (a .columns) (h .loop .index) (h .loop .least) _ e in
+    (j .0, j .1, small (a .rows) (a .columns) (omega arith) (omega arith), walk-cell _ _ _ (h .loop .inv .0) (h .loop .inv .0 - 1) _ _ _ (omega arith) (omega arith) e)
+
+mul-lowers : tie.Need-mul-lowers Inv-loop μ-loop
+mul-lowers c = let j = turned c in omega arith
+
+slice-write-lowers : tie.Need-slice-write-lowers Inv-loop μ-loop
+slice-write-lowers c = let j = turned c in omega arith
+
+mul-uppers : tie.Need-mul-uppers Inv-loop μ-loop
+mul-uppers c = let j = turned c in omega arith
+
+slice-write-uppers : tie.Need-slice-write-uppers Inv-loop μ-loop
+slice-write-uppers c = let j = turned c in omega arith
+
+add-least : tie.Need-add-least Inv-loop μ-loop
+add-least c = let j = turned c in omega arith
+
+loop-less : tie.Need-loop-less Inv-loop μ-loop
+loop-less c = let j = turned c in omega arith
+
+loop-again : tie.Need-loop-again Inv-loop μ-loop
+loop-again c =
+    let h = c .before .before .before .before .before .loop in
+    let j = turned c in
+    (h .inv .0 - 1, omega arith, omega arith, simp length-set (h .inv .3), simp length-set (h .inv .4), put-more lowerOf _ _ _ _ (j .3) ∙ h .inv .5, put-more upperOf _ _ _ _ (j .3) ∙ h .inv .6)
+
+enum-told : tie.Need-enum-told Inv-loop μ-loop
+enum-told c = search needs
+
+same-length : tie.Need-same-length Inv-loop μ-loop
+same-length c = search needs
+
+same-length-2 : tie.Need-same-length-2 Inv-loop μ-loop
+same-length-2 c = search needs
+
+returns : tie.Need-returns Inv-loop μ-loop
+returns c =
+    let h = c .before .before .before .before .loop in
+    let w = walk-refused _ _ _ (h .inv .0) (h .inv .0 - 1) _ _ _ (omega arith) (omega arith) (visited _ _ _ _ _ _ _ (c .before .before .visit .ensures) (c .enum-told .given .1)) in
+    (sym (put-none lowerOf _ _ _ w) ∙ h .inv .5, sym (put-none upperOf _ _ _ w) ∙ h .inv .6)
+
+same-length-3 : tie.Need-same-length-3 Inv-loop μ-loop
+same-length-3 c = search needs
+
+same-length-4 : tie.Need-same-length-4 Inv-loop μ-loop
+same-length-4 c = search needs
+
+returns-2 : tie.Need-returns-2 Inv-loop μ-loop
+returns-2 c =
+    let h = c .before .loop in
+    let w = walk-end _ _ _ (h .inv .0) (h .index) (h .least) (omega arith) in
+    (sym (put-none lowerOf _ _ _ w) ∙ h .inv .5, sym (put-none upperOf _ _ _ w) ∙ h .inv .6)
+
+pub fill-spec : {M : Type 1} → statement M
+fill-spec =
+    tie.close
+    (tie.spec
+    Inv-loop
+    μ-loop
+    loop-holds
+    visit-requires
+    enum-known-c
+    mul-lowers
+    slice-write-lowers
+    mul-uppers
+    slice-write-uppers
+    add-least
+    loop-less
+    loop-again
+    enum-told
+    same-length
+    same-length-2
+    returns
+    same-length-3
+    same-length-4
+    returns-2)

@@ -1,0 +1,88 @@
+-- `read` meets its contract.
+use mathlib.Core.Path.{sym, _∙_}
+use native.Mathlib.Omega.{arith}
+use lib.ListN.{length}
+use borrow.Author.Needs.{needs}
+use Rattle.sheets.specs.Reading.{lowerOf, upperOf}
+use Rattle.sheets.proofs.Fits.{small, Sized}
+use Rattle.sheets.proofs.Frames.{framed-tells}
+use Rattle.sheets.proofs.Answers.{Accepted, done-tells, slice-done, slice-refused}
+use Rattle.sheets.proofs.read.Statement.{statement}
+use Rattle.sheets.proofs.read.Tie as tie
+
+-- the check has passed
+accepted : (c : tie.After-known-told) →
+    let a = c .before .before .before .before .before .before .before .args in
+    Accepted (a .s .now) (length (a .lowers .now)) (length (a .uppers .now)) (c .before .rows .given .0 .0) (c .before .rows .given .0 .1 .0)
+accepted c = done-tells _ _ _ _ _ (sym (c .before .before .before .check-read .ensures) ∙ c .before .rows .given .1)
+
+check-read-requires : tie.Need-check-read-requires
+check-read-requires c κs = search needs
+
+enum-known-rows : tie.Need-enum-known-rows
+enum-known-rows c = search needs
+
+mul-cells : tie.Need-mul-cells
+mul-cells c =
+    let z = accepted c .sized in
+    omega (arith, small (c .before .rows .given .0 .0) (c .before .rows .given .0 .1 .0) (z .rows) (z .columns))
+
+clear-requires : tie.Need-clear-requires
+clear-requires c κs = accepted (c .before) .sized .lowers
+
+clear-requires-2 : tie.Need-clear-requires-2
+clear-requires-2 c κs = accepted (c .before .before .before .before .before) .sized .uppers
+
+u16-at-requires : tie.Need-u16-at-requires
+u16-at-requires c κs = let g = framed-tells _ (accepted (c .before .before .before .before .before .before .before .before) .frame) in omega arith
+
+fill-requires : tie.Need-fill-requires
+fill-requires c κs =
+    let a = accepted (c .before .before .before .before .before .before .before .before .before .before .before) in
+    let z = a .sized in
+    (z .rows, z .columns, framed-tells _ (a .frame) .1, omega arith, omega arith)
+
+enum-known-r : tie.Need-enum-known-r
+enum-known-r c = search needs
+
+same-length : tie.Need-same-length
+same-length c = search needs
+
+same-length-2 : tie.Need-same-length-2
+same-length-2 c = search needs
+
+returns : tie.Need-returns
+returns c =
+    let f = c .before .before .before .before in
+    let i = f .before .before .before in
+    let u = i .before .before .before in
+    let l = u .before .before .before .before in
+    let r = l .before .before .before in
+    let k = r .before .before in (
+      sym (r .rows .given .1) ∙ k .check-read .ensures,
+      (
+        slice-done lowerOf _ _ _ _ _ _ _ _ _ _ (k .check-read .ensures) (r .rows .given .1) (i .u16-at .ensures .0) (l .clear .ensures) (f .fill .ensures .0),
+        slice-done upperOf _ _ _ _ _ _ _ _ _ _ (k .check-read .ensures) (r .rows .given .1) (i .u16-at .ensures .0) (u .clear2 .ensures) (f .fill .ensures .1),
+      ),
+    )
+
+returns-2 : tie.Need-returns-2
+returns-2 c =
+    (sym (c .before .r .given .1) ∙ c .before .before .before .check-read .ensures, (slice-refused lowerOf _ _ _, slice-refused upperOf _ _ _))
+
+pub read-spec : {M : Type 1} → statement M
+read-spec =
+    tie.close
+    (tie.spec
+    check-read-requires
+    enum-known-rows
+    mul-cells
+    clear-requires
+    clear-requires-2
+    u16-at-requires
+    fill-requires
+    enum-known-r
+    same-length
+    same-length-2
+    returns
+    returns-2)

@@ -1,0 +1,62 @@
+-- The sheet that a matrix is written as. Definitions only (01, "The coupling sheet").
+use mathlib.Core.Bool.{cond}
+use mathlib.Core.List.{List, [], _∷_, _++_}
+use Prim.Native.Nat.{ℕ, zero, suc, _+_, _*_, _/_, _%_}
+use lib.Dec.{ltb}
+use lib.ListN.{length, getD, take, drop}
+use Rattle.sheets.specs.declared.cell.Bounds.{Bounds}
+use Rattle.sheets.specs.declared.cell.Bounds.the-variants as B
+use Rattle.sheets.specs.Cell.{boundsOf}
+
+-- ---- bytes
+
+-- a record: next, row, column, two numbers of four bytes, and zeros (class 0 and bytes 13 to 15).
+-- The head has the same form, with the index of the first cell, rows, columns and the number of records
+unfoldable pub recordBytes : ℕ → ℕ → ℕ → ℕ → ℕ → List ℕ
+recordBytes n r c l u =
+    n % 256 ∷ n / 256 % 256 ∷ r ∷ c
+    ∷ l % 256 ∷ l / 256 % 256 ∷ l / 65536 % 256 ∷ l / 16777216 % 256
+    ∷ u % 256 ∷ u / 256 % 256 ∷ u / 65536 % 256 ∷ u / 16777216 % 256
+    ∷ 0 ∷ 0 ∷ 0 ∷ 0 ∷ []
+
+-- `out` with `bytes` put in from m on
+unfoldable pub over : ℕ → List ℕ → List ℕ → List ℕ
+over m bytes out = take m out ++ bytes ++ drop (m + length bytes) out
+
+-- ---- the cells that are not [0, 0], by rows
+
+abbrev pub cellAt : List ℕ → List ℕ → ℕ → Bounds
+cellAt lo up p = boundsOf (getD lo p 0) (getD up p 0)
+
+unfoldable pub tally : Bounds → ℕ
+tally B.Zero = 0
+tally (B.Cell a b) = 1
+tally B.NotFinite = 0
+tally B.Crossed = 0
+
+-- how many of the first p
+unfoldable pub countTo : List ℕ → List ℕ → ℕ → ℕ
+countTo lo up zero = 0
+countTo lo up (suc p) = countTo lo up p + tally (cellAt lo up p)
+
+-- the index after k of a chain 1, 2, .. total, k = 0 being the head; 0 where it ends
+unfoldable pub nextOf : ℕ → ℕ → ℕ
+nextOf total k = cond (ltb k total) (k + 1) 0
+
+unfoldable pub cellBytes : ℕ → ℕ → ℕ → Bounds → List ℕ
+cellBytes n r c B.Zero = []
+cellBytes n r c (B.Cell a b) = recordBytes n r c a b
+cellBytes n r c B.NotFinite = []
+cellBytes n r c B.Crossed = []
+
+-- the records of the first p cells
+unfoldable pub recordsTo : ℕ → ℕ → List ℕ → List ℕ → ℕ → List ℕ
+recordsTo columns total lo up zero = []
+recordsTo columns total lo up (suc p) =
+    recordsTo columns total lo up p ++ cellBytes (nextOf total (countTo lo up p + 1)) (p / columns) (p % columns) (cellAt lo up p)
+
+-- the whole sheet: the head, then the cells that are not [0, 0] in records 1, 2, 3, ..
+unfoldable pub sheetOf : ℕ → ℕ → List ℕ → List ℕ → List ℕ
+sheetOf rows columns lo up =
+    let total = countTo lo up (rows * columns) in
+    recordBytes (nextOf total 0) rows columns (total + 1) 0 ++ recordsTo columns total lo up (rows * columns)

@@ -1,0 +1,136 @@
+// The coupling sheet: a matrix of intervals as records of 16 bytes, chained by a next index. Reads, writes, and checks of both.
+ghost use mathlib.Core.Path.{_≡_};
+ghost use lib.ListN.{length};
+ghost use Rattle.sheets.specs.Reading.{readOf, lowersAfter, uppersAfter};
+ghost use Rattle.sheets.specs.Writing.{writeOf, outAfter, partOf};
+ghost use Rattle.sheets.specs.Trip.{TripOf};
+
+mod cell;
+mod chain;
+mod layout;
+mod records;
+mod sizes;
+mod tally;
+mod wear;
+
+use chain::Verdict;
+use refusals::Refusal;
+use sizes::Fit;
+use tally::Tallied;
+
+// What a read answers: rows and columns of the matrix, or why it is refused.
+pub enum Outcome {
+    Done(usize, usize),
+    Refused(Refusal),
+}
+
+// What a write answers: the length of the sheet, or why it is refused.
+pub enum Written {
+    Bytes(usize),
+    Refused(Refusal),
+}
+
+// The answer of a read into slices of these lengths: 6 on length and head, 1, 2, then the chain's cells.
+pub fn check_read(s: &[u8], lowers: usize, uppers: usize) -> Outcome
+    ensures { λ r. ⌜ r ≡ readOf (now (s .entry)) lowers uppers ⌝ }
+{
+    if !layout::is_framed(s) {
+        return Outcome::Refused(Refusal::Layout(0));
+    }
+    let rows = layout::byte(s, 2);
+    let columns = layout::byte(s, 3);
+    match sizes::fitting(rows, columns, lowers, uppers) {
+        Fit::Size => Outcome::Refused(Refusal::Size(0)),
+        Fit::Short => Outcome::Refused(Refusal::Short(0)),
+        Fit::Fits => match chain::follow(s, rows, columns, layout::u16_at(s, 0)) {
+            Verdict::Passed => Outcome::Done(rows, columns),
+            Verdict::Refused(r) => Outcome::Refused(r),
+        },
+    }
+}
+
+// Reads the sheet's matrix into the front of the two slices; on a refusal they stay as they are.
+pub fn read(s: &[u8], lowers: &mut [u32], uppers: &mut [u32]) -> Outcome
+    ensures answer { λ r. ⌜ r ≡ readOf (now (s .entry)) (length (now (lowers .entry))) (length (now (uppers .entry))) ⌝ }
+    ensures below { λ r. ⌜ now (lowers .exit) ≡ lowersAfter (now (s .entry)) r (now (lowers .entry)) ⌝ }
+    ensures above { λ r. ⌜ now (uppers .exit) ≡ uppersAfter (now (s .entry)) r (now (uppers .entry)) ⌝ }
+{
+    match check_read(s, lowers.len(), uppers.len()) {
+        Outcome::Done(rows, columns) => {
+            let cells = rows * columns;
+            chain::clear(lowers, cells);
+            chain::clear(uppers, cells);
+            chain::fill(s, rows, columns, layout::u16_at(s, 0), lowers, uppers);
+            Outcome::Done(rows, columns)
+        }
+        Outcome::Refused(r) => Outcome::Refused(r),
+    }
+}
+
+// The answer of a write into a buffer of this length: 1, 2, 3 and 4 by cells, 11.
+pub fn check_write(
+    rows: usize,
+    columns: usize,
+    lowers: &[u32],
+    uppers: &[u32],
+    room: usize,
+) -> Written
+    ensures { λ r. ⌜ r ≡ writeOf rows columns (now (lowers .entry)) (now (uppers .entry)) room ⌝ }
+{
+    match sizes::fitting(rows, columns, lowers.len(), uppers.len()) {
+        Fit::Size => Written::Refused(Refusal::Size(0)),
+        Fit::Short => Written::Refused(Refusal::Short(0)),
+        Fit::Fits => match tally::scan(columns, rows * columns, lowers, uppers) {
+            Tallied::Refused(r) => Written::Refused(r),
+            Tallied::Counted(k) => {
+                let needed = 16 * (k + 1);
+                if room < needed {
+                    return Written::Refused(Refusal::Room(0));
+                }
+                Written::Bytes(needed)
+            }
+        },
+    }
+}
+
+// Writes the matrix's sheet into the front of out; on a refusal out stays as it is.
+// What is written, `read` reads back as the same matrix by value.
+pub fn put(rows: usize, columns: usize, lowers: &[u32], uppers: &[u32], out: &mut [u8]) -> Written
+    ensures answer { λ r. ⌜ r ≡ writeOf rows columns (now (lowers .entry)) (now (uppers .entry)) (length (now (out .entry))) ⌝ }
+    ensures left { λ r. ⌜ now (out .exit) ≡ outAfter rows columns (now (lowers .entry)) (now (uppers .entry)) r (now (out .entry)) ⌝ }
+    ensures trip { λ r. ⌜ TripOf rows columns (now (lowers .entry)) (now (uppers .entry)) r (now (out .exit)) ⌝ }
+{
+    match check_write(rows, columns, lowers, uppers, out.len()) {
+        Written::Bytes(n) => {
+            let total = n / 16 - 1;
+            records::put_record(
+                out,
+                0,
+                records::next_of(total, 0),
+                rows,
+                columns,
+                (total + 1) as u32,
+                0,
+            );
+            records::put_cells(out, columns, rows * columns, total, lowers, uppers);
+            Written::Bytes(n)
+        }
+        Written::Refused(r) => Written::Refused(r),
+    }
+}
+
+// The same, and hands back the written front part of out, empty on a refusal. What is left in the rest of out is `put`'s to say.
+pub fn write<'a, 'b>(
+    rows: usize,
+    columns: usize,
+    lowers: &'b [u32],
+    uppers: &'b [u32],
+    out: &'a mut [u8],
+) -> &'a mut [u8]
+    ensures { λ r. ⌜ now r ≡ partOf rows columns (now (lowers .entry)) (now (uppers .entry)) (writeOf rows columns (now (lowers .entry)) (now (uppers .entry)) (length (now (out .entry)))) ⌝ }
+{
+    match put(rows, columns, lowers, uppers, out) {
+        Written::Bytes(n) => &mut out[..n],
+        Written::Refused(_) => &mut out[..0],
+    }
+}

@@ -1,0 +1,25 @@
+// The wear classes: how far a cell is widened when it is read.
+ghost use mathlib.Core.Path.{_≡_};
+ghost use Prim.Native.Nat.{_<_};
+ghost use lib.IntN.{pos};
+ghost use Rattle.binary32.specs.Number.{valueOf};
+ghost use Rattle.sheets.specs.Wear.{unitsOf, amountOf};
+
+// 0 for class 0, 2^(c-11) for class c from 1 to 7.
+const WEAR: [u32; 8] = [
+    0,
+    0x3A80_0000,
+    0x3B00_0000,
+    0x3B80_0000,
+    0x3C00_0000,
+    0x3C80_0000,
+    0x3D00_0000,
+    0x3D80_0000,
+];
+
+pub fn amount(class: usize) -> u32
+    requires { ⌜ «class» < 8 ⌝ }
+    ensures { λ r. ⌜ (r ≡ amountOf «class») × (valueOf r ≡ pos (unitsOf «class»)) ⌝ }
+{
+    WEAR[class]
+}
