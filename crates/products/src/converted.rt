@@ -8,7 +8,7 @@ use crate::cells::convert;
 use crate::derived::Kind;
 use crate::derived::derive_all;
 use crate::derived::raised;
-use crate::midrad::entries;
+use crate::factored::entries;
 use crate::sums::Place;
 
 // How many cells a matrix has at most.

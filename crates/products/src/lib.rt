@@ -6,15 +6,17 @@ ghost use Rattle.products.specs.Checks.{given};
 ghost use Rattle.products.specs.Product.{Finished, Left};
 ghost use Rattle.products.specs.Demand.{Keeps};
 use cells::clear;
-use checks::check_all;
+use check_order::check_all;
 use refusals::Refusal;
 use sums::Place;
 
 mod cells;
+mod check_order;
 mod checks;
 mod classical;
 mod converted;
 pub mod derived;
+mod factored;
 mod midrad;
 mod stages;
 pub mod sums;

@@ -1,13 +1,10 @@
 // Methods 3, 4 and 7: an entry is a centre and a radius, each a sum that is continued with other terms, and its ends.
 ghost use mathlib.Core.Path.{_≡_};
-ghost use lib.ListN.{length};
-ghost use Rattle.products.specs.Entries.{Written};
-ghost use Rattle.products.specs.MidRad.{endsOf, Within, WithinParts, Lists, threeFrom, fourFrom, sevenFrom, entryFrom, placeFrom};
+ghost use Rattle.products.specs.MidRad.{endsOf, Within, WithinParts, threeFrom, fourFrom, sevenFrom};
 use crate::stages::dot_both;
 use crate::stages::dot_near;
 use crate::stages::dot_up;
 use crate::sums::Next;
-use crate::sums::Place;
 use crate::sums::Sums;
 use crate::sums::both_held;
 use binary32::partial::add_up;
@@ -24,7 +21,7 @@ fn ends(radius: u32, low: u32, high: u32) -> Next
 }
 
 // One rounded centre for both ends.
-fn three(
+pub fn three(
     k: usize,
     n: usize,
     i: usize,
@@ -45,7 +42,7 @@ fn three(
 }
 
 // The centre rounded down for the lower end, up for the upper.
-fn four(
+pub fn four(
     k: usize,
     n: usize,
     i: usize,
@@ -70,7 +67,7 @@ fn four(
 }
 
 // The same, the centre continued with the parts' products and the radius with less than they make up.
-fn seven(
+pub fn seven(
     k: usize,
     n: usize,
     i: usize,
@@ -100,73 +97,4 @@ fn seven(
         },
         Next::Overflow => Next::Overflow,
     }
-}
-
-fn entry(
-    method: u32,
-    k: usize,
-    n: usize,
-    i: usize,
-    j: usize,
-    ma: &[u32],
-    ra: &[u32],
-    ua: &[u32],
-    mb: &[u32],
-    vb: &[u32],
-    wb: &[u32],
-    pa: &[u32],
-    xa: &[u32],
-    pb: &[u32],
-    yb: &[u32],
-) -> Next
-    requires { ⌜ WithinParts k n i j (now ma) (now ra) (now ua) (now mb) (now vb) (now wb) (now pa) (now xa) (now pb) (now yb) ⌝ }
-    ensures { λ r. ⌜ r ≡ entryFrom k n i j (now (ma .entry)) (now (ra .entry)) (now (ua .entry)) (now (mb .entry)) (now (vb .entry)) (now (wb .entry)) (now (pa .entry)) (now (xa .entry)) (now (pb .entry)) (now (yb .entry)) method ⌝ }
-{
-    match method {
-        3 => three(k, n, i, j, ma, ra, ua, mb, vb, wb),
-        4 => four(k, n, i, j, ma, ra, ua, mb, vb, wb),
-        _ => seven(k, n, i, j, ma, ra, ua, mb, vb, wb, pa, xa, pb, yb),
-    }
-}
-
-// Writes the entries by rows up to the first one that is refused, and says where that is.
-pub fn entries(
-    method: u32,
-    m: usize,
-    k: usize,
-    n: usize,
-    ma: &[u32],
-    ra: &[u32],
-    ua: &[u32],
-    mb: &[u32],
-    vb: &[u32],
-    wb: &[u32],
-    pa: &[u32],
-    xa: &[u32],
-    pb: &[u32],
-    yb: &[u32],
-    lo: &mut [u32],
-    up: &mut [u32],
-) -> Place
-    requires { ⌜ Lists k n (now ma) (now ra) (now ua) (now mb) (now vb) (now wb) (now pa) (now xa) (now pb) (now yb) m (length (now lo)) (length (now up)) ⌝ }
-    ensures { λ r. ⌜ Written (placeFrom k n (now (ma .entry)) (now (ra .entry)) (now (ua .entry)) (now (mb .entry)) (now (vb .entry)) (now (wb .entry)) (now (pa .entry)) (now (xa .entry)) (now (pb .entry)) (now (yb .entry)) method) m n (now (lo .entry)) (now (up .entry)) r (now (lo .exit)) (now (up .exit)) ⌝ }
-{
-    let mut place = Place::Nowhere;
-    let mut at = 0;
-    'search: for i in 0..m {
-        for j in 0..n {
-            match entry(method, k, n, i, j, ma, ra, ua, mb, vb, wb, pa, xa, pb, yb) {
-                Next::More(s) => {
-                    lo[at] = s.lower;
-                    up[at] = s.upper;
-                    at += 1;
-                }
-                Next::Overflow => {
-                    place = Place::At(i, j);
-                    break 'search;
-                }
-            }
-        }
-    }
-    place
 }

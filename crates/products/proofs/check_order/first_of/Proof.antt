@@ -1,8 +1,8 @@
--- `products::checks::first_of` meets its contract: it is the definition.
+-- `products::check_order::first_of` meets its contract: it is the definition.
 use borrow.Author.Needs.{needs}
 use Rattle.products.proofs.CheckLaws.{then-refused}
-use Rattle.products.proofs.checks.first_of.Statement.{statement}
-use Rattle.products.proofs.checks.first_of.Tie as tie
+use Rattle.products.proofs.check_order.first_of.Statement.{statement}
+use Rattle.products.proofs.check_order.first_of.Tie as tie
 
 enum-told : tie.Need-enum-told
 enum-told c = search needs

@@ -1,12 +1,12 @@
--- `products::checks::check_all` meets its contract: each return is a case of the definition, and what was accepted before fits what the next check asks for.
+-- `products::check_order::check_all` meets its contract: each return is a case of the definition, and what was accepted before fits what the next check asks for.
 use mathlib.Core.Path.{_≡_, sym, ap₂, _∙_}
 use native.Mathlib.Omega.{arith}
 use Rattle.products.specs.Checks.{Given, given, then, checkShapes, checkLengths}
 use Rattle.products.proofs.CheckLaws.{few, all-1, all-2, all-3}
 use Rattle.products.proofs.CheckTells.{Sized, shapes-tell, all-lengths-tell, a-covered, b-covered}
 use borrow.Author.Needs.{needs}
-use Rattle.products.proofs.checks.check_all.Statement.{statement}
-use Rattle.products.proofs.checks.check_all.Tie as tie
+use Rattle.products.proofs.check_order.check_all.Statement.{statement}
+use Rattle.products.proofs.check_order.check_all.Tie as tie
 
 -- what was handed in
 abbrev G : tie.After-first-of → Given

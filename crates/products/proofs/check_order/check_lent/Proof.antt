@@ -1,9 +1,9 @@
--- `products::checks::check_lent` meets its contract: the answers are put together as in the definition.
+-- `products::check_order::check_lent` meets its contract: the answers are put together as in the definition.
 use mathlib.Core.Path.{ap₂, _∙_}
 use Rattle.products.specs.Checks.{then, checkLent}
 use borrow.Author.Needs.{needs}
-use Rattle.products.proofs.checks.check_lent.Statement.{statement}
-use Rattle.products.proofs.checks.check_lent.Tie as tie
+use Rattle.products.proofs.check_order.check_lent.Statement.{statement}
+use Rattle.products.proofs.check_order.check_lent.Tie as tie
 
 check-lengths-requires : tie.Need-check-lengths-requires
 check-lengths-requires c κs = search needs

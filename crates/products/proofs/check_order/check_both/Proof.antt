@@ -1,8 +1,8 @@
--- `products::checks::check_both` meets its contract: the answers are put together as in the definition.
+-- `products::check_order::check_both` meets its contract: the answers are put together as in the definition.
 use Rattle.products.proofs.CheckLaws.{both-1, both-2}
 use borrow.Author.Needs.{needs}
-use Rattle.products.proofs.checks.check_both.Statement.{statement}
-use Rattle.products.proofs.checks.check_both.Tie as tie
+use Rattle.products.proofs.check_order.check_both.Statement.{statement}
+use Rattle.products.proofs.check_order.check_both.Tie as tie
 
 check-cells-requires : tie.Need-check-cells-requires
 check-cells-requires c κs = search needs

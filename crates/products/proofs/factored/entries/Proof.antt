@@ -1,4 +1,4 @@
--- `products::midrad::entries` meets its contract. The loops keep the entries written and that none of them was refused. A refused entry leaves both with its place.
+-- `products::factored::entries` meets its contract. The loops keep the entries written and that none of them was refused. A refused entry leaves both with its place.
 use mathlib.Core.Path.{_≡_, refl, sym, ap, _∙_}
 use mathlib.Core.List.{List}
 use Prim.Native.Nat.{ℕ, _+_, _-_, _*_, _≤_, _<_}
@@ -14,8 +14,8 @@ use Rattle.products.specs.MidRad.{entryFrom, placeFrom}
 use Rattle.products.proofs.Fronts.{Filled, filled-none, filled-more, filled-from}
 use Rattle.products.proofs.Writing.{below, small, lowersOf, uppersOf, stop-none, stop-more, lower-is, upper-is, written-all, written-at}
 use Rattle.products.proofs.MidRadPlaces.{place-here, lists-within}
-use Rattle.products.proofs.midrad.entries.Statement.{statement}
-use Rattle.products.proofs.midrad.entries.Tie as tie
+use Rattle.products.proofs.factored.entries.Statement.{statement}
+use Rattle.products.proofs.factored.entries.Tie as tie
 
 -- the first `at` entries are written, and none of them was refused
 abbrev Kept : (ℕ → Next) → ℕ → (lo₀ up₀ lo up : List ℕ) → Type 0

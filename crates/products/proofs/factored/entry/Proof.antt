@@ -1,10 +1,10 @@
--- `products::midrad::entry` meets its contract.
+-- `products::factored::entry` meets its contract.
 use mathlib.Core.Path.{_∙_}
 use borrow.Author.Tests.{ne-eqb}
 use Rattle.products.proofs.Centres.{entry-three, entry-four, entry-seven}
 use borrow.Author.Needs.{needs}
-use Rattle.products.proofs.midrad.entry.Statement.{statement}
-use Rattle.products.proofs.midrad.entry.Tie as tie
+use Rattle.products.proofs.factored.entry.Statement.{statement}
+use Rattle.products.proofs.factored.entry.Tie as tie
 
 three-requires : tie.Need-three-requires
 three-requires c κs = search needs

@@ -1,0 +1,102 @@
+// All that a product checks before it works anything out, in 01's order: 9, 1, 2, A's cells by rows, then B's.
+ghost use mathlib.Core.Path.{_≡_};
+ghost use Rattle.products.specs.Matrix.{Matrix};
+ghost use Rattle.products.specs.Checks.{Covered, given, then, checkOperands, checkLent, checkBoth, checkOf};
+use crate::Outcome;
+use crate::checks::check_cells;
+use crate::checks::check_lengths;
+use crate::checks::check_method;
+use crate::checks::check_sizes;
+
+// The first refusal of two answers.
+fn first_of(one: Outcome, two: Outcome) -> Outcome
+    ensures { λ r. ⌜ r ≡ then one two ⌝ }
+{
+    match one {
+        Outcome::Done => two,
+        Outcome::Refused(r) => Outcome::Refused(r),
+    }
+}
+
+// 2: A's slices, then B's.
+fn check_operands(a: usize, b: usize, al: &[u32], au: &[u32], bl: &[u32], bu: &[u32]) -> Outcome
+    ensures { λ r. ⌜ r ≡ checkOperands a b (record { lowers = now (al .entry); uppers = now (au .entry) }) (record { lowers = now (bl .entry); uppers = now (bu .entry) }) ⌝ }
+{
+    let second = check_lengths(2, b, bl.len(), bu.len());
+    first_of(check_lengths(1, a, al.len(), au.len()), second)
+}
+
+// 2: work, then the result.
+fn check_lent(
+    a: usize,
+    b: usize,
+    c: usize,
+    ma: usize,
+    ra: usize,
+    mb: usize,
+    rb: usize,
+    lo: usize,
+    up: usize,
+) -> Outcome
+    ensures { λ r. ⌜ r ≡ checkLent a b c ma ra mb rb lo up ⌝ }
+{
+    let result = check_lengths(3, c, lo, up);
+    let second = first_of(check_lengths(0, b, mb, rb), result);
+    first_of(check_lengths(0, a, ma, ra), second)
+}
+
+// 3 and 4: A's cells, then B's.
+fn check_both(
+    a_rows: usize,
+    a_columns: usize,
+    b_rows: usize,
+    b_columns: usize,
+    al: &[u32],
+    au: &[u32],
+    bl: &[u32],
+    bu: &[u32],
+) -> Outcome
+    requires { ⌜ Covered «a_rows» «a_columns» (now al) (now au) × Covered «b_rows» «b_columns» (now bl) (now bu) ⌝ }
+    ensures { λ r. ⌜ r ≡ checkBoth «a_rows» «a_columns» «b_rows» «b_columns» (record { lowers = now (al .entry); uppers = now (au .entry) }) (record { lowers = now (bl .entry); uppers = now (bu .entry) }) ⌝ }
+{
+    match check_cells(1, a_rows, a_columns, al, au) {
+        Outcome::Done => check_cells(2, b_rows, b_columns, bl, bu),
+        Outcome::Refused(r) => Outcome::Refused(r),
+    }
+}
+
+// All of them, in 01's order; ma, ra, mb, rb, lo and up are the lengths of the lent slices.
+pub fn check_all(
+    method: u32,
+    a_rows: usize,
+    a_columns: usize,
+    b_rows: usize,
+    b_columns: usize,
+    al: &[u32],
+    au: &[u32],
+    bl: &[u32],
+    bu: &[u32],
+    ma: usize,
+    ra: usize,
+    mb: usize,
+    rb: usize,
+    lo: usize,
+    up: usize,
+) -> Outcome
+    ensures { λ r. ⌜ r ≡ checkOf (given method «a_rows» «a_columns» «b_rows» «b_columns» (now (al .entry)) (now (au .entry)) (now (bl .entry)) (now (bu .entry)) ma ra mb rb lo up) ⌝ }
+{
+    let sizes = check_sizes(a_rows, a_columns, b_rows, b_columns);
+    match first_of(check_method(method), sizes) {
+        Outcome::Done => {}
+        Outcome::Refused(r) => {
+            return Outcome::Refused(r);
+        }
+    }
+    let a = a_rows * a_columns;
+    let b = b_rows * b_columns;
+    let lent = check_lent(a, b, a_rows * b_columns, ma, ra, mb, rb, lo, up);
+    match first_of(check_operands(a, b, al, au, bl, bu), lent) {
+        Outcome::Done => check_both(a_rows, a_columns, b_rows, b_columns, al, au, bl, bu),
+        Outcome::Refused(r) => Outcome::Refused(r),
+    }
+}
