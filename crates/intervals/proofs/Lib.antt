@@ -1,3 +1,3 @@
-pub mod Room
+pub mod Rounded
 pub mod Faults
 pub mod Converting

@@ -1,14 +1,14 @@
 -- Intervals as patterns: what is wrong with a pair of bounds, and the conversions with their refusals. Definitions only (01, "Two ways to hold an interval").
 use mathlib.Core.Bool.{cond}
-use mathlib.Core.Option.{Option, none, some, bind}
+use mathlib.Core.Option.{Option, none, some}
 use Prim.Native.Nat.{ℕ}
-use lib.IntN.{ℤ, _-ℤ_}
+use lib.IntN.{ℤ}
 use Rattle.rounding.specs.Format.{binary32}
 use Rattle.rounding.specs.Rounding.{up, down}
 use Rattle.enclosure.specs.Arithmetic.{of}
 use Rattle.enclosure.specs.Conversion.{mid, rad}
-use Rattle.binary32.specs.Number.{valueOf, finite, finites, patternOf, holdUp}
-use Rattle.binary32.specs.Operations.{add, sub, midpoint, with₂}
+use Rattle.binary32.specs.Number.{valueOf, finite, finites, patternOf}
+use Rattle.binary32.specs.Operations.{add, sub}
 use Rattle.binary32.specs.Order.{atMost}
 use Rattle.refusals.specs.declared.Refusal.the-variants.{NotFinite, Crossed, Overflow}
 use Rattle.intervals.specs.declared.Fault.{Fault}

@@ -1,55 +1,23 @@
 -- Two sums of products along one walk, the lower one rounded down and the upper one up: one turn of the loop that keeps both, its stop and its end.
-use mathlib.Core.Path.{_≡_, refl, sym, ap, ap₂, _∙_, subst}
+use mathlib.Core.Path.{_≡_, sym, ap, ap₂, _∙_, subst}
 use mathlib.Core.List.{List}
-use mathlib.Core.Logic.{_⊎_, inl, inr, ⊎-elim}
-use mathlib.Core.Option.{Option, none, some}
+use mathlib.Core.Logic.{⊎-elim}
+use mathlib.Core.Option.{Option}
 use Prim.Native.Nat.{ℕ, _+_, _*_, _≤_, _<_}
 use native.Mathlib.Omega.{arith}
 use lib.IntN.{ℤ}
 use lib.ListN.{getD}
 use Rattle.rounding.specs.Rounding.{up, down}
 use Rattle.binary32.specs.Number.{held}
-use Rattle.binary32.proofs.Held.{Fits, held-hold}
+use Rattle.binary32.proofs.Held.{Fits}
 use Rattle.binary32.proofs.Numbers.{up-fits, down-fits}
 use Rattle.products.specs.declared.sums.Sums.{Sums}
 use Rattle.products.specs.declared.sums.Next.{Next}
 use Rattle.products.specs.declared.sums.Next.the-variants.{More, Overflow}
-use Rattle.products.specs.Running.{nextOf, addOf, zeroSums}
+use Rattle.products.specs.Running.{nextOf, addOf}
 use Rattle.products.specs.Stages.{productAt, dotOf}
+use Rattle.products.proofs.Nexts.{next-lower, next-upper, next-refused, next-none}
 use Rattle.products.proofs.Dots.{plus, dot-zero, dot-next, dot-fits, dot-none}
-
--- ---- what two sums make
-
-abbrev more-sums : Next → Sums
-more-sums (More s) = s
-more-sums Overflow = zeroSums
-
-abbrev is-more : Next → Type 0
-is-more (More s) = Unit {0}
-is-more Overflow = ⊥
-
-overflow-more : {A : Type 0} {s : Sums} → Overflow ≡ More s → A
-overflow-more e = absurd (subst is-more (sym e) tt)
-
--- two sums that were accepted are what their patterns hold
-pub next-lower : (a b : Option ℤ) (s : Sums) → Fits a → nextOf a b ≡ More s → held (s .lower) ≡ a
-next-lower none b s f e = overflow-more e
-next-lower (some u) none s f e = overflow-more e
-next-lower (some u) (some v) s f e = sym (ap (λ m. held (more-sums m .lower)) e) ∙ held-hold 0xFF800000 refl (some u) f
-
-pub next-upper : (a b : Option ℤ) (s : Sums) → Fits b → nextOf a b ≡ More s → held (s .upper) ≡ b
-next-upper none b s f e = overflow-more e
-next-upper (some u) none s f e = overflow-more e
-next-upper (some u) (some v) s f e = sym (ap (λ m. held (more-sums m .upper)) e) ∙ held-hold 0x7F800000 refl (some v) f
-
-pub next-refused : (a b : Option ℤ) → nextOf a b ≡ Overflow → (a ≡ none) ⊎ (b ≡ none)
-next-refused none b e = inl refl
-next-refused (some u) none e = inr refl
-next-refused (some u) (some v) e = overflow-more (sym e)
-
-next-none : (a : Option ℤ) → nextOf a none ≡ Overflow
-next-none none = refl
-next-none (some u) = refl
 
 module _ (k n i j : ℕ) (x y : List ℕ) where
   -- the sums of the first l pairs, from s and from t

@@ -1,6 +1,6 @@
 -- What the functions of methods 3, 4 and 7 return, from the patterns that their sums give.
 use mathlib.Core.Path.{_≡_, refl, sym, ap, ap₂, _∙_, subst}
-use mathlib.Core.Bool.{cond, true, false}
+use mathlib.Core.Bool.{cond, false}
 use mathlib.Core.List.{List}
 use mathlib.Core.Logic.{⊎-elim}
 use mathlib.Core.Option.{Option, some, bind, Option·some-injective}
@@ -19,7 +19,6 @@ use Rattle.binary32.specs.Operations.{add, with₂}
 use Rattle.binary32.proofs.Held.{Fits, held-hold}
 use Rattle.binary32.proofs.Numbers.{down-fits, up-fits, near-fits}
 use Rattle.products.specs.declared.sums.Sums.{Sums}
-use Rattle.products.specs.declared.sums.Next.{Next}
 use Rattle.products.specs.declared.sums.Next.the-variants.{More, Overflow}
 use Rattle.products.specs.Running.{nextOf, zeroSums}
 use Rattle.products.specs.Entries.{patternsOf}
@@ -27,7 +26,7 @@ use Rattle.products.specs.Stages.{dotOf}
 use Rattle.products.specs.MidRad.{endsOf, mids, inner, outer, parts, threeFrom, fourFrom, sevenFrom, entryFrom}
 use Rattle.products.proofs.Steps.{bind-fits}
 use Rattle.products.proofs.Dots.{dot-fits}
-use Rattle.products.proofs.BothDots.{next-lower, next-upper, next-refused}
+use Rattle.products.proofs.Nexts.{next-lower, next-upper, next-refused}
 use Rattle.products.proofs.Ends.{ends-of, low-refused, high-refused}
 
 -- ---- the start of a sum

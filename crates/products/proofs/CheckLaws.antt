@@ -3,7 +3,7 @@ use mathlib.Core.Path.{_≡_, refl, sym, ap, ap₂, subst, _∙_}
 use mathlib.Core.Bool.{Bool, true, false, cond}
 use Prim.Native.Nat.{ℕ, _+_, _*_, _/_, _%_, _≤_, _<_}
 use mathlib.Core.Logic.{_⊎_, inl, inr, ⊎-elim}
-use native.Mathlib.Nat.{eq-or-lt-of-le, mul-le-mul-left, mul-le-mul-right, le-trans}
+use native.Mathlib.Nat.{eq-or-lt-of-le}
 use native.Mathlib.Omega.{arith}
 use lib.Dec.{leb, ltb, eqb}
 use borrow.Author.Tests.{lt-ltb, le-ltb, le-leb, lt-leb, ne-eqb}
@@ -84,9 +84,6 @@ module _ (matrix cells one two : ℕ) where
   unfolding longEnough
   long-2 u h e = sym (ap₂ (λ s t. unless (cond s t false) (R.Short matrix)) (le-leb cells one h) e)
 
--- two sizes up to 32 have few cells
-pub few : (m n : ℕ) → m ≤ 32 → n ≤ 32 → m * n ≤ 1024
-few m n h i = le-trans (mul-le-mul-right n h) (mul-le-mul-left 32 i)
 
 -- ---- 3 and 4
 module _ (X : Matrix) where

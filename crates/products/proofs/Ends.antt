@@ -10,19 +10,14 @@ use Rattle.enclosure.specs.Arithmetic.{of}
 use Rattle.enclosure.specs.Methods.{ends}
 use Rattle.binary32.specs.Number.{held, holdDown, holdUp}
 use Rattle.binary32.specs.Operations.{add, sub, with₂}
-use Rattle.binary32.proofs.Held.{Fits}
 use Rattle.binary32.proofs.Numbers.{down-fits, up-fits}
-use Rattle.products.specs.declared.sums.Next.{Next}
 use Rattle.products.specs.declared.sums.Next.the-variants.{Overflow}
 use Rattle.products.specs.Running.{nextOf, heldNext}
 use Rattle.products.specs.Entries.{patternsOf}
 use Rattle.products.specs.MidRad.{endsOf}
 use Rattle.products.proofs.Steps.{bind-fits, held-next}
+use Rattle.products.proofs.Nexts.{next-none}
 use Rattle.products.proofs.Running.{patterns-both}
-
-next-none : (x : Option ℤ) → nextOf x none ≡ Overflow
-next-none none = refl
-next-none (some v) = refl
 
 ends-next : (R S T : Option ℤ) → nextOf (bind S λ x. bind R λ y. sub down x y) (bind T λ x. bind R λ y. add up x y) ≡ patternsOf (ends (of binary32) R S T)
 unfolding ends bind

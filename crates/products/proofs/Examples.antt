@@ -1,11 +1,9 @@
 -- The lines of 01 that are marked *, as one statement about a table: what the definitions give is what the paper states. Numbers are patterns.
 use mathlib.Core.Path.{_≡_, refl}
-use mathlib.Core.Bool.{cond}
 use mathlib.Core.List.{List, [], _∷_, _++_, map}
 use mathlib.Core.Option.{bind}
 use Prim.Native.Nat.{ℕ}
 use lib.Ieee.{size}
-use lib.ListN.{drop, getD, length, replicate}
 use Rattle.algebra.specs.Extremes.{minℤ, maxℤ}
 use Rattle.rounding.specs.Format.{MAX, expo}
 use Rattle.rounding.specs.Rounding.{ceil, lo, hi, nr, up, down, near}
@@ -26,7 +24,7 @@ use Rattle.products.specs.declared.Outcome.the-variants.{Done, Refused}
 use Rattle.products.specs.Lists.{tabulate, first}
 use Rattle.products.specs.Matrix.{cellAt}
 use Rattle.products.specs.Entries.{entryOf, entryAt, stopOf, lowerOf, upperOf}
-use Rattle.products.specs.Checks.{Given, given, methodOf, checkMethod, checkSizes, longEnough, checkOperands, checkLent, checkLengths, checkCells, checkBoth, checkShapes, checkOf}
+use Rattle.products.specs.Checks.{given, methodOf, checkMethod, checkSizes, longEnough, checkOperands, checkLent, checkLengths, checkCells, checkBoth, checkShapes, checkOf}
 use Rattle.products.specs.Product.{outcomeOf, resultAfter}
 
 pub record Line : Type 0 where

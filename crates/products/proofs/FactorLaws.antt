@@ -17,7 +17,7 @@ use Rattle.enclosure.proofs.Conversion.{cell-converted}
 use Rattle.binary32.specs.Number.{valueOf, held}
 use Rattle.binary32.proofs.Held.{pattern-value, pattern-finite}
 use Rattle.intervals.specs.Conversion.{midOf, radOf}
-use Rattle.intervals.proofs.Room.{mid-num, rad-num}
+use Rattle.intervals.proofs.Rounded.{mid-num, rad-num}
 use Rattle.intervals.proofs.Faults.{Ordered, fine-tells}
 use Rattle.products.specs.declared.derived.Kind.{Kind}
 use Rattle.products.specs.declared.derived.Kind.the-variants.{Magnitude, Radius, Wide, Raised, Part, PartMagnitude, PartOpposed}
@@ -34,7 +34,7 @@ use Rattle.products.proofs.Patterns.{held-is}
 module _ (X : Matrix) (c : ℕ) (o : Ordered (lowerAt X c) (upperAt X c)) where
   mid-value : valueOf (midAt X c) ≡ cellAt X c .mid
   unfolding midOf cellAt
-  mid-value = pattern-value (mid-num binary32 (valueOf (lowerAt X c)) (valueOf (upperAt X c)) (o .low-num) (o .high-num))
+  mid-value = pattern-value (mid-num binary32 (omega arith) (valueOf (lowerAt X c)) (valueOf (upperAt X c)) (o .low-num) (o .high-num) (o .order))
 
   rad-value : valueOf (radAt X c) ≡ cellAt X c .rad
   unfolding radOf cellAt
@@ -48,7 +48,7 @@ module _ (X : Matrix) (c : ℕ) (o : Ordered (lowerAt X c) (upperAt X c)) where
   unfolding midOf radOf
   mid-rad =
       record {
-        mid = pattern-finite (mid-num binary32 (valueOf (lowerAt X c)) (valueOf (upperAt X c)) (o .low-num) (o .high-num));
+        mid = pattern-finite (mid-num binary32 (omega arith) (valueOf (lowerAt X c)) (valueOf (upperAt X c)) (o .low-num) (o .high-num) (o .order));
         rad = pattern-finite (rad-num binary32 (omega arith) (valueOf (lowerAt X c)) (valueOf (upperAt X c)) (o .low-num) (o .high-num) (o .order));
         nonneg = subst (λ v. pos 0 ≼ v) (sym rad-value) rad-nonneg;
       }

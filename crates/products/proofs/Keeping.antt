@@ -7,7 +7,6 @@ use Prim.Native.Nat.{ℕ, _+_, _*_, _/_, _%_, _≤_, _<_}
 use native.Mathlib.Omega.{arith}
 use lib.Arith.{digits-div, digits-mod}
 use lib.Dec.{ltb}
-use lib.ListN.{getD}
 use borrow.Author.Tests.{ltb-false, le-ltb}
 use Rattle.rounding.specs.Format.{binary32}
 use Rattle.enclosure.specs.Methods.{Range}
@@ -21,14 +20,14 @@ use Rattle.refusals.specs.declared.Refusal.the-variants as R
 use Rattle.products.specs.declared.sums.Next.{Next}
 use Rattle.products.specs.declared.Outcome.{Outcome}
 use Rattle.products.specs.declared.Outcome.the-variants.{Done, Refused}
-use Rattle.products.specs.Lists.{front, first, zeros}
-use Rattle.products.specs.Matrix.{Matrix, AllFine, lowerAt, upperAt, cellAt, faultAt}
+use Rattle.products.specs.Lists.{front}
+use Rattle.products.specs.Matrix.{Matrix, lowerAt, upperAt, cellAt, faultAt}
 use Rattle.products.specs.Entries.{patternsOf, entryOf, entryAt, refused, lowerOf, upperOf, stopOf}
-use Rattle.products.specs.Checks.{Given, then, chosen, checkOf}
-use Rattle.products.specs.Product.{entries, cells, stop, outcomeOf, resultAfter, unlessRefused, Left}
+use Rattle.products.specs.Checks.{Given, chosen, checkOf}
+use Rattle.products.specs.Product.{entries, cells, stop, outcomeOf, resultAfter, Left}
 use Rattle.products.specs.Demand.{Keeps, rowOf, columnOf, rangeAt}
 use Rattle.products.proofs.CheckTells.{Checked, checked-tells, then-tells}
-use Rattle.products.proofs.EntryNumbers.{Numbers, entry-numbers}
+use Rattle.products.proofs.EntryNumbers.{entry-numbers}
 use Rattle.products.proofs.Firsts.{first-le, first-before}
 use Rattle.products.proofs.Fronts.{getD-front}
 use Rattle.products.proofs.Writing.{below}

@@ -1,6 +1,7 @@
 pub mod Fronts
 pub mod Firsts
 pub mod Steps
+pub mod Nexts
 pub mod Running
 pub mod Writing
 pub mod Dots

@@ -1,10 +1,8 @@
 -- From lists that hold the factors of A and B, the entries are those of A times B.
-use mathlib.Core.Path.{_≡_, refl, sym, ap, ap₂, _∙_}
+use mathlib.Core.Path.{_≡_, refl, ap, ap₂, _∙_}
 use mathlib.Core.List.{List}
 use mathlib.Core.Option.{Option, some, bind}
-use Prim.Native.Nat.{ℕ, _+_, _*_, _/_, _%_, _^_, _≤_, _<_}
-use native.Mathlib.Nat.{mul-le-mul-right}
-use native.Mathlib.Omega.{arith}
+use Prim.Native.Nat.{ℕ, _*_, _/_, _%_, _^_, _≤_, _<_}
 use lib.IntN.{ℤ, pos, _+ℤ_}
 use Rattle.rounding.specs.Format.{binary32}
 use Rattle.rounding.specs.Rounding.{up, down, near}
@@ -14,8 +12,8 @@ use Rattle.enclosure.specs.Methods.{three, four, seven, outerTerm, sharedTerm, 
 use Rattle.binary32.specs.Operations.{Way}
 use Rattle.products.specs.Matrix.{Matrix}
 use Rattle.products.specs.Entries.{patternsOf, entryOf, entryAt}
-use Rattle.products.specs.Stages.{dotOf, Inside}
-use Rattle.products.specs.MidRad.{mids, inner, outer, parts, threeFrom, fourFrom, sevenFrom, entryFrom, placeFrom}
+use Rattle.products.specs.Stages.{Inside}
+use Rattle.products.specs.MidRad.{mids, inner, outer, threeFrom, fourFrom, sevenFrom, entryFrom, placeFrom}
 use Rattle.products.specs.Factors.{Factors, Parts}
 use Rattle.products.specs.Checks.{methodOf, chosen}
 use Rattle.products.specs.Converted.{Numbered, is-three, is-four, is-seven}

@@ -1,7 +1,8 @@
 -- The classical sums of an entry after l pairs: they start at zero, a step adds a pair, and a refusal stays.
 use mathlib.Core.Path.{_≡_, refl, sym, ap, ap₂, _∙_, subst}
 use mathlib.Core.Bool.{true, cond, false}
-use mathlib.Core.Option.{Option, none, some, bind, Option·some-injective, Option·none-ne-some}
+use mathlib.Core.Logic.{⊎-elim}
+use mathlib.Core.Option.{Option, none, some, bind, Option·some-injective}
 use Prim.Native.Nat.{ℕ, zero, suc, _+_, _-_, _*_, _/_, _%_, _^_, _<_}
 use native.Mathlib.Numerals.{add-one}
 use native.Mathlib.Omega.{arith}
@@ -16,11 +17,11 @@ use Rattle.rounding.proofs.Sign.{num-zero}
 use Rattle.enclosure.specs.Arithmetic.{of}
 use Rattle.enclosure.specs.Cell.{Cell}
 use Rattle.enclosure.specs.Sums.{sum}
-use Rattle.enclosure.specs.Methods.{Range, classical, leastTerm, greatestTerm, total, entry₁, entry}
-use Rattle.binary32.specs.Number.{valueOf, finite, finites, held, patternOf}
+use Rattle.enclosure.specs.Methods.{classical, leastTerm, greatestTerm, total, entry₁, entry}
+use Rattle.binary32.specs.Number.{valueOf, finite, finites, held}
 use Rattle.binary32.specs.Operations.{Way, mul, with₂}
 use Rattle.binary32.specs.Order.{all₄, leastCorner, greatestCorner}
-use Rattle.binary32.proofs.Held.{Fits, finites-first, finites-second, with-some, held-finite, is-finite, pattern-finite, pattern-value}
+use Rattle.binary32.proofs.Held.{Fits, finites-first, finites-second, with-some}
 use Rattle.binary32.proofs.Numbers.{down-fits, up-fits}
 use Rattle.intervals.proofs.Faults.{fine-tells}
 use Rattle.intervals.specs.declared.Fault.the-variants.{Fine}
@@ -31,38 +32,7 @@ use Rattle.products.specs.Running.{nextOf, zeroSums, plusDown, plusUp, s
 use Rattle.products.specs.Matrix.{Matrix, lowerAt, upperAt, cellAt, faultAt}
 use Rattle.products.specs.Entries.{patternsOf, entryOf, entryAt}
 use Rattle.products.proofs.Steps.{bind-fits}
-
--- ---- what two running sums that were accepted are
-pub record Told (x y : Option ℤ) (s : Sums) : Type 0 where
-  pub low : ℤ
-  pub high : ℤ
-  pub low-is : x ≡ some low
-  pub high-is : y ≡ some high
-  pub lower : s .lower ≡ patternOf low
-  pub upper : s .upper ≡ patternOf high
-
-pub next-tells : (x y : Option ℤ) (s : Sums) → nextOf x y ≡ More s → Told x y s
-next-tells (some l) (some u) s e =
-    let p : record { lower = patternOf l; upper = patternOf u } ≡ s = more-injective e in
-    record { low = l; high = u; low-is = refl; high-is = refl; lower = sym (ap (λ t. t .lower) p); upper = sym (ap (λ t. t .upper) p) }
-  where
-    more-injective : {s t : Sums} → More s ≡ More t → s ≡ t
-    more-injective e = cc
-next-tells (some l) none s e = let z : _≡_ {A = ℕ} 0 1 = cc in absurd (omega arith)
-next-tells none y s e = let z : _≡_ {A = ℕ} 0 1 = cc in absurd (omega arith)
-
-pub held-number : {v : ℤ} → Num binary32 v → (p : ℕ) → p ≡ patternOf v → held p ≡ some v
-held-number {v} n p e = ap held e ∙ held-finite (patternOf v) (is-finite (patternOf v) (pattern-finite n)) ∙ ap some (pattern-value n)
-
--- what was refused: one of the two, or what either becomes
-pub next-refused : (x y x′ y′ : Option ℤ) → nextOf x y ≡ Overflow → (x ≡ none → x′ ≡ none) → (y ≡ none → y′ ≡ none) → nextOf x′ y′ ≡ Overflow
-next-refused none y x′ y′ e f g = ap (λ m. nextOf m y′) (f refl)
-next-refused (some l) none x′ y′ e f g = ap (nextOf x′) (g refl) ∙ second x′
-  where
-    second : (x : Option ℤ) → nextOf x none ≡ Overflow
-    second none = refl
-    second (some l) = refl
-next-refused (some l) (some u) x′ y′ e f g = let z : _≡_ {A = ℕ} 0 1 = cc in absurd (omega arith)
+use Rattle.products.proofs.Nexts.{next-lower, next-upper, next-refused, next-none}
 
 -- an entry of two sums
 pub patterns-both : (x y : Option ℤ) → patternsOf (bind x λ l. bind y λ u. some (record { lower = l; upper = u })) ≡ nextOf x y
@@ -141,33 +111,22 @@ module _ (k n : ℕ) (A B : Matrix) (i j : ℕ) where
   upper-fits zero v e = subst (Num binary32) (Option·some-injective (pos 0) v e) (num-zero binary32)
   upper-fits (suc l) v e = bind-fits (upperTo l) _ (λ x. bind-fits _ _ (λ y. up-fits 1 (lit< tt) _)) v e
 
-  -- one term more
-  lower-next : (l : ℕ) (u : ℤ) (p : ℕ) (t : Option ℤ) → lowerTo l ≡ some u → held p ≡ some u → leastTerm (of binary32) (a l) (b l) ≡ t → lowerTo (suc l) ≡ plusDown p t
+  -- one term more, where the sum so far is what p holds
+  lower-next : (l p : ℕ) (t : Option ℤ) → held p ≡ lowerTo l → leastTerm (of binary32) (a l) (b l) ≡ t → lowerTo (suc l) ≡ plusDown p t
   unfolding lowerTo sum
-  lower-next l u p t e h g = ap₂ (λ m x. bind m λ u. bind x λ y. down binary32 1 (u +ℤ y)) (e ∙ sym h) g
+  lower-next l p t h g = ap₂ (λ m x. bind m λ u. bind x λ y. down binary32 1 (u +ℤ y)) (sym h) g
 
-  upper-next : (l : ℕ) (u : ℤ) (p : ℕ) (t : Option ℤ) → upperTo l ≡ some u → held p ≡ some u → greatestTerm (of binary32) (a l) (b l) ≡ t → upperTo (suc l) ≡ plusUp p t
+  upper-next : (l p : ℕ) (t : Option ℤ) → held p ≡ upperTo l → greatestTerm (of binary32) (a l) (b l) ≡ t → upperTo (suc l) ≡ plusUp p t
   unfolding upperTo sum
-  upper-next l u p t e h g = ap₂ (λ m x. bind m λ u. bind x λ y. up binary32 1 (u +ℤ y)) (e ∙ sym h) g
-
-  lower-num : (l : ℕ) {u : ℤ} → lowerTo l ≡ some u → Num binary32 u
-  unfolding Fits
-  lower-num l {u} e = lower-fits l u e
-
-  upper-num : (l : ℕ) {u : ℤ} → upperTo l ≡ some u → Num binary32 u
-  unfolding Fits
-  upper-num l {u} e = upper-fits l u e
+  upper-next l p t h g = ap₂ (λ m x. bind m λ u. bind x λ y. up binary32 1 (u +ℤ y)) (sym h) g
 
   pub sum-more : (l : ℕ) (s : Sums) → sumTo l ≡ More s → faultAt A (i * k + l) ≡ Fine → faultAt B (l * n + j) ≡ Fine
       → sumTo (l + 1) ≡ stepOf s (lowerAt A (i * k + l)) (upperAt A (i * k + l)) (lowerAt B (l * n + j)) (upperAt B (l * n + j))
   unfolding sumTo stepOf
-  sum-more l s e fa fb = ap sumTo (add-one l) ∙ ap₂ nextOf (low (next-tells (lowerTo l) (upperTo l) s e)) (high (next-tells (lowerTo l) (upperTo l) s e))
-    where
-      low : Told (lowerTo l) (upperTo l) s → lowerTo (suc l) ≡ plusDown (s .lower) (leastCorner (lowerAt A (i * k + l)) (upperAt A (i * k + l)) (lowerAt B (l * n + j)) (upperAt B (l * n + j)))
-      low t = lower-next l (t .low) (s .lower) _ (t .low-is) (held-number (lower-num l (t .low-is)) (s .lower) (t .lower)) (least-is A B (i * k + l) (l * n + j) fa fb)
-
-      high : Told (lowerTo l) (upperTo l) s → upperTo (suc l) ≡ plusUp (s .upper) (greatestCorner (lowerAt A (i * k + l)) (upperAt A (i * k + l)) (lowerAt B (l * n + j)) (upperAt B (l * n + j)))
-      high t = upper-next l (t .high) (s .upper) _ (t .high-is) (held-number (upper-num l (t .high-is)) (s .upper) (t .upper)) (greatest-is A B (i * k + l) (l * n + j) fa fb)
+  sum-more l s e fa fb =
+      ap sumTo (add-one l)
+      ∙ ap₂ nextOf (lower-next l (s .lower) _ (next-lower (lowerTo l) (upperTo l) s (lower-fits l) e) (least-is A B (i * k + l) (l * n + j) fa fb))
+      (upper-next l (s .upper) _ (next-upper (lowerTo l) (upperTo l) s (upper-fits l) e) (greatest-is A B (i * k + l) (l * n + j) fa fb))
 
   lower-stays : (l : ℕ) → lowerTo l ≡ none → lowerTo (suc l) ≡ none
   unfolding lowerTo sum bind
@@ -188,7 +147,9 @@ module _ (k n : ℕ) (A B : Matrix) (i j : ℕ) where
       subst (λ m. sumTo m ≡ Overflow) s (refuses (l + y) (stays l y e))
     where
       refuses : (l : ℕ) → sumTo l ≡ Overflow → sumTo (suc l) ≡ Overflow
-      refuses l e = next-refused (lowerTo l) (upperTo l) (lowerTo (suc l)) (upperTo (suc l)) e (lower-stays l) (upper-stays l)
+      refuses l e =
+          ⊎-elim (λ q. ap (λ m. nextOf m (upperTo (suc l))) (lower-stays l q)) (λ q. ap (nextOf (lowerTo (suc l))) (upper-stays l q) ∙ next-none (lowerTo (suc l)))
+          (next-refused (lowerTo l) (upperTo l) e)
 
   pub sum-stops : (l m : ℕ) (s : Sums) → sumTo l ≡ More s → faultAt A (i * k + l) ≡ Fine → faultAt B (l * n + j) ≡ Fine
       → stepOf s (lowerAt A (i * k + l)) (upperAt A (i * k + l)) (lowerAt B (l * n + j)) (upperAt B (l * n + j)) ≡ Overflow → l < m → sumTo m ≡ Overflow

@@ -15,7 +15,6 @@ use Rattle.binary32.specs.Operations.{add, mul, with₂}
 use Rattle.binary32.specs.Order.{all₄, leastCorner, greatestCorner}
 use Rattle.binary32.proofs.Held.{Fits, is-finite, pattern-finite, held-hold}
 use Rattle.binary32.proofs.Numbers.{down-fits, up-fits}
-use Rattle.products.specs.declared.sums.Sums.{Sums}
 use Rattle.products.specs.declared.sums.Next.{Next}
 use Rattle.products.specs.declared.sums.Next.the-variants.{More, Overflow}
 use Rattle.products.specs.Running.{nextOf, heldNext, plusDown, plusUp}

@@ -1,6 +1,6 @@
 -- Writing the entries by rows until the first that is refused: what the two ways out of the loops leave.
-use mathlib.Core.Path.{_≡_, refl, sym, ap, ap₂, _∙_}
-use mathlib.Core.Bool.{Bool, true, false, cond}
+use mathlib.Core.Path.{_≡_, sym, ap, _∙_}
+use mathlib.Core.Bool.{true, false}
 use mathlib.Core.List.{List}
 use Prim.Native.Nat.{ℕ, _+_, _*_, _/_, _%_, _≤_, _<_}
 use native.Mathlib.Nat.{mul-le-mul}
@@ -12,8 +12,7 @@ use Rattle.products.specs.declared.sums.Sums.{Sums}
 use Rattle.products.specs.declared.sums.Next.{Next}
 use Rattle.products.specs.declared.sums.Next.the-variants.{More, Overflow}
 use Rattle.products.specs.declared.sums.Place.the-variants.{Nowhere, At}
-use Rattle.products.specs.Lists.{first, front}
-use Rattle.products.specs.Entries.{refused, lowerOf, upperOf, stopOf, placeOf, Written}
+use Rattle.products.specs.Entries.{refused, lowerOf, upperOf, stopOf, Written}
 use Rattle.products.proofs.Fronts.{Filled, filled-is}
 use Rattle.products.proofs.Firsts.{first-none, first-more, first-here}
 

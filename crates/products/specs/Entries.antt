@@ -10,7 +10,6 @@ use Rattle.rounding.specs.Format.{binary32}
 use Rattle.enclosure.specs.Arithmetic.{of}
 use Rattle.enclosure.specs.Methods.{Method, Range, entry}
 use Rattle.binary32.specs.Number.{patternOf}
-use Rattle.products.specs.declared.sums.Sums.{Sums}
 use Rattle.products.specs.declared.sums.Next.{Next}
 use Rattle.products.specs.declared.sums.Next.the-variants.{More, Overflow}
 use Rattle.products.specs.declared.sums.Place.{Place}

@@ -5,7 +5,7 @@ use borrow.Author.Tests.{not-true, not-false}
 use lib.Dec.{lit<}
 use Rattle.rounding.specs.Rounding.{down, up}
 use Rattle.binary32.specs.Number.{holdDown, holdUp}
-use Rattle.binary32.specs.Operations.{add, sub, with₂}
+use Rattle.binary32.specs.Operations.{add, sub}
 use Rattle.binary32.proofs.Held.{with-some}
 use Rattle.binary32.proofs.Numbers.{down-fits, up-fits}
 use Rattle.intervals.specs.Conversion.{boundedOf}

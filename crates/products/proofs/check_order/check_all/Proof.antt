@@ -2,7 +2,8 @@
 use mathlib.Core.Path.{_≡_, sym, ap₂, _∙_}
 use native.Mathlib.Omega.{arith}
 use Rattle.products.specs.Checks.{Given, given, then, checkShapes, checkLengths}
-use Rattle.products.proofs.CheckLaws.{few, all-1, all-2, all-3}
+use Rattle.products.proofs.Writing.{small}
+use Rattle.products.proofs.CheckLaws.{all-1, all-2, all-3}
 use Rattle.products.proofs.CheckTells.{Sized, shapes-tell, all-lengths-tell, a-covered, b-covered}
 use borrow.Author.Needs.{needs}
 use Rattle.products.proofs.check_order.check_all.Statement.{statement}
@@ -53,17 +54,17 @@ returns c =
 mul-a : tie.Need-mul-a
 mul-a c =
     let g = G (c .before .before) in
-    omega (arith, few (g .a-rows) (g .a-columns) (within c .a-rows-below) (within c .a-columns-below))
+    omega (arith, small (g .a-rows) (g .a-columns) (within c .a-rows-below) (within c .a-columns-below))
 
 mul-b : tie.Need-mul-b
 mul-b c =
     let g = G (c .before .before) in
-    omega (arith, few (g .b-rows) (g .b-columns) (within c .b-rows-below) (within c .b-columns-below))
+    omega (arith, small (g .b-rows) (g .b-columns) (within c .b-rows-below) (within c .b-columns-below))
 
 mul-check-lent : tie.Need-mul-check-lent
 mul-check-lent c =
     let g = G (c .before .before) in
-    omega (arith, few (g .a-rows) (g .b-columns) (within c .a-rows-below) (within c .b-columns-below))
+    omega (arith, small (g .a-rows) (g .b-columns) (within c .a-rows-below) (within c .b-columns-below))
 
 check-lent-requires : tie.Need-check-lent-requires
 check-lent-requires c κs = search needs

@@ -4,7 +4,8 @@ use Prim.Native.Nat.{_≤_, _-_, _*_}
 use native.Mathlib.Omega.{arith}
 use borrow.Author.Needs.{needs}
 use Rattle.intervals.specs.declared.Fault.the-variants.{Infinite, Above}
-use Rattle.products.proofs.CheckLaws.{Passed, passed-none, passed-more, cells-here, cells-done, few}
+use Rattle.products.proofs.Writing.{small}
+use Rattle.products.proofs.CheckLaws.{Passed, passed-none, passed-more, cells-here, cells-done}
 use Rattle.products.proofs.checks.check_cells.Statement.{statement}
 use Rattle.products.proofs.checks.check_cells.Tie as tie
 
@@ -15,7 +16,7 @@ abbrev μ-loop : tie.MeasureT-loop
 μ-loop matrix rows columns lowers uppers cells c₀ c = cells - c
 
 mul-cells : tie.Need-mul-cells Inv-loop μ-loop
-mul-cells c = omega (arith, few (c .before .before .args .rows) (c .before .before .args .columns) (omega arith) (omega arith))
+mul-cells c = omega (arith, small (c .before .before .args .rows) (c .before .before .args .columns) (omega arith) (omega arith))
 
 loop-holds : tie.Need-loop-holds Inv-loop μ-loop
 loop-holds c =

@@ -11,8 +11,8 @@ use lib.ListN.{length}
 use Rattle.enclosure.specs.Methods.{classical}
 use Rattle.intervals.specs.declared.Fault.the-variants.{Fine}
 use Rattle.products.specs.declared.sums.Next.{Next}
-use Rattle.products.specs.declared.sums.Next.the-variants.{More, Overflow}
-use Rattle.products.specs.declared.sums.Place.the-variants.{Nowhere, At}
+use Rattle.products.specs.declared.sums.Next.the-variants.{More}
+use Rattle.products.specs.declared.sums.Place.the-variants.{Nowhere}
 use Rattle.products.specs.Matrix.{Matrix, faultAt}
 use Rattle.products.specs.Entries.{entryAt, stopOf}
 use Rattle.products.proofs.Fronts.{Filled, filled-none, filled-more, filled-from}
