@@ -84,7 +84,6 @@ module _ (matrix cells one two : ℕ) where
   unfolding longEnough
   long-2 u h e = sym (ap₂ (λ s t. unless (cond s t false) (R.Short matrix)) (le-leb cells one h) e)
 
-
 -- ---- 3 and 4
 module _ (X : Matrix) where
   abbrev test : ℕ → Bool

@@ -1,8 +1,7 @@
 // Method 1: each entry's sums are carried along its row and column, and the first overflow leaves all three loops.
-ghost use mathlib.Core.Path.{_≡_};
 ghost use lib.ListN.{length};
 ghost use Rattle.enclosure.specs.Methods.{classical};
-ghost use Rattle.products.specs.Matrix.{Matrix, AllFine};
+ghost use Rattle.products.specs.Matrix.{Matrix};
 ghost use Rattle.products.specs.Entries.{Sizes, entryAt, Written};
 use crate::sums::Next;
 use crate::sums::Place;

@@ -1,5 +1,4 @@
 // Products of interval matrices by four methods: classical, three, four and seven.
-ghost use mathlib.Core.Path.{_≡_};
 ghost use Prim.Native.Nat.{_≤_};
 ghost use lib.ListN.{length};
 ghost use Rattle.products.specs.Checks.{given};

@@ -1,132 +1,19 @@
 -- `products::classical::entries` meets its contract. The innermost loop keeps the entry's sums so far, the outer ones the entries written and
 -- that none of them was refused. A refused step leaves all loops with the place of its entry.
+mod Loops
 use mathlib.Core.Path.{_≡_, refl, sym, ap, _∙_}
-use mathlib.Core.List.{List}
-use Prim.Native.Nat.{ℕ, _+_, _-_, _*_, _≤_, _<_}
+use Prim.Native.Nat.{ℕ, _+_, _*_}
 use native.Mathlib.Nat.{suc-mul, zero-mul}
 use native.Mathlib.Numerals.{add-one}
 use native.Mathlib.Omega.{arith}
 use borrow.Author.Needs.{needs}
-use lib.ListN.{length}
-use Rattle.enclosure.specs.Methods.{classical}
-use Rattle.intervals.specs.declared.Fault.the-variants.{Fine}
-use Rattle.products.specs.declared.sums.Next.{Next}
 use Rattle.products.specs.declared.sums.Next.the-variants.{More}
-use Rattle.products.specs.declared.sums.Place.the-variants.{Nowhere}
-use Rattle.products.specs.Matrix.{Matrix, faultAt}
-use Rattle.products.specs.Entries.{entryAt, stopOf}
-use Rattle.products.proofs.Fronts.{Filled, filled-none, filled-more, filled-from}
-use Rattle.products.proofs.Running.{sumTo, sum-none, sum-more, sum-stops, entry-is}
-use Rattle.products.proofs.Writing.{below, lowersOf, uppersOf, stop-none, stop-more, lower-is, upper-is, written-all, written-at}
+use Rattle.products.proofs.Fronts.{filled-none, filled-more, filled-from}
+use Rattle.products.proofs.Running.{sum-none, sum-more, sum-stops}
+use Rattle.products.proofs.Writing.{stop-none, stop-more, lower-is, upper-is, written-all, written-at}
 use Rattle.products.proofs.classical.entries.Statement.{statement}
 use Rattle.products.proofs.classical.entries.Tie as tie
-
--- a matrix of two lists
-abbrev M₂ : List ℕ → List ℕ → Matrix
-M₂ lo up = record { lowers = lo; uppers = up }
-
--- its entries
-abbrev E₂ : ℕ → ℕ → Matrix → Matrix → ℕ → Next
-E₂ k n A B = entryAt classical k n A B
-
-abbrev Inv-loop2 : tie.InvT-loop2
-Inv-loop2 m k n al au bl bu lo up place₀ at i j s₀ l₀ place s l = (l ≤ k) × (place ≡ Nowhere) × (sumTo k n (M₂ al au) (M₂ bl bu) i j l ≡ More s)
-
-abbrev μ-loop2 : tie.MeasureT-loop2
-μ-loop2 m k n al au bl bu lo up place₀ at i j s₀ l₀ place s l = k - l
-
-abbrev Inv-loop : tie.InvT-loop
-Inv-loop m k n al au bl bu lo₀ up₀ place₀ at₀ i j₀ lo up place at j = (j ≤ n) × (at ≡ at₀ + j) × (place ≡ Nowhere) × (stopOf (E₂ k n (M₂ al au) (M₂ bl bu)) at ≡ at) × Filled at (lowersOf (E₂ k n (M₂ al au) (M₂ bl bu))) lo₀ lo × Filled at (uppersOf (E₂ k n (M₂ al au) (M₂ bl bu))) up₀ up
-
-abbrev μ-loop : tie.MeasureT-loop
-μ-loop m k n al au bl bu lo₀ up₀ place₀ at₀ i j₀ lo up place at j = n - j
-
-abbrev Inv-search : tie.InvT-search
-Inv-search m k n al au bl bu lo₀ up₀ place₀ at₀ i₀ lo up place at i = (i ≤ m) × (at ≡ i * n) × (place ≡ Nowhere) × (stopOf (E₂ k n (M₂ al au) (M₂ bl bu)) at ≡ at) × Filled at (lowersOf (E₂ k n (M₂ al au) (M₂ bl bu))) lo₀ lo × Filled at (uppersOf (E₂ k n (M₂ al au) (M₂ bl bu))) up₀ up
-
-abbrev μ-search : tie.MeasureT-search
-μ-search m k n al au bl bu lo₀ up₀ place₀ at₀ i₀ lo up place at i = m - i
-
-abbrev In2 : Type 0
-In2 = tie.In-loop2 Inv-loop2 μ-loop2 Inv-loop μ-loop Inv-search μ-search
-
-abbrev In1 : Type 0
-In1 = tie.In-loop Inv-loop2 μ-loop2 Inv-loop μ-loop Inv-search μ-search
-
-abbrev Head : Type 0
-Head = tie.At-search Inv-loop2 μ-loop2 Inv-loop μ-loop Inv-search μ-search
-
--- short names for what was passed, as seen from the outer loop's head
-abbrev M : Head → ℕ
-M s = s .before .before .before .before .before .before .before .args .m
-
-abbrev K : Head → ℕ
-K s = s .before .before .before .before .before .before .before .args .k
-
-abbrev N : Head → ℕ
-N s = s .before .before .before .before .before .before .before .args .n
-
-abbrev A : Head → Matrix
-A s = M₂ (s .before .before .before .before .before .before .before .args .al .now) (s .before .before .before .before .before .before .before .args .au .now)
-
-abbrev B : Head → Matrix
-B s = M₂ (s .before .before .before .before .before .before .before .args .bl .now) (s .before .before .before .before .before .before .before .args .bu .now)
-
-abbrev E : Head → ℕ → Next
-E s = E₂ (K s) (N s) (A s) (B s)
-
--- the places that the innermost turn reads
-places : (c : In2) →
-    let s : Head = c .before .before .before .before .before .before in
-    let p : ℕ = s .search .i * K s + c .before .loop2 .l in
-    let q : ℕ = c .before .loop2 .l * N s + c .before .before .before .before .loop .j in
-    (p < length (A s .lowers)) × (p < length (A s .uppers)) × (q < length (B s .lowers)) × (q < length (B s .uppers))
-places c =
-    let s : Head = c .before .before .before .before .before .before in
-    let a = below (s .search .i) (M s) (c .before .loop2 .l) (K s) (omega arith) (omega arith) in
-    let b = below (c .before .loop2 .l) (K s) (c .before .before .before .before .loop .j) (N s) (omega arith) (omega arith) in
-    (omega arith, omega arith, omega arith, omega arith)
-
--- the place that a turn writes is below the entries' number, and so within both results
-place-out : (c : In1) →
-    let s : Head = c .before .before .before in
-    (c .before .loop .at < M s * N s) × (c .before .loop .at < length (c .before .loop .lo)) × (c .before .loop .at < length (c .before .loop .up))
-    × (length (c .before .loop .lo) ≡ length (s .search .lo)) × (length (c .before .loop .up) ≡ length (s .search .up))
-place-out c =
-    let s : Head = c .before .before .before in
-    let h = below (s .search .i) (M s) (c .before .loop .j) (N s) (omega arith) (omega arith) in
-    let e = c .before .loop .inv .4 .long ∙ s .search .inv .4 .long in
-    let f = c .before .loop .inv .5 .long ∙ s .search .inv .5 .long in
-    (omega arith, omega arith, omega arith, c .before .loop .inv .4 .long, c .before .loop .inv .5 .long)
-
--- that place's entry is the one in row i and column j
-entry-place : (c : In1) →
-    let s : Head = c .before .before .before in
-    E s (c .before .loop .at) ≡ sumTo (K s) (N s) (A s) (B s) (s .search .i) (c .before .loop .j) (K s)
-entry-place c =
-    let s : Head = c .before .before .before in
-    entry-is (K s) (N s) (A s) (B s) (s .search .i) (c .before .loop .j) (c .before .loop .at) (omega arith) (c .loop-test .taken)
-
--- the cells of a turn have no fault
-fine-a : (c : In2) → let s : Head = c .before .before .before .before .before .before in faultAt (A s) (s .search .i * K s + c .before .loop2 .l) ≡ Fine
-fine-a c =
-    let s : Head = c .before .before .before .before .before .before in
-    s .before .before .before .before .before .before .before .pre .a-fine (s .search .i * K s + c .before .loop2 .l) (below (s .search .i) (M s) (c .before .loop2 .l) (K s) (omega arith) (omega arith))
-
-fine-b : (c : In2) → let s : Head = c .before .before .before .before .before .before in faultAt (B s) (c .before .loop2 .l * N s + c .before .before .before .before .loop .j) ≡ Fine
-fine-b c =
-    let s : Head = c .before .before .before .before .before .before in
-    s .before .before .before .before .before .before .before .pre .b-fine (c .before .loop2 .l * N s + c .before .before .before .before .loop .j)
-    (below (c .before .loop2 .l) (K s) (c .before .before .before .before .loop .j) (N s) (omega arith) (omega arith))
-
--- after the innermost loop the sums are the whole entry
-whole-entry : (c : tie.After-loop2 Inv-loop2 μ-loop2 Inv-loop μ-loop Inv-search μ-search) →
-    let s : Head = c .before .before .before .before .before .before in
-    E s (c .before .before .before .before .loop .at) ≡ More (c .before .loop2 .s)
-whole-entry c =
-    let s : Head = c .before .before .before .before .before .before in
-    let all : c .before .loop2 .l ≡ K s = omega arith in
-    entry-place (c .before .before .before) ∙ rw all at (c .before .loop2 .inv .2)
+use Rattle.products.proofs.classical.entries.Proof.Loops.{Inv-loop2, μ-loop2, Inv-loop, μ-loop, Inv-search, μ-search, In2, In1, Head, M, N, E, place-out, entry-place, fine-a, fine-b, whole-entry, mul-step, add-step, mul-step-2, mul-step-3, add-step-2, mul-step-4, mul-step-5, add-step-3, mul-step-6, mul-step-7, add-step-4, mul-step-8, shared-slice-read-step, shared-slice-read-step-2, shared-slice-read-step-3, shared-slice-read-step-4}
 
 search-holds : tie.Need-search-holds Inv-loop2 μ-loop2 Inv-loop μ-loop Inv-search μ-search
 search-holds c = (omega arith, sym (zero-mul _), refl, stop-none _, filled-none _ _, filled-none _ _)
@@ -141,58 +28,6 @@ new-requires c κs = search needs
 
 loop2-holds : tie.Need-loop2-holds Inv-loop2 μ-loop2 Inv-loop μ-loop Inv-search μ-search
 loop2-holds c = (omega arith, c .before .before .loop .inv .2, sum-none _ _ _ _ _ _ ∙ ap More (sym (c .new .ensures)))
-
-mul-step : tie.Need-mul-step Inv-loop2 μ-loop2 Inv-loop μ-loop Inv-search μ-search
-mul-step c = omega (arith, places c)
-
-add-step : tie.Need-add-step Inv-loop2 μ-loop2 Inv-loop μ-loop Inv-search μ-search
-add-step c = omega (arith, places c)
-
-mul-step-2 : tie.Need-mul-step-2 Inv-loop2 μ-loop2 Inv-loop μ-loop Inv-search μ-search
-mul-step-2 c = omega (arith, places c)
-
-shared-slice-read-step :
-    tie.Need-shared-slice-read-step Inv-loop2 μ-loop2 Inv-loop μ-loop Inv-search μ-search
-shared-slice-read-step c = places (c .before) .0
-
-mul-step-3 : tie.Need-mul-step-3 Inv-loop2 μ-loop2 Inv-loop μ-loop Inv-search μ-search
-mul-step-3 c = omega (arith, places (c .before))
-
-add-step-2 : tie.Need-add-step-2 Inv-loop2 μ-loop2 Inv-loop μ-loop Inv-search μ-search
-add-step-2 c = omega (arith, places (c .before))
-
-mul-step-4 : tie.Need-mul-step-4 Inv-loop2 μ-loop2 Inv-loop μ-loop Inv-search μ-search
-mul-step-4 c = omega (arith, places (c .before))
-
-shared-slice-read-step-2 :
-    tie.Need-shared-slice-read-step-2 Inv-loop2 μ-loop2 Inv-loop μ-loop Inv-search μ-search
-shared-slice-read-step-2 c = places (c .before .before) .1
-
-mul-step-5 : tie.Need-mul-step-5 Inv-loop2 μ-loop2 Inv-loop μ-loop Inv-search μ-search
-mul-step-5 c = omega (arith, places (c .before .before))
-
-add-step-3 : tie.Need-add-step-3 Inv-loop2 μ-loop2 Inv-loop μ-loop Inv-search μ-search
-add-step-3 c = omega (arith, places (c .before .before))
-
-mul-step-6 : tie.Need-mul-step-6 Inv-loop2 μ-loop2 Inv-loop μ-loop Inv-search μ-search
-mul-step-6 c = omega (arith, places (c .before .before))
-
-shared-slice-read-step-3 :
-    tie.Need-shared-slice-read-step-3 Inv-loop2 μ-loop2 Inv-loop μ-loop Inv-search μ-search
-shared-slice-read-step-3 c = places (c .before .before .before) .2
-
-mul-step-7 : tie.Need-mul-step-7 Inv-loop2 μ-loop2 Inv-loop μ-loop Inv-search μ-search
-mul-step-7 c = omega (arith, places (c .before .before .before))
-
-add-step-4 : tie.Need-add-step-4 Inv-loop2 μ-loop2 Inv-loop μ-loop Inv-search μ-search
-add-step-4 c = omega (arith, places (c .before .before .before))
-
-mul-step-8 : tie.Need-mul-step-8 Inv-loop2 μ-loop2 Inv-loop μ-loop Inv-search μ-search
-mul-step-8 c = omega (arith, places (c .before .before .before))
-
-shared-slice-read-step-4 :
-    tie.Need-shared-slice-read-step-4 Inv-loop2 μ-loop2 Inv-loop μ-loop Inv-search μ-search
-shared-slice-read-step-4 c = places (c .before .before .before .before) .3
 
 step-requires : tie.Need-step-requires Inv-loop2 μ-loop2 Inv-loop μ-loop Inv-search μ-search
 step-requires c κs = search needs

@@ -1,82 +1,17 @@
 -- `products::factored::entries` meets its contract. The loops keep the entries written and that none of them was refused. A refused entry leaves both with its place.
+mod Loops
 use mathlib.Core.Path.{_≡_, refl, sym, ap, _∙_}
-use mathlib.Core.List.{List}
-use Prim.Native.Nat.{ℕ, _+_, _-_, _*_, _≤_, _<_}
+use Prim.Native.Nat.{ℕ, _+_, _*_}
 use native.Mathlib.Nat.{suc-mul, zero-mul}
 use native.Mathlib.Numerals.{add-one}
 use native.Mathlib.Omega.{arith}
 use borrow.Author.Needs.{needs}
-use lib.ListN.{length}
-use Rattle.products.specs.declared.sums.Next.{Next}
-use Rattle.products.specs.declared.sums.Place.the-variants.{Nowhere}
-use Rattle.products.specs.Entries.{stopOf}
-use Rattle.products.specs.MidRad.{entryFrom, placeFrom}
-use Rattle.products.proofs.Fronts.{Filled, filled-none, filled-more, filled-from}
-use Rattle.products.proofs.Writing.{below, small, lowersOf, uppersOf, stop-none, stop-more, lower-is, upper-is, written-all, written-at}
-use Rattle.products.proofs.MidRadPlaces.{place-here, lists-within}
+use Rattle.products.proofs.Fronts.{filled-none, filled-more, filled-from}
+use Rattle.products.proofs.Writing.{stop-none, stop-more, lower-is, upper-is, written-all, written-at}
+use Rattle.products.proofs.MidRadPlaces.{lists-within}
 use Rattle.products.proofs.factored.entries.Statement.{statement}
 use Rattle.products.proofs.factored.entries.Tie as tie
-
--- the first `at` entries are written, and none of them was refused
-abbrev Kept : (ℕ → Next) → ℕ → (lo₀ up₀ lo up : List ℕ) → Type 0
-Kept E at lo₀ up₀ lo up = (stopOf E at ≡ at) × Filled at (lowersOf E) lo₀ lo × Filled at (uppersOf E) up₀ up
-
-abbrev Inv-loop : tie.InvT-loop
-Inv-loop method m k n ma ra ua mb vb wb pa xa pb yb lo₀ up₀ place₀ at₀ i j₀ lo up place at j =
-    (j ≤ n) × (at ≡ at₀ + j) × (place ≡ Nowhere) × Kept (placeFrom k n ma ra ua mb vb wb pa xa pb yb method) at lo₀ up₀ lo up
-
-abbrev μ-loop : tie.MeasureT-loop
-μ-loop method m k n ma ra ua mb vb wb pa xa pb yb lo₀ up₀ place₀ at₀ i j₀ lo up place at j = n - j
-
-abbrev Inv-search : tie.InvT-search
-Inv-search method m k n ma ra ua mb vb wb pa xa pb yb lo₀ up₀ place₀ at₀ i₀ lo up place at i =
-    (i ≤ m) × (at ≡ i * n) × (place ≡ Nowhere) × Kept (placeFrom k n ma ra ua mb vb wb pa xa pb yb method) at lo₀ up₀ lo up
-
-abbrev μ-search : tie.MeasureT-search
-μ-search method m k n ma ra ua mb vb wb pa xa pb yb lo₀ up₀ place₀ at₀ i₀ lo up place at i = m - i
-
-abbrev Turn : Type 0
-Turn = tie.In-loop Inv-loop μ-loop Inv-search μ-search
-
-abbrev Head : Type 0
-Head = tie.At-search Inv-loop μ-loop Inv-search μ-search
-
--- short names for what was passed, as seen from the outer loop's head
-abbrev M : Head → ℕ
-M s = s .before .before .before .before .before .before .before .before .before .before .before .before .before .args .m
-
-abbrev K : Head → ℕ
-K s = s .before .before .before .before .before .before .before .before .before .before .before .before .before .args .k
-
-abbrev N : Head → ℕ
-N s = s .before .before .before .before .before .before .before .before .before .before .before .before .before .args .n
-
-abbrev E : Head → ℕ → Next
-E s = let a = s .before .before .before .before .before .before .before .before .before .before .before .before .before .args in placeFrom (a .k) (a .n) (a .ma .now) (a .ra .now) (a .ua .now) (a .mb .now) (a .vb .now) (a .wb .now) (a .pa .now) (a .xa .now) (a .pb .now) (a .yb .now) (a .method)
-
--- the place that a turn writes is below the entries' number, and so within both results
-place-out : (c : Turn) →
-    let s : Head = c .before .before .before in
-    (c .before .loop .at < M s * N s) × (c .before .loop .at < length (c .before .loop .lo)) × (c .before .loop .at < length (c .before .loop .up))
-    × (length (c .before .loop .lo) ≡ length (s .search .lo)) × (length (c .before .loop .up) ≡ length (s .search .up)) × (M s * N s ≤ 1024)
-place-out c =
-    let s : Head = c .before .before .before in
-    let h = below (s .search .i) (M s) (c .before .loop .j) (N s) (omega arith) (omega arith) in
-    let e = c .before .loop .inv .3 .1 .long ∙ s .search .inv .3 .1 .long in
-    let f = c .before .loop .inv .3 .2 .long ∙ s .search .inv .3 .2 .long in
-    let l = s .before .before .before .before .before .before .before .before .before .before .before .before .before .pre .lowers in
-    let u = s .before .before .before .before .before .before .before .before .before .before .before .before .before .pre .uppers in
-    (omega arith, omega arith, omega arith, c .before .loop .inv .3 .1 .long, c .before .loop .inv .3 .2 .long, small (M s) (N s) (s .before .before .before .before .before .before .before .before .before .before .before .before .before .pre .rows) (s .before .before .before .before .before .before .before .before .before .before .before .before .before .pre .columns))
-
--- that place's entry is the one in row i and column j
-entry-place : (c : Turn) →
-    let s : Head = c .before .before .before in
-    let a = s .before .before .before .before .before .before .before .before .before .before .before .before .before .args in
-    E s (c .before .loop .at) ≡ entryFrom (a .k) (a .n) (s .search .i) (c .before .loop .j) (a .ma .now) (a .ra .now) (a .ua .now) (a .mb .now) (a .vb .now) (a .wb .now) (a .pa .now) (a .xa .now) (a .pb .now) (a .yb .now) (a .method)
-entry-place c =
-    let s : Head = c .before .before .before in
-    let a = s .before .before .before .before .before .before .before .before .before .before .before .before .before .args in
-    place-here (a .k) (a .n) (a .ma .now) (a .ra .now) (a .ua .now) (a .mb .now) (a .vb .now) (a .wb .now) (a .pa .now) (a .xa .now) (a .pb .now) (a .yb .now) (a .method) (s .search .i) (c .before .loop .j) (c .before .loop .at) (omega arith) (c .loop-test .taken)
+use Rattle.products.proofs.factored.entries.Proof.Loops.{Inv-loop, μ-loop, Inv-search, μ-search, Turn, Head, M, N, E, place-out, entry-place}
 
 search-holds : tie.Need-search-holds Inv-loop μ-loop Inv-search μ-search
 search-holds c = (omega arith, sym (zero-mul _), refl, (stop-none _, filled-none _ _, filled-none _ _))
