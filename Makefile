@@ -29,7 +29,7 @@ bench: ## time operations, products and sheets, beside plain C and the machine's
 	@gcc -std=c11 -O2 -frounding-math -Wall -Wextra -Werror -o target/bench/numbers \
 		bench/numbers.c bench/plain.c target/staticlib/libface.a -lm
 	@gcc -std=c11 -O2 -frounding-math -Wall -Wextra -Werror -o target/bench/products \
-		bench/products.c bench/plain_product.c target/staticlib/libproducts_face.a -lm
+		bench/products.c bench/integer_product.c bench/plain_product.c target/staticlib/libproducts_face.a -lm
 	@gcc -std=c11 -O2 -Wall -Wextra -Werror -o target/bench/sheets bench/sheets.c target/staticlib/libsheet_face.a
 	@target/bench/numbers
 	@target/bench/products

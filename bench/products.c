@@ -1,26 +1,27 @@
 /* Times the four products, not proved: the library's beside the same steps in
-   plain C on the machine's floats, 32 by 32 by 32, on the same matrices and in
-   turns; the median of many rounds counts. Stops with status 1 where a word of
-   a result or of a work slice differs. */
+   plain C over 64-bit integers and on the machine's floats, 32 by 32 by 32, on
+   the same matrices and in turns; the least of many rounds counts. Stops with
+   status 1 where a word of a result or of a work slice differs. */
 #define _POSIX_C_SOURCE 200809L /* clock_gettime */
 #include <stdio.h>
-#include <stdlib.h>
 #include <string.h>
 #include <time.h>
 
+#include "integer_product.h"
 #include "plain_product.h"
 #include "products_face.h"
 
 #define SIZE 32
-#define ROUNDS 101
+#define ROUNDS 51
 
 static const int methods[] = {1, 3, 4, 7};
 
 #define METHODS 4
 
-/* The same matrices as patterns and as floats. */
+/* The same matrices three times. */
 static uint32_t al[CELLS], au[CELLS], bl[CELLS], bu[CELLS];
 static uint32_t ma[CELLS], ra[CELLS], mb[CELLS], rb[CELLS], lo[CELLS], up[CELLS];
+static struct patterns patterns;
 static struct floats floats;
 
 static bool run_library(int method)
@@ -29,7 +30,12 @@ static bool run_library(int method)
                         ma, CELLS, ra, CELLS, mb, CELLS, rb, CELLS, lo, CELLS, up, CELLS) == 0;
 }
 
-static bool run_plain(int method)
+static bool run_integers(int method)
+{
+    return integer_product(method, SIZE, SIZE, SIZE, &patterns);
+}
+
+static bool run_machine(int method)
 {
     return plain_product(method, SIZE, SIZE, SIZE, &floats);
 }
@@ -72,6 +78,10 @@ static void draw_matrices(int spread)
     memcpy(au, floats.au, sizeof au);
     memcpy(bl, floats.bl, sizeof bl);
     memcpy(bu, floats.bu, sizeof bu);
+    memcpy(patterns.al, al, sizeof al);
+    memcpy(patterns.au, au, sizeof au);
+    memcpy(patterns.bl, bl, sizeof bl);
+    memcpy(patterns.bu, bu, sizeof bu);
 }
 
 /* The library's zero is the pattern 0. */
@@ -88,7 +98,9 @@ static int differences(const uint32_t *library, const float *plain)
 
 static bool agree(int method)
 {
-    if (!run_library(method) || !run_plain(method))
+    if (!run_library(method) || !run_integers(method) || !run_machine(method))
+        return false;
+    if (memcmp(lo, patterns.lo, sizeof lo) != 0 || memcmp(up, patterns.up, sizeof up) != 0)
         return false;
     int count = differences(lo, floats.lo) + differences(up, floats.up);
     if (method != 1)
@@ -112,21 +124,21 @@ static double time_one(bool (*run)(int method), int method)
     return now() - start;
 }
 
-static int by_size(const void *x, const void *y)
+static double least(const double *times)
 {
-    double a = *(const double *)x, b = *(const double *)y;
-    return (a > b) - (a < b);
+    double least = times[0];
+    for (int round = 1; round < ROUNDS; round++)
+        least = times[round] < least ? times[round] : least;
+    return least;
 }
 
-static double median(double *times)
-{
-    qsort(times, ROUNDS, sizeof times[0], by_size);
-    return times[ROUNDS / 2];
-}
+static bool (*const runs[])(int method) = {run_library, run_integers, run_machine};
+
+#define RUNS 3
 
 static int compare(int spread, const char *title)
 {
-    static double ours[METHODS][ROUNDS], plain[METHODS][ROUNDS];
+    static double times[METHODS][RUNS][ROUNDS];
     draw_matrices(spread);
     for (int i = 0; i < METHODS; i++)
         if (!agree(methods[i])) {
@@ -134,20 +146,19 @@ static int compare(int spread, const char *title)
             return 1;
         }
     for (int round = 0; round < ROUNDS; round++)
-        for (int i = 0; i < METHODS; i++) {
-            ours[i][round] = time_one(run_library, methods[i]);
-            plain[i][round] = time_one(run_plain, methods[i]);
-        }
-    printf("%s\n  method     ours  machine  ours/machine\n", title);
+        for (int i = 0; i < METHODS; i++)
+            for (int r = 0; r < RUNS; r++)
+                times[i][r][round] = time_one(runs[r], methods[i]);
+    printf("%s\n  method     ours  plain C  machine  ours/plain  ours/machine\n", title);
     for (int i = 0; i < METHODS; i++) {
-        double o = median(ours[i]), p = median(plain[i]);
-        printf("  %6d %8.0f %8.1f %13.1f\n", methods[i], o, p, o / p);
+        double ours = least(times[i][0]), plain = least(times[i][1]), machine = least(times[i][2]);
+        printf("  %6d %8.0f %8.0f %8.1f %11.2f %13.1f\n", methods[i], ours, plain, machine, ours / plain, ours / machine);
     }
     return 0;
 }
 
 int main(void)
 {
-    printf("microseconds a product of size %d, median of %d rounds\n", SIZE, ROUNDS);
+    printf("microseconds a product of size %d, least of %d rounds\n", SIZE, ROUNDS);
     return compare(5, "bounds of like size, 2^-5 to 2^6:") || compare(40, "bounds from 2^-40 to 2^41:");
 }

@@ -1,0 +1,144 @@
+/* The products in plain C over 64-bit integers, not proved. The operations are
+   included, so that the compiler can put them in place of calls. What belongs
+   to a cell alone is worked out once a cell. */
+#include "integer_product.h"
+
+#include "plain.c"
+
+#define SIGN 0x80000000u
+#define TINY 0x01000000u /* 2^-125 */
+
+/* Factors of a cell of A and of one of B: |m|, method 3's r' or r, |m| + r, the
+   part p, and -|p| or |p|. */
+static uint32_t abs_a[MAX_CELLS], part_a[MAX_CELLS], minus_a[MAX_CELLS];
+static uint32_t inner_b[MAX_CELLS], outer_b[MAX_CELLS], part_b[MAX_CELLS], abs_part_b[MAX_CELLS];
+
+/* Grows with the number that the pattern stands for. */
+static inline int32_t order(uint32_t p)
+{
+    return p & SIGN ? -(int32_t)(p & ~SIGN) : (int32_t)p;
+}
+
+static inline uint32_t least(uint32_t p, uint32_t q)
+{
+    return order(p) <= order(q) ? p : q;
+}
+
+static inline uint32_t greatest(uint32_t p, uint32_t q)
+{
+    return order(p) <= order(q) ? q : p;
+}
+
+static void convert(size_t count, const uint32_t *lower, const uint32_t *upper, uint32_t *m, uint32_t *r)
+{
+    for (size_t c = 0; c < count; c++) {
+        m[c] = plain_midpoint_up(lower[c], upper[c]);
+        r[c] = plain_sub_up(m[c], lower[c]);
+    }
+}
+
+/* sign(m) * min(|m|, r) */
+static uint32_t part(uint32_t m, uint32_t r)
+{
+    return (m & SIGN) | least(m & ~SIGN, r);
+}
+
+/* (k + 2) / 2^24 for method 3, in exact steps. */
+static uint32_t raised(size_t k)
+{
+    uint32_t total = 0;
+    for (size_t i = 0; i < k + 2; i++)
+        total = plain_add_near(total, 0x33800000);
+    return total;
+}
+
+static void derive(int method, size_t k, size_t a, size_t b, const struct patterns *p)
+{
+    uint32_t factor = raised(k);
+    for (size_t c = 0; c < a; c++) {
+        abs_a[c] = p->ma[c] & ~SIGN;
+        part_a[c] = part(p->ma[c], p->ra[c]);
+        minus_a[c] = part_a[c] | SIGN;
+    }
+    for (size_t c = 0; c < b; c++) {
+        uint32_t m = p->mb[c] & ~SIGN;
+        inner_b[c] = method == 3 ? plain_add_up(plain_mul_up(factor, m), p->rb[c]) : p->rb[c];
+        outer_b[c] = plain_add_up(m, p->rb[c]);
+        part_b[c] = part(p->mb[c], p->rb[c]);
+        abs_part_b[c] = part_b[c] & ~SIGN;
+    }
+}
+
+static uint32_t dot_up(size_t k, size_t n, const uint32_t *x, const uint32_t *y, uint32_t s)
+{
+    for (size_t l = 0; l < k; l++)
+        s = plain_add_up(s, plain_mul_up(x[l], y[l * n]));
+    return s;
+}
+
+static uint32_t dot_down(size_t k, size_t n, const uint32_t *x, const uint32_t *y, uint32_t s)
+{
+    for (size_t l = 0; l < k; l++)
+        s = plain_add_down(s, plain_mul_down(x[l], y[l * n]));
+    return s;
+}
+
+static uint32_t dot_near(size_t k, size_t n, const uint32_t *x, const uint32_t *y, uint32_t s)
+{
+    for (size_t l = 0; l < k; l++)
+        s = plain_add_near(s, plain_mul_near(x[l], y[l * n]));
+    return s;
+}
+
+static void classical(size_t k, size_t n, size_t row, size_t j, const struct patterns *p, uint32_t *lo, uint32_t *up)
+{
+    *lo = *up = 0;
+    for (size_t l = 0; l < k; l++) {
+        uint32_t al = p->al[row + l], au = p->au[row + l], bl = p->bl[l * n + j], bu = p->bu[l * n + j];
+        *lo = plain_add_down(*lo, least(least(plain_mul_down(al, bl), plain_mul_down(al, bu)),
+                                        least(plain_mul_down(au, bl), plain_mul_down(au, bu))));
+        *up = plain_add_up(*up, greatest(greatest(plain_mul_up(al, bl), plain_mul_up(al, bu)),
+                                         greatest(plain_mul_up(au, bl), plain_mul_up(au, bu))));
+    }
+}
+
+static void centred(int method, size_t k, size_t n, size_t row, size_t j, const struct patterns *p, uint32_t *lo, uint32_t *up)
+{
+    uint32_t radius = dot_up(k, n, abs_a + row, inner_b + j, 0), low, high;
+    if (method == 3)
+        radius = plain_add_up(radius, TINY);
+    radius = dot_up(k, n, p->ra + row, outer_b + j, radius);
+    if (method == 3) {
+        low = high = dot_near(k, n, p->ma + row, p->mb + j, 0);
+    } else {
+        low = dot_down(k, n, p->ma + row, p->mb + j, 0);
+        high = dot_up(k, n, p->ma + row, p->mb + j, 0);
+    }
+    if (method == 7) {
+        radius = dot_up(k, n, minus_a + row, abs_part_b + j, radius);
+        low = dot_down(k, n, part_a + row, part_b + j, low);
+        high = dot_up(k, n, part_a + row, part_b + j, high);
+    }
+    *lo = plain_sub_down(low, radius);
+    *up = plain_add_up(high, radius);
+}
+
+bool integer_product(int method, size_t m, size_t k, size_t n, struct patterns *p)
+{
+    if (method != 1) {
+        convert(m * k, p->al, p->au, p->ma, p->ra);
+        convert(k * n, p->bl, p->bu, p->mb, p->rb);
+        derive(method, k, m * k, k * n, p);
+    }
+    bool finite = true;
+    for (size_t i = 0; i < m; i++)
+        for (size_t j = 0; j < n; j++) {
+            uint32_t *lo = &p->lo[i * n + j], *up = &p->up[i * n + j];
+            if (method == 1)
+                classical(k, n, i * k, j, p, lo, up);
+            else
+                centred(method, k, n, i * k, j, p, lo, up);
+            finite &= is_finite(*lo) && is_finite(*up);
+        }
+    return finite;
+}
