@@ -1,5 +1,5 @@
 -- `products_face::code` meets its contract: each arm is the definition's clause.
-use mathlib.Core.Path.{_≡_, sym, ap, subst, _∙_}
+use mathlib.Core.Path.{sym, ap, subst, _∙_}
 use Prim.Native.Nat.{_<_}
 use Rattle.products_face.specs.Code.{numbered, coded}
 use borrow.Author.Needs.{needs}

@@ -1,0 +1,57 @@
+-- `coupling::read_as` meets its contract: the reader's, with the refusal named.
+use borrow.Author.Needs.{needs}
+use Rattle.sheets.specs.Reading.{lowerOf, upperOf}
+use Rattle.coupling.proofs.Stages.{read-done, read-refused, slice-done, slice-refused}
+use Rattle.coupling.proofs.read_as.Statement.{statement}
+use Rattle.coupling.proofs.read_as.Tie as tie
+
+read-requires : tie.Need-read-requires
+read-requires c κs = search needs
+
+enum-known-rows : tie.Need-enum-known-rows
+enum-known-rows c = search needs
+
+enum-known-r : tie.Need-enum-known-r
+enum-known-r c = search needs
+
+named-requires : tie.Need-named-requires
+named-requires c κs = search needs
+
+same-length : tie.Need-same-length
+same-length c = search needs
+
+same-length-2 : tie.Need-same-length-2
+same-length-2 c = search needs
+
+returns : tie.Need-returns
+returns c =
+    let r = c .before .before .before .before .before .before .before .read .ensures in
+    let e = c .before .rows .given .1 in
+    (read-done _ _ _ _ _ (r .0) e, (slice-done lowerOf _ _ _ _ _ (r .1 .0) e, slice-done upperOf _ _ _ _ _ (r .1 .1) e))
+
+same-length-3 : tie.Need-same-length-3
+same-length-3 c = search needs
+
+same-length-4 : tie.Need-same-length-4
+same-length-4 c = search needs
+
+returns-2 : tie.Need-returns-2
+returns-2 c =
+    let r = c .before .before .before .before .before .before .before .before .read .ensures in
+    let e = c .before .before .r .given .1 in
+    (read-refused _ _ _ _ _ (r .0) e (c .named .ensures), (slice-refused lowerOf _ _ _ _ _ _ (r .1 .0) e, slice-refused upperOf _ _ _ _ _ _ (r .1 .1) e))
+
+pub read-as-spec : {M : Type 1} → statement M
+read-as-spec =
+    tie.close
+    (tie.spec
+    read-requires
+    enum-known-rows
+    enum-known-r
+    named-requires
+    same-length
+    same-length-2
+    returns
+    same-length-3
+    same-length-4
+    returns-2)

@@ -1,0 +1,110 @@
+/* Differential test of the sheet job, not proved: the library's job through C
+   against the independent implementation, on pairs of sheets that fit, that do
+   not, or that are damaged.
+
+   differential [jobs] [seed]
+
+   Each job is compared in the number returned and in every byte of the out
+   buffer, surplus and the guard behind it included. Prints how often each
+   refusal was met; fails on a difference, or where one was never met. */
+#include <stdio.h>
+#include <stdlib.h>
+#include <string.h>
+
+#include "../oracle/oracle.h"
+#include "../sheets/random_sheet.h"
+
+uint32_t coupling_multiply(uint32_t method, const uint8_t *a, size_t a_len, const uint8_t *b, size_t b_len, uint8_t *out, size_t out_len);
+
+struct sheet_bytes { uint8_t bytes[BUFFER]; size_t length; };
+
+static struct sheet_bytes a, b;
+static uint8_t ours[BUFFER], theirs[BUFFER];
+static unsigned long met[12], differences;
+
+/* A number of moderate size, or any. */
+static uint32_t number(int any)
+{
+    return any ? pattern() : (draw() & 0x807FFFFF) | (100 + below(50)) << 23;
+}
+
+static int above(uint32_t p, uint32_t q)
+{
+    int32_t x = p >> 31 ? -(int32_t)(p & 0x7FFFFFFF) : (int32_t)p;
+    int32_t y = q >> 31 ? -(int32_t)(q & 0x7FFFFFFF) : (int32_t)q;
+    return x > y;
+}
+
+/* A sheet of rows by columns, some cells [0, 0]. */
+static void valid_sheet(struct sheet_bytes *s, size_t rows, size_t columns, int any)
+{
+    static uint32_t lo[MAX_CELLS], hi[MAX_CELLS];
+    for (size_t c = 0; c < rows * columns; c++) {
+        lo[c] = hi[c] = 0;
+        if (chance(4))
+            continue;
+        uint32_t p = number(any), q = number(any);
+        if ((p << 1) >= 0xFF000000 || (q << 1) >= 0xFF000000)
+            continue;
+        lo[c] = above(p, q) ? q : p;
+        hi[c] = above(p, q) ? p : q;
+    }
+    oracle_write(rows, columns, lo, rows * columns, hi, rows * columns, s->bytes, BUFFER, &s->length);
+}
+
+static void damaged_sheet(struct sheet_bytes *s)
+{
+    s->length = next_sheet();
+    memcpy(s->bytes, sheet, s->length);
+}
+
+static void draw_sheets(void)
+{
+    uint32_t most = chance(50) ? 32 : 5;
+    size_t m = 1 + below(most), k = 1 + below(most), n = 1 + below(most);
+    int any = chance(3);
+    if (chance(6))
+        damaged_sheet(&a);
+    else
+        valid_sheet(&a, m, k, any);
+    if (chance(6))
+        damaged_sheet(&b);
+    else
+        valid_sheet(&b, chance(12) ? 1 + below(most) : k, n, any);
+}
+
+static uint32_t draw_method(void)
+{
+    static const uint32_t methods[] = {1, 3, 4, 7};
+    return chance(20) ? below(10) : methods[below(4)];
+}
+
+static void compare(unsigned long job)
+{
+    draw_sheets();
+    uint32_t method = draw_method();
+    size_t out_len = chance(10) ? below(400) : BUFFER - 64;
+    for (size_t i = 0; i < BUFFER; i++)
+        ours[i] = theirs[i] = (uint8_t)(i ^ 0xA5);
+    uint32_t their = oracle_job(method, a.bytes, a.length, b.bytes, b.length, theirs, out_len);
+    uint32_t our = coupling_multiply(method, a.bytes, a.length, b.bytes, b.length, ours, out_len);
+    met[their / 1000000]++;
+    if ((our != their || memcmp(ours, theirs, BUFFER) != 0) && differences++ < 10)
+        printf("job %lu, method %u: %u, not %u, or the buffer differs\n", job, method, our, their);
+}
+
+int main(int argc, char **argv)
+{
+    unsigned long jobs = argc > 1 ? strtoul(argv[1], NULL, 10) : 100000;
+    seed(argc > 2 ? strtoull(argv[2], NULL, 10) : 1);
+    for (unsigned long job = 0; job < jobs; job++)
+        compare(job);
+    int missing = 0;
+    printf("jobs: accepted %lu", met[0]);
+    for (int n = 1; n < 12; n++) {
+        printf(", %d: %lu", n, met[n]);
+        missing += n != 2 && met[n] == 0;
+    }
+    printf("\n%lu jobs, %lu differences, %d refusals never met\n", jobs, differences, missing);
+    return differences != 0 || missing != 0;
+}
