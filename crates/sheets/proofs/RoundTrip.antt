@@ -10,6 +10,7 @@ use Rattle.sheets.specs.declared.chain.Cell.{Cell}
 use Rattle.sheets.specs.declared.Outcome.the-variants.{Done}
 use Rattle.sheets.specs.declared.Written.the-variants.{Bytes}
 use Rattle.sheets.specs.Cell.{canonicalOf, boundsOf}
+use Rattle.sheets.specs.Chain.{Walk}
 use Rattle.sheets.specs.Reading.{lowerOf, upperOf, matrixOf, sliceAfter}
 use Rattle.sheets.specs.Sheet.{cellAt, countTo, sheetOf}
 use Rattle.sheets.specs.Writing.{writeOf, outAfter}
@@ -17,7 +18,7 @@ use Rattle.sheets.specs.Trip.{canonicals, ReadsBack, TripOf}
 use Rattle.sheets.proofs.Fits.{small, Sized}
 use Rattle.sheets.proofs.Rooms.{Granted, bytes-tell}
 use Rattle.sheets.proofs.Outs.{part-length}
-use Rattle.sheets.proofs.CellBack.{cell-back, zero-back, Fine, none, cell, scan-fine}
+use Rattle.sheets.proofs.CellBack.{Back, cell-back, zero-back, Fine, none, cell, scan-fine}
 use Rattle.sheets.proofs.RecordBack.{rows-back, columns-back}
 use Rattle.sheets.proofs.WalkBack.{read-back, chain-back}
 use Rattle.sheets.proofs.MatrixBack.{Holds, put-back}

@@ -29,7 +29,7 @@ use Rattle.sheets.proofs.Answers.{read-ended}
 use Rattle.sheets.proofs.CellBytes.{next-more, next-end}
 use Rattle.sheets.proofs.Counting.{count-room, count-le}
 use Rattle.sheets.proofs.Outs.{sheet-length}
-use Rattle.sheets.proofs.CellBack.{cell-back}
+use Rattle.sheets.proofs.CellBack.{Back, cell-back}
 use Rattle.sheets.proofs.RecordBack.{fieldsOf, head-blank, record-at-place, count-back, first-back, rows-back, columns-back}
 
 -- the y cells from place p on that are not [0, 0]

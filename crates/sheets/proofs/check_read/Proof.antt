@@ -5,7 +5,7 @@ use native.Mathlib.Omega.{arith}
 use borrow.Author.Needs.{needs}
 use borrow.Author.Tests.{not-true, not-false}
 use Rattle.sheets.specs.Layout.{framed}
-use Rattle.sheets.proofs.Fits.{fit-tells}
+use Rattle.sheets.proofs.Fits.{Sized, fit-tells}
 use Rattle.sheets.proofs.Frames.{framed-tells}
 use Rattle.sheets.proofs.Answers.{read-unframed, read-unfit, read-ended}
 use Rattle.sheets.proofs.check_read.Statement.{statement}

@@ -4,7 +4,7 @@ use native.Mathlib.Nat.{mul-le-mul-right}
 use native.Mathlib.Omega.{arith}
 use lib.ListN.{length}
 use borrow.Author.Needs.{needs}
-use Rattle.sheets.proofs.Fits.{small}
+use Rattle.sheets.proofs.Fits.{small, Sized}
 use Rattle.sheets.proofs.Rooms.{Granted, bytes-tell}
 use Rattle.sheets.proofs.Outs.{put-done, put-refused}
 use Rattle.sheets.proofs.RoundTrip.{trip-done}

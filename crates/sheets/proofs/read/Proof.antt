@@ -4,7 +4,7 @@ use native.Mathlib.Omega.{arith}
 use lib.ListN.{length}
 use borrow.Author.Needs.{needs}
 use Rattle.sheets.specs.Reading.{lowerOf, upperOf}
-use Rattle.sheets.proofs.Fits.{small}
+use Rattle.sheets.proofs.Fits.{small, Sized}
 use Rattle.sheets.proofs.Frames.{framed-tells}
 use Rattle.sheets.proofs.Answers.{Accepted, done-tells, slice-done, slice-refused}
 use Rattle.sheets.proofs.read.Statement.{statement}
