@@ -14,7 +14,7 @@ mod check_order;
 mod checks;
 mod classical;
 mod converted;
-pub mod derived;
+mod derived;
 mod factored;
 mod midrad;
 mod stages;
