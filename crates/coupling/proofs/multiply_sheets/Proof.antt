@@ -66,12 +66,21 @@ same-length-2 c = search needs
 
 returns-2 : tie.Need-returns-2
 returns-2 c =
-    let g = c .before .before .before .before .before .before .before .before .before .before .before .before .before .before .before .before .before .before .before .before .before .before .before .before .before .before .before .before .before .before .before .before .before .args in
-    let ra = c .before .before .before .before .before .before .before .before .before .before .before .before .before .before .before .before .before .before .before .before .before .before .before .before .read-as .ensures in
+    let g =
+    c .before .before .before .before .before .before .before .before .before .before .before .before .before .before .before .before .before .before .before
+    .before .before .before .before .before .before .before .before .before .before .before .before .before .before .args in
+    let ra =
+    c .before .before .before .before .before .before .before .before .before .before .before .before .before .before .before .before .before .before .before
+    .before .before .before .before .before .read-as .ensures in
     let rb = c .before .before .before .before .before .before .before .before .before .before .before .before .before .before .before .before .read-as2 .ensures in
-    let A = sheet-is 1 (ra .0) (ra .1 .0) (ra .1 .1) (c .before .before .before .before .before .before .before .before .before .before .before .before .before .before .before .before .before .before .before .before .a-rows .given .1) in
+    let A =
+    sheet-is 1 (ra .0) (ra .1 .0) (ra .1 .1)
+    (c .before .before .before .before .before .before .before .before .before .before .before .before .before .before .before .before .before .before .before .before .a-rows .given .1) in
     let B = sheet-is 2 (rb .0) (rb .1 .0) (rb .1 .1) (c .before .before .before .before .before .before .before .before .before .before .before .before .b-rows .given .1) in
-    sheets-made (g .method) (g .a .now) (g .b .now) (g .lo .now) (g .up .now) _ (c .before .before .before .before .before .before .before .before .before .before .before .before .before .before .before .before .before .before .before .before .before .before .before .before .before .before .before .before .is-method .ensures) (not-false _ (c .before .before .before .before .before .before .before .before .before .before .before .before .before .before .before .before .before .before .before .before .before .before .before .before .before .before .before .if1 .left)) A B (c .before .before .before .before .multiply .ensures)
+    sheets-made (g .method) (g .a .now) (g .b .now) (g .lo .now) (g .up .now) _
+    (c .before .before .before .before .before .before .before .before .before .before .before .before .before .before .before .before .before .before .before .before .before .before .before .before .before .before .before .before .is-method .ensures)
+    (not-false _ (c .before .before .before .before .before .before .before .before .before .before .before .before .before .before .before .before .before .before .before .before .before .before .before .before .before .before .before .if1 .left))
+    A B (c .before .before .before .before .multiply .ensures)
 
 returns-3 : tie.Need-returns-3
 returns-3 c =
@@ -79,13 +88,18 @@ returns-3 c =
     let ra = c .before .before .before .before .before .before .before .before .before .before .before .before .before .read-as .ensures in
     let rb = c .before .before .before .before .before .read-as2 .ensures in
     let A = sheet-is 1 (ra .0) (ra .1 .0) (ra .1 .1) (c .before .before .before .before .before .before .before .before .before .a-rows .given .1) in
-    sheets-second (g .method) (g .a .now) (g .b .now) (g .lo .now) (g .up .now) _ (c .before .before .before .before .before .before .before .before .before .before .before .before .before .before .before .before .before .is-method .ensures) (not-false _ (c .before .before .before .before .before .before .before .before .before .before .before .before .before .before .before .before .if1 .left)) A _ _ (rb .0) (c .before .r .given .1)
+    sheets-second (g .method) (g .a .now) (g .b .now) (g .lo .now) (g .up .now) _
+    (c .before .before .before .before .before .before .before .before .before .before .before .before .before .before .before .before .before .is-method .ensures)
+    (not-false _ (c .before .before .before .before .before .before .before .before .before .before .before .before .before .before .before .before .if1 .left)) A _
+    _ (rb .0) (c .before .r .given .1)
 
 returns-4 : tie.Need-returns-4
 returns-4 c =
     let g = c .before .before .before .before .before .before .before .before .before .before .before .before .before .before .args in
     let ra = c .before .before .before .before .before .read-as .ensures in
-    sheets-first (g .method) (g .a .now) (g .b .now) (g .lo .now) (g .up .now) _ (c .before .before .before .before .before .before .before .before .before .is-method .ensures) (not-false _ (c .before .before .before .before .before .before .before .before .if1 .left)) _ _ (ra .0) (c .before .r2 .given .1)
+    sheets-first (g .method) (g .a .now) (g .b .now) (g .lo .now) (g .up .now) _
+    (c .before .before .before .before .before .before .before .before .before .is-method .ensures)
+    (not-false _ (c .before .before .before .before .before .before .before .before .if1 .left)) _ _ (ra .0) (c .before .r2 .given .1)
 
 pub multiply-sheets-spec : {M : Type 1} → statement M
 multiply-sheets-spec =

@@ -44,7 +44,10 @@ same-length c = search needs
 returns : tie.Need-returns
 returns c =
     let g = c .before .before .before .before .before .before .before .before .before .before .before .before .before .before .before .before .before .before .before .before .args in
-    let R = ready (g .method) (g .a .now) (g .b .now) (c .before .before .before .before .before .before .before .before .before .before .before .before .before .before .multiply-sheets .ensures) (c .before .before .before .before .before .before .before .before .before .before .rows .given .1) in
+    let R =
+    ready (g .method) (g .a .now) (g .b .now)
+    (c .before .before .before .before .before .before .before .before .before .before .before .before .before .before .multiply-sheets .ensures)
+    (c .before .before .before .before .before .before .before .before .before .before .rows .given .1) in
     let p = c .before .before .before .before .before .put .ensures in
     let f = c .before .n .given .1 in
     (job-bytes (g .method) (g .a .now) (g .b .now) R _ _ _ (p .0) f, (out-bytes (g .method) (g .a .now) (g .b .now) R _ _ _ _ (p .1 .0) f, delivered R _ _ _ _ (p .0) f (p .1 .1)))
@@ -55,7 +58,10 @@ same-length-2 c = search needs
 returns-2 : tie.Need-returns-2
 returns-2 c =
     let g = c .before .before .before .before .before .before .before .before .before .before .before .before .before .before .before .before .before .before .before .before .before .args in
-    let R = ready (g .method) (g .a .now) (g .b .now) (c .before .before .before .before .before .before .before .before .before .before .before .before .before .before .before .multiply-sheets .ensures) (c .before .before .before .before .before .before .before .before .before .before .before .rows .given .1) in
+    let R =
+    ready (g .method) (g .a .now) (g .b .now)
+    (c .before .before .before .before .before .before .before .before .before .before .before .before .before .before .before .multiply-sheets .ensures)
+    (c .before .before .before .before .before .before .before .before .before .before .before .rows .given .1) in
     let p = c .before .before .before .before .before .before .put .ensures in
     let f = c .before .before .r .given .1 in
     (job-room (g .method) (g .a .now) (g .b .now) R _ _ _ _ (p .0) f (c .named .ensures), (out-room (g .method) (g .a .now) (g .b .now) R _ _ _ _ _ (p .1 .0) f, refused-keeps (g .method) (g .a .now) (g .b .now) _ _))

@@ -25,7 +25,9 @@ entry-requires : tie.Need-entry-requires Inv-loop μ-loop Inv-search μ-search
 entry-requires c κs =
     let s : Head = c .before .before .before in
     let a = s .before .before .before .before .before .before .before .before .before .before .before .before .before .args in
-    lists-within (a .k) (a .n) (a .ma .now) (a .ra .now) (a .ua .now) (a .mb .now) (a .vb .now) (a .wb .now) (a .pa .now) (a .xa .now) (a .pb .now) (a .yb .now) (a .m) _ _ (s .search .i) (c .before .loop .j) (s .before .before .before .before .before .before .before .before .before .before .before .before .before .pre) (c .before .before .search-test .taken) (c .loop-test .taken)
+    lists-within (a .k) (a .n) (a .ma .now) (a .ra .now) (a .ua .now) (a .mb .now) (a .vb .now) (a .wb .now) (a .pa .now) (a .xa .now) (a .pb .now) (a .yb .now)
+    (a .m) _ _ (s .search .i) (c .before .loop .j) (s .before .before .before .before .before .before .before .before .before .before .before .before .before .pre)
+    (c .before .before .search-test .taken) (c .loop-test .taken)
 
 enum-known-s : tie.Need-enum-known-s Inv-loop μ-loop Inv-search μ-search
 enum-known-s c = search needs

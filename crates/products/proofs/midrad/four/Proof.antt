@@ -30,9 +30,14 @@ returns : tie.Need-returns
 returns c =
     let a = c .before .before .before .before .before .before .before .before .before .before .before .before .before .before .args in
     let d = c .before .before .dot-up in
-    let centre = c .before .before .before .before .before .before .dot-both .ensures start start start-fits start-fits (new-is _ (c .before .before .before .before .before .before .before .new .ensures)) in
-    let radius = c .before .dot-up2 .ensures _ (first-fits (a .k) (a .n) (a .i) (a .j) (a .ma .now) (a .ra .now) (a .ua .now) (a .mb .now) (a .vb .now) (a .wb .now)) (d .ensures start start-fits start-is) in
-    c .ends .ensures ∙ four-is (a .k) (a .n) (a .i) (a .j) (a .ma .now) (a .ra .now) (a .ua .now) (a .mb .now) (a .vb .now) (a .wb .now) (c .before .dot-up2 .result) _ radius (sym centre ∙ c .before .before .before .before .c .given .1)
+    let centre =
+    c .before .before .before .before .before .before .dot-both .ensures start start start-fits start-fits
+    (new-is _ (c .before .before .before .before .before .before .before .new .ensures)) in
+    let radius =
+    c .before .dot-up2 .ensures _ (first-fits (a .k) (a .n) (a .i) (a .j) (a .ma .now) (a .ra .now) (a .ua .now) (a .mb .now) (a .vb .now) (a .wb .now))
+    (d .ensures start start-fits start-is) in
+    c .ends .ensures ∙ four-is (a .k) (a .n) (a .i) (a .j) (a .ma .now) (a .ra .now) (a .ua .now) (a .mb .now) (a .vb .now) (a .wb .now) (c .before .dot-up2 .result)
+    _ radius (sym centre ∙ c .before .before .before .before .c .given .1)
 
 returns-2 : tie.Need-returns-2
 returns-2 c =

@@ -40,26 +40,45 @@ enum-told-2 c = search needs
 
 returns : tie.Need-returns
 returns c =
-    let a = c .before .before .before .before .before .before .before .before .before .before .before .before .before .before .before .before .before .before .before .before .before .before .before .args in
-    let first = c .before .before .before .before .before .before .before .before .before .before .before .dot-both .ensures start start start-fits start-fits (new-is _ (c .before .before .before .before .before .before .before .before .before .before .before .before .new .ensures)) in
-    let centre = c .before .before .before .before .before .before .before .dot-both2 .ensures _ _ (down-fit (a .k) (a .n) (a .i) (a .j) (a .ma .now) (a .ra .now) (a .ua .now) (a .mb .now) (a .vb .now) (a .wb .now)) (up-fit (a .k) (a .n) (a .i) (a .j) (a .ma .now) (a .ra .now) (a .ua .now) (a .mb .now) (a .vb .now) (a .wb .now)) (sym first ∙ c .before .before .before .before .before .before .before .before .before .s .given .1) in
+    let a =
+    c .before .before .before .before .before .before .before .before .before .before .before .before .before .before .before .before .before .before .before
+    .before .before .before .before .args in
+    let first =
+    c .before .before .before .before .before .before .before .before .before .before .before .dot-both .ensures start start start-fits start-fits
+    (new-is _ (c .before .before .before .before .before .before .before .before .before .before .before .before .new .ensures)) in
+    let centre =
+    c .before .before .before .before .before .before .before .dot-both2 .ensures _ _
+    (down-fit (a .k) (a .n) (a .i) (a .j) (a .ma .now) (a .ra .now) (a .ua .now) (a .mb .now) (a .vb .now) (a .wb .now))
+    (up-fit (a .k) (a .n) (a .i) (a .j) (a .ma .now) (a .ra .now) (a .ua .now) (a .mb .now) (a .vb .now) (a .wb .now))
+    (sym first ∙ c .before .before .before .before .before .before .before .before .before .s .given .1) in
     let inner = c .before .before .before .dot-up .ensures start start-fits start-is in
     let outer = c .before .before .dot-up2 .ensures _ (first-fits (a .k) (a .n) (a .i) (a .j) (a .ma .now) (a .ra .now) (a .ua .now) (a .mb .now) (a .vb .now) (a .wb .now)) inner in
-    let radius = c .before .dot-up3 .ensures _ (then-fits (a .k) (a .n) (a .i) (a .j) (a .ma .now) (a .ra .now) (a .ua .now) (a .mb .now) (a .vb .now) (a .wb .now) _ (first-fits (a .k) (a .n) (a .i) (a .j) (a .ma .now) (a .ra .now) (a .ua .now) (a .mb .now) (a .vb .now) (a .wb .now))) outer in
-    c .ends .ensures ∙ seven-is (a .k) (a .n) (a .i) (a .j) (a .ma .now) (a .ra .now) (a .ua .now) (a .mb .now) (a .vb .now) (a .wb .now) (a .pa .now) (a .xa .now) (a .pb .now) (a .yb .now) (c .before .dot-up3 .result) _ radius (sym centre ∙ c .before .before .before .before .before .c .given .1)
+    let radius =
+    c .before .dot-up3 .ensures _
+    (then-fits (a .k) (a .n) (a .i) (a .j) (a .ma .now) (a .ra .now) (a .ua .now) (a .mb .now) (a .vb .now) (a .wb .now) _ (first-fits (a .k) (a .n) (a .i) (a .j) (a .ma .now) (a .ra .now) (a .ua .now) (a .mb .now) (a .vb .now) (a .wb .now)))
+    outer in
+    c .ends .ensures ∙ seven-is (a .k) (a .n) (a .i) (a .j) (a .ma .now) (a .ra .now) (a .ua .now) (a .mb .now) (a .vb .now) (a .wb .now) (a .pa .now) (a .xa .now)
+    (a .pb .now) (a .yb .now) (c .before .dot-up3 .result) _ radius (sym centre ∙ c .before .before .before .before .before .c .given .1)
 
 returns-2 : tie.Need-returns-2
 returns-2 c =
     let a = c .before .before .before .before .before .before .before .before .before .before .before .before .before .before .before .before .before .before .args in
-    let first = c .before .before .before .before .before .before .dot-both .ensures start start start-fits start-fits (new-is _ (c .before .before .before .before .before .before .before .new .ensures)) in
-    let centre = c .before .before .dot-both2 .ensures _ _ (down-fit (a .k) (a .n) (a .i) (a .j) (a .ma .now) (a .ra .now) (a .ua .now) (a .mb .now) (a .vb .now) (a .wb .now)) (up-fit (a .k) (a .n) (a .i) (a .j) (a .ma .now) (a .ra .now) (a .ua .now) (a .mb .now) (a .vb .now) (a .wb .now)) (sym first ∙ c .before .before .before .before .s .given .1) in
-    seven-refused (a .k) (a .n) (a .i) (a .j) (a .ma .now) (a .ra .now) (a .ua .now) (a .mb .now) (a .vb .now) (a .wb .now) (a .pa .now) (a .xa .now) (a .pb .now) (a .yb .now) (sym centre ∙ c .enum-told .given .1)
+    let first =
+    c .before .before .before .before .before .before .dot-both .ensures start start start-fits start-fits
+    (new-is _ (c .before .before .before .before .before .before .before .new .ensures)) in
+    let centre =
+    c .before .before .dot-both2 .ensures _ _ (down-fit (a .k) (a .n) (a .i) (a .j) (a .ma .now) (a .ra .now) (a .ua .now) (a .mb .now) (a .vb .now) (a .wb .now))
+    (up-fit (a .k) (a .n) (a .i) (a .j) (a .ma .now) (a .ra .now) (a .ua .now) (a .mb .now) (a .vb .now) (a .wb .now))
+    (sym first ∙ c .before .before .before .before .s .given .1) in
+    seven-refused (a .k) (a .n) (a .i) (a .j) (a .ma .now) (a .ra .now) (a .ua .now) (a .mb .now) (a .vb .now) (a .wb .now) (a .pa .now) (a .xa .now) (a .pb .now)
+    (a .yb .now) (sym centre ∙ c .enum-told .given .1)
 
 returns-3 : tie.Need-returns-3
 returns-3 c =
     let a = c .before .before .before .before .before .before .before .before .before .before .before .before .before .before .args in
     let first = c .before .before .dot-both .ensures start start start-fits start-fits (new-is _ (c .before .before .before .new .ensures)) in
-    seven-stopped (a .k) (a .n) (a .i) (a .j) (a .ma .now) (a .ra .now) (a .ua .now) (a .mb .now) (a .vb .now) (a .wb .now) (a .pa .now) (a .xa .now) (a .pb .now) (a .yb .now) (sym first ∙ c .enum-told2 .given .1)
+    seven-stopped (a .k) (a .n) (a .i) (a .j) (a .ma .now) (a .ra .now) (a .ua .now) (a .mb .now) (a .vb .now) (a .wb .now) (a .pa .now) (a .xa .now) (a .pb .now)
+    (a .yb .now) (sym first ∙ c .enum-told2 .given .1)
 
 pub seven-spec : {M : Type 1} → statement M
 seven-spec =

@@ -27,7 +27,9 @@ returns c =
     let a = c .before .before .before .before .before .before .before .before .before .before .before .args in
     let d = c .before .before .before .dot-up in
     let radius = c .before .dot-up2 .ensures (with₂ (add up) (d .result) 0x01000000) (lifted-fits (d .result)) (c .before .before .add-up .ensures) in
-    c .ends .ensures ∙ three-is (a .k) (a .n) (a .i) (a .j) (a .ma .now) (a .ra .now) (a .ua .now) (a .mb .now) (a .vb .now) (a .wb .now) (d .result) (c .before .dot-up2 .result) (c .before .before .before .before .dot-near .result) (d .ensures start start-fits start-is) radius (c .before .before .before .before .dot-near .ensures start start-fits start-is)
+    c .ends .ensures ∙ three-is (a .k) (a .n) (a .i) (a .j) (a .ma .now) (a .ra .now) (a .ua .now) (a .mb .now) (a .vb .now) (a .wb .now) (d .result)
+    (c .before .dot-up2 .result) (c .before .before .before .before .dot-near .result) (d .ensures start start-fits start-is) radius
+    (c .before .before .before .before .dot-near .ensures start start-fits start-is)
 
 pub three-spec : {M : Type 1} → statement M
 three-spec =

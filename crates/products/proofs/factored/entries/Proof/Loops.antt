@@ -48,7 +48,10 @@ abbrev pub N : Head → ℕ
 N s = s .before .before .before .before .before .before .before .before .before .before .before .before .before .args .n
 
 abbrev pub E : Head → ℕ → Next
-E s = let a = s .before .before .before .before .before .before .before .before .before .before .before .before .before .args in placeFrom (a .k) (a .n) (a .ma .now) (a .ra .now) (a .ua .now) (a .mb .now) (a .vb .now) (a .wb .now) (a .pa .now) (a .xa .now) (a .pb .now) (a .yb .now) (a .method)
+E s =
+    let a = s .before .before .before .before .before .before .before .before .before .before .before .before .before .args in
+    placeFrom (a .k) (a .n) (a .ma .now) (a .ra .now) (a .ua .now) (a .mb .now) (a .vb .now) (a .wb .now) (a .pa .now) (a .xa .now) (a .pb .now) (a .yb .now)
+    (a .method)
 
 -- the place that a turn writes is below the entries' number, and so within both results
 pub place-out : (c : Turn) →
@@ -68,8 +71,10 @@ place-out c =
 pub entry-place : (c : Turn) →
     let s : Head = c .before .before .before in
     let a = s .before .before .before .before .before .before .before .before .before .before .before .before .before .args in
-    E s (c .before .loop .at) ≡ entryFrom (a .k) (a .n) (s .search .i) (c .before .loop .j) (a .ma .now) (a .ra .now) (a .ua .now) (a .mb .now) (a .vb .now) (a .wb .now) (a .pa .now) (a .xa .now) (a .pb .now) (a .yb .now) (a .method)
+    E s (c .before .loop .at) ≡ entryFrom (a .k) (a .n) (s .search .i) (c .before .loop .j) (a .ma .now) (a .ra .now) (a .ua .now) (a .mb .now) (a .vb .now)
+    (a .wb .now) (a .pa .now) (a .xa .now) (a .pb .now) (a .yb .now) (a .method)
 entry-place c =
     let s : Head = c .before .before .before in
     let a = s .before .before .before .before .before .before .before .before .before .before .before .before .before .args in
-    place-here (a .k) (a .n) (a .ma .now) (a .ra .now) (a .ua .now) (a .mb .now) (a .vb .now) (a .wb .now) (a .pa .now) (a .xa .now) (a .pb .now) (a .yb .now) (a .method) (s .search .i) (c .before .loop .j) (c .before .loop .at) (omega arith) (c .loop-test .taken)
+    place-here (a .k) (a .n) (a .ma .now) (a .ra .now) (a .ua .now) (a .mb .now) (a .vb .now) (a .wb .now) (a .pa .now) (a .xa .now) (a .pb .now) (a .yb .now)
+    (a .method) (s .search .i) (c .before .loop .j) (c .before .loop .at) (omega arith) (c .loop-test .taken)
