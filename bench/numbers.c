@@ -8,6 +8,7 @@
 #include <string.h>
 #include <time.h>
 
+#include "draw.h"
 #include "face.h"
 #include "plain.h"
 
@@ -76,20 +77,10 @@ static const struct row {
 
 #define ROWS (sizeof rows / sizeof rows[0])
 
-/* The splitmix64 generator. */
-static uint64_t next(void)
-{
-    static uint64_t state = 32;
-    uint64_t z = state += 0x9E3779B97F4A7C15u;
-    z = (z ^ (z >> 30)) * 0xBF58476D1CE4E5B9u;
-    z = (z ^ (z >> 27)) * 0x94D049BB133111EBu;
-    return z ^ (z >> 31);
-}
-
 /* Any sign and fraction, and an exponent field from least to greatest. */
 static uint32_t number(uint32_t least, uint32_t greatest)
 {
-    uint64_t bits = next();
+    uint64_t bits = draw();
     uint32_t field = least + (uint32_t)(bits >> 32) % (greatest - least + 1);
     return ((uint32_t)bits & 0x807FFFFF) | field << 23;
 }

@@ -7,6 +7,7 @@
 #include <string.h>
 #include <time.h>
 
+#include "draw.h"
 #include "integer_product.h"
 #include "plain_product.h"
 #include "products_face.h"
@@ -40,20 +41,10 @@ static bool run_machine(int method)
     return plain_product(method, SIZE, SIZE, SIZE, &floats);
 }
 
-/* The splitmix64 generator. */
-static uint64_t next(void)
-{
-    static uint64_t state = 32;
-    uint64_t z = state += 0x9E3779B97F4A7C15u;
-    z = (z ^ (z >> 30)) * 0xBF58476D1CE4E5B9u;
-    z = (z ^ (z >> 27)) * 0x94D049BB133111EBu;
-    return z ^ (z >> 31);
-}
-
 /* Either sign, any fraction, an exponent from -spread to spread. */
 static float draw_number(int spread)
 {
-    uint64_t bits = next();
+    uint64_t bits = draw();
     uint32_t field = 127 - (uint32_t)spread + (uint32_t)(bits >> 32) % (2 * (uint32_t)spread + 1);
     uint32_t pattern = ((uint32_t)bits & 0x807FFFFF) | field << 23;
     float value;
