@@ -26,7 +26,7 @@ use Rattle.rounding.proofs.Shift.{size-only, size-shl}
 use Rattle.binary32.specs.declared.funnel.Ways.{Ways}
 use Rattle.binary32.specs.Number.{holdDown, holdUp, holdNear}
 use Rattle.binary32.specs.Steps.{packed, Split, IsCut}
-use Rattle.binary32.proofs.Signs.{Place, sign-up, sign-near, sign-down, few-up, few-near, few-down}
+use Rattle.binary32.proofs.Signs.{Place, sign-up, sign-near, sign-down, few-up, few-near, few-down, full-up, full-near, full-down}
 
 -- ---- a shift past all digits and one more is as good as one by 62: down 0 or -1, up 0 or 1, nearest 0
 lower : (n m : ℕ) → 2 * n < m → n < m
@@ -158,18 +158,30 @@ module _ (s : ℤ) (e zeros : ℕ) (p : 0 < natAbs s) (o : Zeros (natAbs s) zero
         down-few = subst (λ c. natAbs c ≤ 2 ^ 24) (sym (h .downs)) (few-down K e (210 - kept) (top - kept) wide wide-place);
         up-few = subst (λ c. natAbs c ≤ 2 ^ 24) (sym (h .ups)) (few-up K e (210 - kept) (top - kept) wide wide-place);
         near-few = subst (λ c. natAbs c ≤ 2 ^ 24) (sym (h .nears)) (few-near K e (210 - kept) (top - kept) wide wide-place);
+        down-full = λ l. subst (λ c. 2 ^ 23 ≤ natAbs c) (sym (h .downs)) (full-down K e (210 - kept) (top - kept) wide wide-place (omega (arith, h .shifts)));
+        up-full = λ l. subst (λ c. 2 ^ 23 ≤ natAbs c) (sym (h .ups)) (full-up K e (210 - kept) (top - kept) wide wide-place (omega (arith, h .shifts)));
+        near-full = λ l. subst (λ c. 2 ^ 23 ≤ natAbs c) (sym (h .nears)) (full-near K e (210 - kept) (top - kept) wide wide-place (omega (arith, h .shifts)));
         low = omega (arith, h .shifts);
       }
 
--- ---- what the code of `cut` found
-pub cut-found : (s w : ℤ) (e zeros kept n : ℕ) (r : Ways) → 0 < natAbs s → Zeros (natAbs s) zeros → e ≤ 600
-    → kept ≡ min (64 - zeros + e) 173 → n ≡ min (210 - kept) 62 → w ≡ s *ℤ pos (2 ^ (zeros - 3))
-    → Split w (2 ^ n) (64 - zeros + e - kept) r → IsCut (s *ℤ pos (2 ^ e)) r
-cut-found s w e zeros kept n r p o low ek en ew h =
-    cut-is s e zeros p o r low
-    (subst (λ k. Split (s *ℤ pos (2 ^ (zeros - 3))) (2 ^ min (210 - k) 62) (64 - zeros + e - k) r) ek
-    (subst (λ x. Split (s *ℤ pos (2 ^ (zeros - 3))) (2 ^ x) (64 - zeros + e - kept) r) en
-    (subst (λ x. Split x (2 ^ n) (64 - zeros + e - kept) r) ew h)))
+-- ---- what the code of `cut` found: w is s in 61 digits
+module _ (s w : ℤ) (e zeros : ℕ) (r : Ways) (p : 0 < natAbs s) (o : Zeros (natAbs s) zeros) (low : e ≤ 600) (ew : w ≡ s *ℤ pos (2 ^ (zeros - 3))) where
+  cut-found : (k n shift : ℕ) → min (64 - zeros + e) 173 ≡ k → min (210 - k) 62 ≡ n → 64 - zeros + e - k ≡ shift
+      → Split w (2 ^ n) shift r → IsCut (s *ℤ pos (2 ^ e)) r
+  cut-found k n shift ek en es h =
+      cut-is s e zeros p o r low
+      (subst (λ k. Split (s *ℤ pos (2 ^ (zeros - 3))) (2 ^ min (210 - k) 62) (64 - zeros + e - k) r) (sym ek)
+      (subst (λ j. Split (s *ℤ pos (2 ^ (zeros - 3))) (2 ^ min (210 - k) 62) j r) (sym es)
+      (subst (λ x. Split (s *ℤ pos (2 ^ (zeros - 3))) (2 ^ x) shift r) (sym en)
+      (subst (λ x. Split x (2 ^ n) shift r) ew h))))
+
+  -- from 2 ^ 24 units on
+  pub cut-large : 173 ≤ 64 - zeros + e → Split w (2 ^ 37) (64 - zeros + e - 173) r → IsCut (s *ℤ pos (2 ^ e)) r
+  cut-large t h = cut-found 173 37 (64 - zeros + e - 173) (omega arith) refl refl h
+
+  -- below
+  pub cut-low : (n : ℕ) → 64 - zeros + e < 173 → n ≡ min (210 - (64 - zeros + e)) 62 → Split w (2 ^ n) 0 r → IsCut (s *ℤ pos (2 ^ e)) r
+  cut-low n t en h = cut-found (64 - zeros + e) n 0 (omega arith) (sym en) (omega arith) h
 
 -- of zero
 abbrev none-cut : Ways
@@ -177,7 +189,7 @@ none-cut = record { down = pos 0; up = pos 0; near = pos 0; shift = 0 }
 
 zero-is : IsCut (pos 0) none-cut
 unfolding packed place down up near lo hi nr ceil expo size MAX
-zero-is = record { downs = refl; ups = refl; nears = refl; down-few = omega arith; up-few = omega arith; near-few = omega arith; low = omega arith }
+zero-is = record { downs = refl; ups = refl; nears = refl; down-few = omega arith; up-few = omega arith; near-few = omega arith; down-full = λ l. absurd (omega arith); up-full = λ l. absurd (omega arith); near-full = λ l. absurd (omega arith); low = omega arith }
 
 pub cut-zero : (s : ℤ) (e : ℕ) → s ≡ pos 0 → IsCut (s *ℤ pos (2 ^ e)) none-cut
 cut-zero s e z = subst (λ x. IsCut x none-cut) (sym (ap (λ x. x *ℤ pos (2 ^ e)) z ∙ ap pos (zero-mul (2 ^ e)))) zero-is

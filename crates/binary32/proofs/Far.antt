@@ -99,8 +99,8 @@ module _ (δ a i j : ℕ) (ha : 2 ^ 23 ≤ a) (hi : j + 36 < i) where
   unit-less : 2 ^ (i - 36) < 2 ^ g
   unit-less = pow-lt (omega arith)
 
-  small-less : (b : ℕ) → b < 2 ^ 24 → b * 2 ^ j < 2 ^ g
-  small-less b h = lt-of-lt-of-le (shl-lt 24 j h) (pow-mono {i = 24 + j} {j = g} (omega arith))
+  small-less : (b : ℕ) → b ≤ 2 ^ 24 → b * 2 ^ j < 2 ^ g
+  small-less b h = lt-of-lt-of-le (shl-lt 25 j (omega arith)) (pow-mono {i = 25 + j} {j = g} (omega arith))
 
   one-more : (k : ℕ) → 0 < suc k * 2 ^ j
   one-more k = mul-pos {m = suc k} {n = 2 ^ j} (omega arith) (pow-pos j)
@@ -116,7 +116,7 @@ module _ (δ a i j : ℕ) (ha : 2 ^ 23 ≤ a) (hi : j + 36 < i) where
   mark y = sgn y *ℤ pos (2 ^ (i - 36))
 
   -- the sum of two that are not negative
-  plus-far : (b : ℕ) → b < 2 ^ 24 → Agree (2 ^ δ) (big +ℤ mark (pos b)) (big +ℤ small (pos b))
+  plus-far : (b : ℕ) → b ≤ 2 ^ 24 → Agree (2 ^ δ) (big +ℤ mark (pos b)) (big +ℤ small (pos b))
   plus-far zero h =
       let e : 0 * 2 ^ (i - 36) ≡ 0 * 2 ^ j = zero-mul (2 ^ (i - 36)) ∙ sym (zero-mul (2 ^ j)) in
       subst (λ x. Agree (2 ^ δ) (pos (a * 2 ^ i + x)) (pos (a * 2 ^ i + 0 * 2 ^ j))) (sym e) (record { ups = refl; downs = refl; nears = refl })
@@ -128,7 +128,7 @@ module _ (δ a i j : ℕ) (ha : 2 ^ 23 ≤ a) (hi : j + 36 < i) where
       (sticky-pos (suc k * 2 ^ j) (one-more k) ∙ sym (sticky-pos (2 ^ (i - 36)) (pow-pos (i - 36)))))
 
   -- the difference: one is borrowed from 4 * a
-  minus-far : (k : ℕ) → suc k < 2 ^ 24 → Agree (2 ^ δ) (big +ℤ mark (negsuc k)) (big +ℤ small (negsuc k))
+  minus-far : (k : ℕ) → suc k ≤ 2 ^ 24 → Agree (2 ^ δ) (big +ℤ mark (negsuc k)) (big +ℤ small (negsuc k))
   minus-far k h =
       subst₂ (Agree (2 ^ δ)) (sym marked) (sym exact)
       (agree-far δ g (4 * a - 1) (2 ^ g - suc k * 2 ^ j) (2 ^ g - 2 ^ (i - 36))
@@ -161,7 +161,7 @@ module _ (δ a i j : ℕ) (ha : 2 ^ 23 ≤ a) (hi : j + 36 < i) where
           less (suc k * 2 ^ j) (omega (arith, above, pow-pos (g + 24), small-less (suc k) h))
           ∙ ap pos (move (suc k * 2 ^ j) (suc k * 2 ^ j) refl (small-less (suc k) h))
 
-  pub pos-far : (y : ℤ) → natAbs y < 2 ^ 24 → Agree (2 ^ δ) (big +ℤ mark y) (big +ℤ small y)
+  pub pos-far : (y : ℤ) → natAbs y ≤ 2 ^ 24 → Agree (2 ^ δ) (big +ℤ mark y) (big +ℤ small y)
   pos-far (pos b) h = plus-far b h
   pos-far (negsuc k) h = minus-far k h
 
@@ -171,12 +171,12 @@ sgn-neg (pos (suc n)) = refl
 sgn-neg (negsuc n) = refl
 
 -- the smaller summand's sign is enough
-pub sum-far : (δ i j : ℕ) (x y : ℤ) → 2 ^ 23 ≤ natAbs x → natAbs y < 2 ^ 24 → j + 36 < i
+pub sum-far : (δ i j : ℕ) (x y : ℤ) → 2 ^ 23 ≤ natAbs x → natAbs y ≤ 2 ^ 24 → j + 36 < i
     → Agree (2 ^ δ) (x *ℤ pos (2 ^ i) +ℤ sgn y *ℤ pos (2 ^ (i - 36))) (x *ℤ pos (2 ^ i) +ℤ y *ℤ pos (2 ^ j))
 sum-far δ i j (pos a) y ha hy hi = pos-far δ a i j ha hi y hy
 sum-far δ i j (negsuc k) y ha hy hi =
     subst₂ (Agree (2 ^ δ)) (mirror (sgn y) (2 ^ (i - 36)) (sgn (negℤ y)) (sgn-neg y)) (mirror y (2 ^ j) (negℤ y) refl)
-    (agree-neg (2 ^ δ) (pow-pos δ) (pos-far δ (suc k) i j ha hi (negℤ y) (subst (λ n. n < 2 ^ 24) (sym (natAbs-neg y)) hy)))
+    (agree-neg (2 ^ δ) (pow-pos δ) (pos-far δ (suc k) i j ha hi (negℤ y) (subst (λ n. n ≤ 2 ^ 24) (sym (natAbs-neg y)) hy)))
   where
     mirror : (z : ℤ) (m : ℕ) (z′ : ℤ) → z′ ≡ negℤ z → negℤ (pos (suc k) *ℤ pos (2 ^ i) +ℤ z′ *ℤ pos m) ≡ negsuc k *ℤ pos (2 ^ i) +ℤ z *ℤ pos m
     mirror z m z′ e = ap (λ t. negℤ (pos (suc k) *ℤ pos (2 ^ i) +ℤ t *ℤ pos m)) e ∙ turn (pos (suc k))

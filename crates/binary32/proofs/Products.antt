@@ -1,9 +1,9 @@
 -- The exact product of two numbers taken apart: 48 digits at most, and the exponents added.
 use mathlib.Core.Path.{_≡_, sym, ap, _∙_, subst}
 use mathlib.Core.List.{[], _∷_}
-use Prim.Native.Nat.{ℕ, _+_, _*_, _^_, _<_}
+use Prim.Native.Nat.{ℕ, _+_, _*_, _^_, _≤_, _<_}
 use native.Mathlib.Omega.{arith}
-use native.Mathlib.Nat.{mul-le-mul, le-of-lt}
+use native.Mathlib.Nat.{mul-le-mul}
 use lib.Pow.{pow-add}
 use lib.IntN.{ℤ, pos, natAbs, _*ℤ_}
 use Rattle.algebra.proofs.Absolute.{natAbs-mul}
@@ -20,8 +20,8 @@ product-value x y i j = ap (λ n. x *ℤ y *ℤ pos n) (pow-add 2 i j) ∙ swap
     swap : x *ℤ y *ℤ pos (2 ^ i * 2 ^ j) ≡ (x *ℤ pos (2 ^ i)) *ℤ (y *ℤ pos (2 ^ j))
     swap = by-ring (x ∷ y ∷ pos (2 ^ i) ∷ pos (2 ^ j) ∷ []) (search reading depth 20) tt
 
-pub product-short : (x y : ℤ) → natAbs x < 2 ^ 24 → natAbs y < 2 ^ 24 → natAbs (x *ℤ y) < 2 ^ 61
-product-short x y h k = omega (arith, natAbs-mul x y, mul-le-mul (le-of-lt h) (le-of-lt k))
+pub product-short : (x y : ℤ) → natAbs x ≤ 2 ^ 24 → natAbs y ≤ 2 ^ 24 → natAbs (x *ℤ y) < 2 ^ 61
+product-short x y h k = omega (arith, natAbs-mul x y, mul-le-mul h k)
 
 pub product-is : {x y : Parts} → Short x → Short y → (z : ℤ) → z ≡ x .sig *ℤ y .sig
     → ProductIs x y (record { sig = z; exp = x .exp + y .exp })

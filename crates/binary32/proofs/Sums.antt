@@ -4,7 +4,7 @@ use mathlib.Core.Bool.{Bool, true, false, not}
 use mathlib.Core.List.{[], _∷_}
 use Prim.Native.Nat.{ℕ, zero, suc, _+_, _-_, _*_, _^_, _≤_, _<_}
 use native.Mathlib.Omega.{arith}
-use native.Mathlib.Nat.{mul-comm, mul-le-mul, le-of-lt, not-suc-le-zero}
+use native.Mathlib.Nat.{mul-comm, mul-le-mul, not-suc-le-zero}
 use lib.Pow.{pow-pos, pow-add, pow-mono}
 use lib.Dec.{T, ltb, ltb→lt, nltb→le}
 use lib.IntN.{ℤ, pos, negsuc, natAbs, _+ℤ_, _*ℤ_}
@@ -66,24 +66,24 @@ spread x s m u v e = turn ∙ ap (λ n. x *ℤ pos n +ℤ s *ℤ pos u) (sym e)
     turn = by-ring (x ∷ s ∷ pos m ∷ pos u ∷ []) (search reading depth 20) tt
 
 -- 24 digits, shifted by at most 36 places, and 24 digits more
-pub placed-short : (x y : ℤ) (n : ℕ) → natAbs x < 2 ^ 24 → natAbs y < 2 ^ 24 → n ≤ 36
+pub placed-short : (x y : ℤ) (n : ℕ) → natAbs x ≤ 2 ^ 24 → natAbs y ≤ 2 ^ 24 → n ≤ 36
     → (natAbs (x *ℤ pos (2 ^ n)) < 2 ^ 61) × (natAbs (x *ℤ pos (2 ^ n) +ℤ y) < 2 ^ 61)
 placed-short x y n hx hy hn =
-    let shifted : natAbs x * 2 ^ n ≤ 2 ^ 24 * 2 ^ 36 = mul-le-mul (le-of-lt hx) (pow-mono {i = n} {j = 36} hn) in
+    let shifted : natAbs x * 2 ^ n ≤ 2 ^ 24 * 2 ^ 36 = mul-le-mul hx (pow-mono {i = n} {j = 36} hn) in
     let same : natAbs (x *ℤ pos (2 ^ n)) ≡ natAbs x * 2 ^ n = natAbs-mul x (pos (2 ^ n)) in
     (omega arith, omega (arith, natAbs-add (x *ℤ pos (2 ^ n)) y))
 
-pub sgn-short : (y : ℤ) → natAbs (sgn y) < 2 ^ 24
+pub sgn-short : (y : ℤ) → natAbs (sgn y) ≤ 2 ^ 24
 sgn-short (pos zero) = omega arith
 sgn-short (pos (suc n)) = omega arith
 sgn-short (negsuc n) = omega arith
 
 -- what the machine read
-pub placed-read : (x y z : ℤ) (n : ℕ) → natAbs x < 2 ^ 24 → natAbs y < 2 ^ 24
+pub placed-read : (x y z : ℤ) (n : ℕ) → natAbs x ≤ 2 ^ 24 → natAbs y ≤ 2 ^ 24
     → z ≡ toZ w64 (ofZ w64 x) *ℤ pos (2 ^ n) +ℤ toZ w64 (ofZ w64 y) → z ≡ x *ℤ pos (2 ^ n) +ℤ y
 placed-read x y z n hx hy e = e ∙ ap₂ (λ u v. u *ℤ pos (2 ^ n) +ℤ v) (read-small x (omega arith)) (read-small y (omega arith))
 
-pub sgn-read : (y z : ℤ) → natAbs y < 2 ^ 24 → z ≡ sgn (toZ w64 (ofZ w64 y)) → z ≡ sgn y
+pub sgn-read : (y z : ℤ) → natAbs y ≤ 2 ^ 24 → z ≡ sgn (toZ w64 (ofZ w64 y)) → z ≡ sgn y
 sgn-read y z h e = e ∙ ap sgn (read-small y (omega arith))
 
 module _ {x y : Parts} {lift : ℕ} (h : Larger x y lift) (z : ℤ) where

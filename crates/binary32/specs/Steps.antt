@@ -26,9 +26,9 @@ use Rattle.binary32.specs.Order.{all₄}
 unfoldable pub of : Parts → ℤ
 of x = x .sig *ℤ pos (2 ^ (x .exp))
 
--- a number of the format: at most 24 digits, and all 24 of them where the exponent is not 0
+-- a number of at most 24 digits, or 2 ^ 24 of these units, and with all 24 digits where the exponent is not 0
 pub record Short (x : Parts) : Type 0 where
-  pub few : natAbs (x .sig) < 2 ^ 24
+  pub few : natAbs (x .sig) ≤ 2 ^ 24
   pub low : x .exp ≤ 253
   pub full : 0 < x .exp → 2 ^ 23 ≤ natAbs (x .sig)
 
@@ -65,7 +65,8 @@ side (negsuc c) below above = below
 unfoldable pub packed : ℤ → ℕ → ℕ → ℕ → ℕ
 packed c j below above = cond (ltb (j * 2 ^ 23 + natAbs c) (255 * 2 ^ 23)) (put c (j * 2 ^ 23 + natAbs c)) (side c below above)
 
--- r has the significands of X / 2 ^ 149 units: packed, each is the pattern that its rounding holds, with the answer for values that are too large
+-- r has the significands of X / 2 ^ 149 units: packed, each is the pattern that its rounding holds, with the answer for values that are too large; where they are shifted
+-- up, they have all 24 digits
 pub record IsCut (X : ℤ) (r : Ways) : Type 0 where
   pub downs : packed (r .down) (r .shift) 0xFF800000 0x7F7FFFFF ≡ holdDown (down binary32 (2 ^ 149) X)
   pub ups : packed (r .up) (r .shift) 0xFF7FFFFF 0x7F800000 ≡ holdUp (up binary32 (2 ^ 149) X)
@@ -73,6 +74,9 @@ pub record IsCut (X : ℤ) (r : Ways) : Type 0 where
   pub down-few : natAbs (r .down) ≤ 2 ^ 24
   pub up-few : natAbs (r .up) ≤ 2 ^ 24
   pub near-few : natAbs (r .near) ≤ 2 ^ 24
+  pub down-full : 0 < r .shift → 2 ^ 23 ≤ natAbs (r .down)
+  pub up-full : 0 < r .shift → 2 ^ 23 ≤ natAbs (r .up)
+  pub near-full : 0 < r .shift → 2 ^ 23 ≤ natAbs (r .near)
   pub low : r .shift ≤ 500
 
 -- x * 2 ^ -149 units, rounded

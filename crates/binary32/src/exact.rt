@@ -41,7 +41,7 @@ fn sign(x: i64) -> i64
 
 // x × 2^n + y
 fn placed(x: i64, n: u32, y: i64) -> i64
-    requires { ⌜ (natAbs x < 2 ^ 24) × (natAbs y < 2 ^ 24) × (n ≤ 36) ⌝ }
+    requires { ⌜ (natAbs x ≤ 2 ^ 24) × (natAbs y ≤ 2 ^ 24) × (n ≤ 36) ⌝ }
     ensures { λ r. ⌜ r ≡ x *ℤ pos (2 ^ n) +ℤ y ⌝ }
 {
     x * power(n) + y

@@ -71,7 +71,8 @@ fn split(w: i64, n: u32, shift: u32) -> Ways
     }
 }
 
-// s × 2^e × 2^-149 units, rounded three ways (173 is 149 + 24, 210 is 149 + 61). First s is shifted up to 61 digits, so that the shift down is never negative.
+// s × 2^e × 2^-149 units, rounded three ways. First s is shifted up to 61 digits, so that the shift down is never negative: from 2^24 units on (173 is 149 + 24) it is by
+// 61 - 24 = 37 places, below that it leaves whole units (210 is 149 + 61).
 fn cut(s: i64, e: u32) -> Ways
     requires { ⌜ Small s e ⌝ }
     ensures { λ r. ⌜ IsCut (s *ℤ pos (2 ^ e)) r ⌝ }
@@ -86,8 +87,11 @@ fn cut(s: i64, e: u32) -> Ways
     }
     let zeros = u64::leading_zeros(magnitude(s));
     let top = 64 - zeros + e;
-    let kept = smaller(top, 173);
-    split(s * power(zeros - 3), smaller(210 - kept, 62), top - kept)
+    let wide = s * power(zeros - 3);
+    if 173 <= top {
+        return split(wide, 37, top - 173);
+    }
+    split(wide, smaller(210 - top, 62), 0)
 }
 
 // The pattern of c × 2^shift units; else one of the two patterns for a value that is too large.

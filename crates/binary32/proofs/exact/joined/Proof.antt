@@ -1,7 +1,7 @@
 -- `binary32::exact::joined` meets its contract: up to 36 places apart the sum is exact (`same-close`), beyond that the sign of y is enough
 -- (`same-apart`).
 use mathlib.Core.Path.{_≡_, ap, sym, _∙_, subst}
-use Prim.Native.Nat.{_-_, _^_, _<_}
+use Prim.Native.Nat.{_-_, _^_, _≤_}
 use native.Mathlib.Omega.{arith}
 use lib.IntN.{ℤ, pos, natAbs, _+ℤ_, _*ℤ_}
 use mir.Syntax.{w64}
@@ -20,10 +20,10 @@ S c = c .before .before .before .before .before
 signed : (c : tie.After-sign) → c .sign .result ≡ sgn (S c .args .y .sig)
 signed c = sgn-read (S c .args .y .sig) (c .sign .result) (S c .pre .second .few) (c .sign .ensures)
 
-short : (c : tie.After-sign) → natAbs (c .sign .result) < 2 ^ 24
-short c = subst (λ (t : ℤ). natAbs t < 2 ^ 24) (sym (signed c)) (sgn-short (S c .args .y .sig))
+short : (c : tie.After-sign) → natAbs (c .sign .result) ≤ 2 ^ 24
+short c = subst (λ (t : ℤ). natAbs t ≤ 2 ^ 24) (sym (signed c)) (sgn-short (S c .args .y .sig))
 
-few : (c : tie.After-sign) → natAbs (toZ w64 (ofZ w64 (c .sign .result))) < 2 ^ 24
+few : (c : tie.After-sign) → natAbs (toZ w64 (ofZ w64 (c .sign .result))) ≤ 2 ^ 24
 few c = rw (read (c .sign .result) (c .sign .ok)) (short c)
 
 sub-d : tie.Need-sub-d

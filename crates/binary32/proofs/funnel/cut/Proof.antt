@@ -1,4 +1,4 @@
--- `binary32::funnel::cut` meets its contract: zero by itself, else by one shift of the 61 digits that are left of its leading zeros (`cut-found`).
+-- `binary32::funnel::cut` meets its contract: zero by itself, else by one shift of the 61 digits that are left of its leading zeros (`cut-large`, `cut-low`).
 use mathlib.Core.Path.{_≡_, ap, ap₂, sym, subst, _∙_}
 use Prim.Native.Nat.{ℕ, _-_, _*_, _^_, _<_}
 use native.Mathlib.Omega.{arith}
@@ -9,7 +9,7 @@ use mir.Val.{SFits, ofZ, toZ}
 use mir.ValLaws.{toZ-ofZ}
 use Rattle.algebra.proofs.Machine.{fits-natAbs}
 use Rattle.binary32.proofs.Ints.{read, above}
-use Rattle.binary32.proofs.Cutting.{Zeros, zeros-of, wide-short, cut-found, cut-zero}
+use Rattle.binary32.proofs.Cutting.{Zeros, zeros-of, wide-short, cut-large, cut-low, cut-zero}
 use borrow.Author.Needs.{needs}
 use Rattle.binary32.proofs.funnel.cut.Statement.{statement}
 use Rattle.binary32.proofs.funnel.cut.Tie as tie
@@ -30,7 +30,7 @@ zeros c =
 -- the significand shifted up
 module _ (c : tie.After-power) where
   abbrev counted : tie.After-magnitude
-  counted = c .before .before
+  counted = c .before
 
   abbrev start : tie.Start
   start = counted .before .before
@@ -67,42 +67,42 @@ sub-top c = omega (arith, zeros c .less)
 add-top : tie.Need-add-top
 add-top c = search needs
 
-smaller-requires : tie.Need-smaller-requires
-smaller-requires c κs = search needs
-
 sub-power : tie.Need-sub-power
-sub-power c = zeros (c .before) .three
+sub-power c = zeros c .three
 
 power-requires : tie.Need-power-requires
-power-requires c κs = omega (arith, zeros (c .before) .less)
+power-requires c κs = omega (arith, zeros c .less)
 
-mul-split : tie.Need-mul-split
-mul-split c = subst (SFits w64) (sym (wide-is c)) (wide-fits c)
+mul-wide : tie.Need-mul-wide
+mul-wide c = subst (SFits w64) (sym (wide-is c)) (wide-fits c)
+
+few : (c : tie.After-power) → natAbs (toZ w64 (ofZ w64 (machine c))) < 2 ^ 61
+few c = subst (λ (t : ℤ). natAbs t < 2 ^ 61) (sym (wide-read c)) (wide-few c)
+
+split-requires : tie.Need-split-requires
+split-requires c κs = (few (c .before), omega arith)
+
+returns-2 : tie.Need-returns-2
+returns-2 c =
+    let p = c .before .before in
+    let s = start p in
+    cut-large (s .args .s) _ (s .args .e) (Z (counted p)) (c .split .result) (some (counted p)) (zeros (counted p)) (s .pre .low) (wide-read p) (c .before .if2 .taken) (c .split .ensures)
 
 sub-smaller : tie.Need-sub-smaller
 sub-smaller c = search needs
 
-smaller-requires-2 : tie.Need-smaller-requires-2
-smaller-requires-2 c κs = search needs
+smaller-requires : tie.Need-smaller-requires
+smaller-requires c κs = search needs
 
-sub-split : tie.Need-sub-split
-sub-split c = search needs
+split-requires-2 : tie.Need-split-requires-2
+split-requires-2 c κs = (few (c .before .before), omega (arith, c .smaller .ensures))
 
-split-requires : tie.Need-split-requires
-split-requires c κs = (
-  subst (λ (t : ℤ). natAbs t < 2 ^ 61) (sym (wide-read (c .before))) (wide-few (c .before)),
-  omega (arith, c .smaller2 .ensures),
-)
-
-returns-2 : tie.Need-returns-2
-returns-2 c =
-    let l = c .before in
-    let p = l .before in
-    let k = p .before in
-    let m = k .before in
-    let s = m .before .before in
-    cut-found (s .args .s) _ (s .args .e) (Z m) (k .smaller .result) (l .smaller2 .result) (c .split .result) (some m) (zeros m) (s .pre .low)
-    (k .smaller .ensures) (l .smaller2 .ensures) (wide-read p) (c .split .ensures)
+returns-3 : tie.Need-returns-3
+returns-3 c =
+    let p = c .before .before .before in
+    let s = start p in
+    cut-low (s .args .s) _ (s .args .e) (Z (counted p)) (c .split2 .result) (some (counted p)) (zeros (counted p)) (s .pre .low) (wide-read p)
+    (c .before .smaller .result) (c .before .before .if2 .left) (c .before .smaller .ensures) (c .split2 .ensures)
 
 pub cut-spec : {M : Type 1} → statement M
 cut-spec =
@@ -112,12 +112,12 @@ cut-spec =
     magnitude-requires
     sub-top
     add-top
-    smaller-requires
     sub-power
     power-requires
-    mul-split
-    sub-smaller
-    smaller-requires-2
-    sub-split
+    mul-wide
     split-requires
-    returns-2)
+    returns-2
+    sub-smaller
+    smaller-requires
+    split-requires-2
+    returns-3)
