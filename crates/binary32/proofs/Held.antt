@@ -71,11 +71,11 @@ module _ (op : ℤ → ℤ → Option ℤ) (a b : ℕ) where
 place-low : {n : ℕ} → Form binary32 n → n ≤ MAX binary32 → place binary32 n < 255 * 2 ^ 23
 place-low {n} F h = val-max binary32 (place binary32 n) .0 (le-trans (le-of-eq (val-place binary32 F)) h)
 
-value-low : (q : ℕ) → q < 2 ^ 31 → valueOf q ≡ pos (val binary32 q)
+pub value-low : (q : ℕ) → q < 2 ^ 31 → valueOf q ≡ pos (val binary32 q)
 unfolding valueOf
 value-low q h = ap₂ (λ t n. signedBy t (val binary32 n)) (lt-leb (2 ^ 31) q h) (mod-eq-of-lt h)
 
-value-high : (q : ℕ) → q < 2 ^ 31 → valueOf (2 ^ 31 + q) ≡ negℤ (pos (val binary32 q))
+pub value-high : (q : ℕ) → q < 2 ^ 31 → valueOf (2 ^ 31 + q) ≡ negℤ (pos (val binary32 q))
 unfolding valueOf
 value-high q h = ap₂ (λ t n. signedBy t (val binary32 n)) (le-leb (2 ^ 31) (2 ^ 31 + q) (omega arith)) (rest q h)
   where

@@ -12,6 +12,7 @@ pub mod Packing
 pub mod Products
 pub mod Far
 pub mod Sums
+pub mod Unpacking
 -- what a pattern holds, and the answer of an operation; for other crates: Held, Numbers, Negation
 pub mod Held
 pub mod Numbers

@@ -2,3 +2,4 @@ pub mod Number
 pub mod Operations
 pub mod Order
 pub mod Steps
+pub mod Unpacked

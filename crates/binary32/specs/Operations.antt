@@ -35,6 +35,10 @@ lifted lift way x y = way binary32 (2 ^ (149 - lift)) (x +ℤ y)
 unfoldable pub with₂ : (ℤ → ℤ → Option ℤ) → ℕ → ℕ → Option ℤ
 with₂ op a b = bind (held a) λ x. bind (held b) λ y. op x y
 
+-- what a pattern holds, and a partial result more
+abbrev pub plusOf : Way → ℕ → Option ℤ → Option ℤ
+plusOf way s t = bind (held s) λ x. bind t λ y. add way x y
+
 -- ---- of two patterns, with the refusals: 3 for exponent field 255, 5 where no finite number is right
 
 abbrev pub answerOf : Option ℤ → Rounded

@@ -86,7 +86,7 @@ fn second(x: Parts, y: Parts) -> Parts
 }
 
 // (x + y) × 2^(lift - 149) units.
-fn plus(x: Parts, y: Parts, lift: u32) -> Parts
+pub fn plus(x: Parts, y: Parts, lift: u32) -> Parts
     requires { ⌜ Summands x y lift ⌝ }
     ensures { λ r. ⌜ SumIs x y lift r ⌝ }
 {

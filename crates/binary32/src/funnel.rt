@@ -73,7 +73,7 @@ fn split(w: i64, n: u32, shift: u32) -> Ways
 
 // s × 2^e × 2^-149 units, rounded three ways. First s is shifted up to 61 digits, so that the shift down is never negative: from 2^24 units on (173 is 149 + 24) it is by
 // 61 - 24 = 37 places, below that it leaves whole units (210 is 149 + 61).
-fn cut(s: i64, e: u32) -> Ways
+pub fn cut(s: i64, e: u32) -> Ways
     requires { ⌜ Small s e ⌝ }
     ensures { λ r. ⌜ IsCut (s *ℤ pos (2 ^ e)) r ⌝ }
 {
@@ -95,7 +95,7 @@ fn cut(s: i64, e: u32) -> Ways
 }
 
 // The pattern of c × 2^shift units; else one of the two patterns for a value that is too large.
-fn pack(c: i64, shift: u32, below: u32, above: u32) -> u32
+pub fn pack(c: i64, shift: u32, below: u32, above: u32) -> u32
     requires { ⌜ (natAbs c ≤ 2 ^ 24) × (shift ≤ 500) ⌝ }
     ensures { λ r. ⌜ r ≡ packed c shift below above ⌝ }
 {

@@ -3,6 +3,7 @@
 ghost use mathlib.Core.Path.{_≡_};
 ghost use Rattle.binary32.specs.Operations.{addDown, addUp, addNear, subDown, subUp, subNear, mulDown, mulUp, mulNear, midpointDown, midpointUp, midpointNear, checkedOf};
 
+pub mod accumulate;
 pub mod corners;
 mod exact;
 mod funnel;
@@ -10,6 +11,7 @@ mod hold;
 pub mod order;
 pub mod partial;
 mod parts;
+mod unpacked;
 
 // The format: precision, smallest exponent (one unit is 2^-149) and largest number.
 pub struct Binary32 {
