@@ -18,7 +18,7 @@ use Rattle.binary32.specs.Operations.{Way, mul, with₂}
 use Rattle.binary32.specs.Order.{leastOf, greatestOf, all₄, leastCorner, greatestCorner}
 use Rattle.binary32.specs.Steps.{of, Decoded, exact, exact₂, ProductIs, BothOf, CornersOf}
 use Rattle.binary32.proofs.Held.{Fits, finites-first, finites-second, with-some, with-none}
-use Rattle.binary32.proofs.Numbers.{down-fits, up-fits}
+use Rattle.binary32.proofs.Numbers.{down-fits, up-fits, with-fits}
 use Rattle.binary32.proofs.Orders.{least-hold, greatest-hold}
 
 -- ---- an operation that gives one of its two numbers, on two partial results and on four
@@ -40,6 +40,9 @@ module _ (f : ℤ → ℤ → ℤ) (either : (P : ℤ → Type 0) (u v : ℤ) �
   both-four (some p) (some q) none z = refl
   both-four (some p) (some q) (some r) none = refl
   both-four (some p) (some q) (some r) (some s) = refl
+
+  four-fits : (w x y z : Option ℤ) → Fits w → Fits x → Fits y → Fits z → Fits (all₄ (λ p q r s. f (f p q) (f r s)) w x y z)
+  four-fits w x y z hw hx hy hz = subst Fits (both-four w x y z) (both-fits (both w x) (both y z) (both-fits w x hw hx) (both-fits y z hy hz))
 
   -- pick is that operation on patterns
   four : (pick : ℕ → ℕ → ℕ) (hold : Option ℤ → ℕ) → ((x y : Option ℤ) → Fits x → Fits y → pick (hold x) (hold y) ≡ hold (both x y))
@@ -157,3 +160,22 @@ module _ (al au bl bu : ℕ) where
           (λ e. with-none (mul way) au bl (ap (λ s. cond s (finite bl) false) e))
           (λ e. with-none (mul way) al bl (second-none (finite al) e))
           (λ e. with-none (mul way) al bu (second-none (finite al) e)) t
+
+-- ---- corner products are numbers, or none
+pub least-fits : (al au bl bu : ℕ) → Fits (leastCorner al au bl bu)
+unfolding leastCorner
+least-fits al au bl bu =
+    four-fits minℤ least-either (with₂ (mul down) al bl) (with₂ (mul down) al bu) (with₂ (mul down) au bl) (with₂ (mul down) au bu)
+    (fits al bl) (fits al bu) (fits au bl) (fits au bu)
+  where
+    fits : (a b : ℕ) → Fits (with₂ (mul down) a b)
+    fits a b = with-fits (mul down) (λ u v. down-fits (2 ^ 149) (pow-pos 149) (u *ℤ v)) a b
+
+pub greatest-fits : (al au bl bu : ℕ) → Fits (greatestCorner al au bl bu)
+unfolding greatestCorner
+greatest-fits al au bl bu =
+    four-fits maxℤ greatest-either (with₂ (mul up) al bl) (with₂ (mul up) al bu) (with₂ (mul up) au bl) (with₂ (mul up) au bu)
+    (fits al bl) (fits al bu) (fits au bl) (fits au bu)
+  where
+    fits : (a b : ℕ) → Fits (with₂ (mul up) a b)
+    fits a b = with-fits (mul up) (λ u v. up-fits (2 ^ 149) (pow-pos 149) (u *ℤ v)) a b

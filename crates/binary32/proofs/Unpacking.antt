@@ -19,7 +19,7 @@ use Rattle.binary32.specs.declared.unpacked.Held.{Held}
 use Rattle.binary32.specs.declared.unpacked.Held.the-variants.{Number, Nothing}
 use Rattle.binary32.specs.declared.exact.Exact.the-variants.{Value, Unknown}
 use Rattle.binary32.specs.Number.{valueOf, finite, held, hold}
-use Rattle.binary32.specs.Operations.{Way, add, plusOf}
+use Rattle.binary32.specs.Operations.{Way, add, with₂, plusOf}
 use Rattle.binary32.specs.Steps.{of, Decoded, Small, packed, exact, exactly, SumIs}
 use Rattle.binary32.specs.Unpacked.{Apart, numberIn, Gives, Totals}
 use Rattle.binary32.proofs.Ints.{read-small}
@@ -96,3 +96,8 @@ module _ (s : ℕ) where
 
   pub totals-none : Totals s none Unknown
   totals-none = record { downs = bind-none (held s) (add down); ups = bind-none (held s) (add up); nears = bind-none (held s) (add near); safe = tt }
+
+-- ---- a sum with a term that a pattern holds
+pub plus-held : (way : Way) (s p z : ℕ) (t : Option ℤ) → finite z ≡ false → Fits t → p ≡ hold z t → with₂ (add way) s p ≡ plusOf way s t
+unfolding with₂
+plus-held way s p z t f h e = ap (λ m. bind (held s) λ x. bind m λ y. add way x y) (ap held e ∙ held-hold z f t h)

@@ -1,11 +1,13 @@
-// A sum and a product more: s + a × b, the product rounded, then the sum, both in one direction. The product is not packed in between.
+// A sum with a term more: s + a × b, or the sums of the classical method, the term rounded, then the sum, both in one direction. A product is not packed in between.
 ghost use mathlib.Core.Path.{_≡_};
 ghost use Rattle.rounding.specs.Rounding.{up, down, near};
 ghost use Rattle.binary32.specs.Number.{holdDown, holdUp, holdNear};
 ghost use Rattle.binary32.specs.Operations.{mul, with₂, plusOf};
+ghost use Rattle.binary32.specs.Order.{leastCorner, greatestCorner};
 ghost use Rattle.binary32.specs.Steps.{BothOf};
 ghost use Rattle.binary32.specs.Unpacked.{Sound, numberIn, Totals};
 use crate::Binary32;
+use crate::corners::corners;
 use crate::exact::Exact;
 use crate::exact::plus;
 use crate::exact::product;
@@ -14,6 +16,8 @@ use crate::hold::down_of;
 use crate::hold::near_of;
 use crate::hold::up_of;
 use crate::partial::Both;
+use crate::partial::add_down;
+use crate::partial::add_up;
 use crate::parts::decode;
 use crate::parts::is_finite;
 use crate::unpacked::Held;
@@ -77,5 +81,16 @@ pub fn add_product_both(lower: u32, upper: u32, a: u32, b: u32) -> Both
             down: 0xFF80_0000,
             up: 0x7F80_0000,
         },
+    }
+}
+
+// lower and the least corner product of [al, au] and [bl, bu], each rounded down, and upper and the greatest, each rounded up.
+pub fn add_corners(lower: u32, upper: u32, al: u32, au: u32, bl: u32, bu: u32) -> Both
+    ensures { λ r. ⌜ BothOf (plusOf down lower (leastCorner al au bl bu)) (plusOf up upper (greatestCorner al au bl bu)) r ⌝ }
+{
+    let c = corners(al, au, bl, bu);
+    Both {
+        down: add_down(lower, c.down),
+        up: add_up(upper, c.up),
     }
 }

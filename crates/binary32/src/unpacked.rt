@@ -33,10 +33,7 @@ pub fn keep(c: i64, shift: u32, below: u32, above: u32) -> Held
     ensures { λ r. ⌜ Gives (held (packed c shift below above)) r ⌝ }
 {
     if shift <= 252 {
-        return Held::Number(Parts {
-            sig: c,
-            exp: shift,
-        });
+        return Held::Number(Parts { sig: c, exp: shift });
     }
     unpack(pack(c, shift, below, above))
 }

@@ -14,7 +14,7 @@ use lib.Pow.{pow-pos}
 use Rattle.rounding.specs.Format.{binary32}
 use Rattle.enclosure.specs.Sums.{sum}
 use Rattle.binary32.specs.Number.{finite, held, patternOf, hold}
-use Rattle.binary32.specs.Operations.{Way, add, mul, with₂}
+use Rattle.binary32.specs.Operations.{Way, add, mul, with₂, plusOf}
 use Rattle.binary32.proofs.Held.{Fits, is-finite, pattern-finite, held-hold}
 use Rattle.products.specs.Stages.{productAt, dotOf}
 
@@ -98,17 +98,11 @@ module _ (way : Way) (k n i j : ℕ) (x y : List ℕ) where
     dot-fits s f zero = subst Fits (sym (dot-zero s)) f
     dot-fits s f (suc l) = subst Fits (sym (dot-suc s l)) (both-fit (to s l) (term l) (add way) (λ u v. fits 1 (lit< tt) (u +ℤ v)))
 
-    term-fits : (l : ℕ) → Fits (term l)
-    unfolding with₂
-    term-fits l = both-fit (held (getD x (i * k + l) 0)) (held (getD y (l * n + j) 0)) (mul way) (λ u v. fits (2 ^ 149) (pow-pos 149) (u *ℤ v))
-
     module _ (z : ℕ) (zf : finite z ≡ false) (start : ℕ) where
-      pub dot-turn : (s p r l : ℕ) → Summed z start s l → p ≡ hold z (productAt way k n i j x y l) → r ≡ hold z (with₂ (add way) s p) → Summed z start r (l + 1)
-      unfolding with₂
-      dot-turn s p r l S ep er s₀ f e =
+      pub dot-turn : (s r l : ℕ) → Summed z start s l → r ≡ hold z (plusOf way s (productAt way k n i j x y l)) → Summed z start r (l + 1)
+      dot-turn s r l S er s₀ f e =
           let a : held s ≡ to s₀ l = ap held (S s₀ f e) ∙ held-hold z zf (to s₀ l) (dot-fits s₀ f l) in
-          let b : held p ≡ term l = ap held ep ∙ held-hold z zf (term l) (term-fits l) in
-          er ∙ ap₂ (λ u v. hold z (plus way u v)) a b ∙ sym (ap (hold z) (dot-next s₀ l))
+          er ∙ ap (λ u. hold z (plus way u (term l))) a ∙ sym (ap (hold z) (dot-next s₀ l))
 
       pub dot-stop : (r l : ℕ) → l < k → Summed z start r (l + 1) → finite r ≡ false → Summed z start r k
       dot-stop r l h S t s₀ f e =

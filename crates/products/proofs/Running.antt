@@ -19,7 +19,7 @@ use Rattle.enclosure.specs.Cell.{Cell}
 use Rattle.enclosure.specs.Sums.{sum}
 use Rattle.enclosure.specs.Methods.{classical, leastTerm, greatestTerm, total, entry₁, entry}
 use Rattle.binary32.specs.Number.{valueOf, finite, finites, held}
-use Rattle.binary32.specs.Operations.{Way, mul, with₂}
+use Rattle.binary32.specs.Operations.{Way, mul, with₂, plusOf}
 use Rattle.binary32.specs.Order.{all₄, leastCorner, greatestCorner}
 use Rattle.binary32.proofs.Held.{Fits, finites-first, finites-second, with-some}
 use Rattle.binary32.proofs.Numbers.{down-fits, up-fits}
@@ -28,7 +28,7 @@ use Rattle.intervals.specs.declared.Fault.the-variants.{Fine}
 use Rattle.products.specs.declared.sums.Sums.{Sums}
 use Rattle.products.specs.declared.sums.Next.{Next}
 use Rattle.products.specs.declared.sums.Next.the-variants.{More, Overflow}
-use Rattle.products.specs.Running.{nextOf, zeroSums, plusDown, plusUp, stepOf}
+use Rattle.products.specs.Running.{nextOf, zeroSums, stepOf}
 use Rattle.products.specs.Matrix.{Matrix, lowerAt, upperAt, cellAt, faultAt}
 use Rattle.products.specs.Entries.{patternsOf, entryOf, entryAt}
 use Rattle.products.proofs.Steps.{bind-fits}
@@ -112,11 +112,11 @@ module _ (k n : ℕ) (A B : Matrix) (i j : ℕ) where
   upper-fits (suc l) v e = bind-fits (upperTo l) _ (λ x. bind-fits _ _ (λ y. up-fits 1 (lit< tt) _)) v e
 
   -- one term more, where the sum so far is what p holds
-  lower-next : (l p : ℕ) (t : Option ℤ) → held p ≡ lowerTo l → leastTerm (of binary32) (a l) (b l) ≡ t → lowerTo (suc l) ≡ plusDown p t
+  lower-next : (l p : ℕ) (t : Option ℤ) → held p ≡ lowerTo l → leastTerm (of binary32) (a l) (b l) ≡ t → lowerTo (suc l) ≡ plusOf down p t
   unfolding lowerTo sum
   lower-next l p t h g = ap₂ (λ m x. bind m λ u. bind x λ y. down binary32 1 (u +ℤ y)) (sym h) g
 
-  upper-next : (l p : ℕ) (t : Option ℤ) → held p ≡ upperTo l → greatestTerm (of binary32) (a l) (b l) ≡ t → upperTo (suc l) ≡ plusUp p t
+  upper-next : (l p : ℕ) (t : Option ℤ) → held p ≡ upperTo l → greatestTerm (of binary32) (a l) (b l) ≡ t → upperTo (suc l) ≡ plusOf up p t
   unfolding upperTo sum
   upper-next l p t h g = ap₂ (λ m x. bind m λ u. bind x λ y. up binary32 1 (u +ℤ y)) (sym h) g
 

@@ -11,10 +11,8 @@ ghost use Rattle.products.specs.Running.{nextOf};
 ghost use Rattle.products.specs.Stages.{Inside, dotOf};
 use crate::sums::Next;
 use crate::sums::Sums;
-use binary32::partial::add_near;
-use binary32::partial::add_up;
-use binary32::partial::mul_near;
-use binary32::partial::mul_up;
+use binary32::accumulate::add_product_near;
+use binary32::accumulate::add_product_up;
 use intervals::is_finite;
 
 // start + x[i, 0] × y[0, j] + .. + x[i, k - 1] × y[k - 1, j], all up: a pattern that holds the sum or none.
@@ -24,7 +22,7 @@ pub fn dot_up(k: usize, n: usize, i: usize, j: usize, x: &[u32], y: &[u32], star
 {
     let mut s = start;
     for l in 0..k {
-        s = add_up(s, mul_up(x[i * k + l], y[l * n + j]));
+        s = add_product_up(s, x[i * k + l], y[l * n + j]);
         if !is_finite(s) {
             return s;
         }
@@ -39,7 +37,7 @@ pub fn dot_near(k: usize, n: usize, i: usize, j: usize, x: &[u32], y: &[u32], st
 {
     let mut s = start;
     for l in 0..k {
-        s = add_near(s, mul_near(x[i * k + l], y[l * n + j]));
+        s = add_product_near(s, x[i * k + l], y[l * n + j]);
         if !is_finite(s) {
             return s;
         }

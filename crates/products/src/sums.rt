@@ -1,10 +1,8 @@
 // One entry's running sums, a value that takes a pair of cells and comes back.
 ghost use mathlib.Core.Path.{_≡_};
 ghost use Rattle.products.specs.Running.{heldNext, zeroSums, stepOf, addOf};
-use binary32::corners::corners;
-use binary32::partial::add_down;
-use binary32::partial::add_up;
-use binary32::partial::mul_both;
+use binary32::accumulate::add_corners;
+use binary32::accumulate::add_product_both;
 use intervals::is_finite;
 
 // The lower sum, rounded down, and the upper one, rounded up.
@@ -51,15 +49,15 @@ impl Sums {
     pub fn step(self, al: u32, au: u32, bl: u32, bu: u32) -> Next
         ensures { λ r. ⌜ r ≡ stepOf self al au bl bu ⌝ }
     {
-        let c = corners(al, au, bl, bu);
-        both_held(add_down(self.lower, c.down), add_up(self.upper, c.up))
+        let s = add_corners(self.lower, self.upper, al, au, bl, bu);
+        both_held(s.down, s.up)
     }
 
     // Both sums and the product a × b.
     pub fn add(self, a: u32, b: u32) -> Next
         ensures { λ r. ⌜ r ≡ addOf self a b ⌝ }
     {
-        let p = mul_both(a, b);
-        both_held(add_down(self.lower, p.down), add_up(self.upper, p.up))
+        let s = add_product_both(self.lower, self.upper, a, b);
+        both_held(s.down, s.up)
     }
 }

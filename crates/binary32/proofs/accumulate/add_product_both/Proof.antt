@@ -63,9 +63,9 @@ returns c =
     let x = v .before .before in
     let s = x .before .args in
     let low = cut-gives 0xFF800000 refl (P v) (small v) down (f .cut .result .down) (f .cut .result .shift) 0xFF800000 0x7F7FFFFF
-            (down-fits (2 ^ 149) (pow-pos 149) _) (f .cut .ensures .down-few) (f .cut .ensures .downs) (k₁ .keep .ensures) in
+    (down-fits (2 ^ 149) (pow-pos 149) _) (f .cut .ensures .down-few) (f .cut .ensures .downs) (k₁ .keep .ensures) in
     let high = cut-gives 0x7F800000 refl (P v) (small v) up (f .cut .result .up) (f .cut .result .shift) 0xFF7FFFFF 0x7F800000
-             (up-fits (2 ^ 149) (pow-pos 149) _) (f .cut .ensures .up-few) (f .cut .ensures .ups) (k₂ .keep2 .ensures) in
+    (up-fits (2 ^ 149) (pow-pos 149) _) (f .cut .ensures .up-few) (f .cut .ensures .ups) (k₂ .keep2 .ensures) in
     record {
       lower =
           d .down-of .ensures

@@ -33,58 +33,55 @@ loop-holds c =
     let a = c .before .before .args in
     (search needs, dot-start near (a .k) (a .n) (a .i) (a .j) (a .x .now) (a .y .now) 0x7F800000 (a .start))
 
-mul-mul-near : tie.Need-mul-mul-near Inv-loop μ-loop
-mul-mul-near c = omega (arith, row c)
+mul-add-product-near : tie.Need-mul-add-product-near Inv-loop μ-loop
+mul-add-product-near c = omega (arith, row c)
 
-add-mul-near : tie.Need-add-mul-near Inv-loop μ-loop
-add-mul-near c = omega (arith, row c)
+add-add-product-near : tie.Need-add-add-product-near Inv-loop μ-loop
+add-add-product-near c = omega (arith, row c)
 
-mul-mul-near-2 : tie.Need-mul-mul-near-2 Inv-loop μ-loop
-mul-mul-near-2 c = omega (arith, row c)
+mul-add-product-near-2 : tie.Need-mul-add-product-near-2 Inv-loop μ-loop
+mul-add-product-near-2 c = omega (arith, row c)
 
-shared-slice-read-mul-near : tie.Need-shared-slice-read-mul-near Inv-loop μ-loop
-shared-slice-read-mul-near c = row (c .before)
+shared-slice-read-add-product-near : tie.Need-shared-slice-read-add-product-near Inv-loop μ-loop
+shared-slice-read-add-product-near c = row (c .before)
 
-mul-mul-near-3 : tie.Need-mul-mul-near-3 Inv-loop μ-loop
-mul-mul-near-3 c = omega (arith, column (c .before))
+mul-add-product-near-3 : tie.Need-mul-add-product-near-3 Inv-loop μ-loop
+mul-add-product-near-3 c = omega (arith, column (c .before))
 
-add-mul-near-2 : tie.Need-add-mul-near-2 Inv-loop μ-loop
-add-mul-near-2 c = omega (arith, column (c .before))
+add-add-product-near-2 : tie.Need-add-add-product-near-2 Inv-loop μ-loop
+add-add-product-near-2 c = omega (arith, column (c .before))
 
-mul-mul-near-4 : tie.Need-mul-mul-near-4 Inv-loop μ-loop
-mul-mul-near-4 c = omega (arith, column (c .before))
+mul-add-product-near-4 : tie.Need-mul-add-product-near-4 Inv-loop μ-loop
+mul-add-product-near-4 c = omega (arith, column (c .before))
 
-shared-slice-read-mul-near-2 : tie.Need-shared-slice-read-mul-near-2 Inv-loop μ-loop
-shared-slice-read-mul-near-2 c = column (c .before .before)
+shared-slice-read-add-product-near-2 : tie.Need-shared-slice-read-add-product-near-2 Inv-loop μ-loop
+shared-slice-read-add-product-near-2 c = column (c .before .before)
 
-mul-near-requires : tie.Need-mul-near-requires Inv-loop μ-loop
-mul-near-requires c κs = search needs
-
-add-near-requires : tie.Need-add-near-requires Inv-loop μ-loop
-add-near-requires c κs = search needs
+add-product-near-requires : tie.Need-add-product-near-requires Inv-loop μ-loop
+add-product-near-requires c κs = search needs
 
 is-finite-requires : tie.Need-is-finite-requires Inv-loop μ-loop
 is-finite-requires c κs = search needs
 
 -- the sum after a turn
 abbrev After : Type 0
-After = tie.After-add-near Inv-loop μ-loop
+After = tie.After-add-product-near Inv-loop μ-loop
 
-turned : (t : After) → let h = t .before .before .before .before .before in let a = h .before .before .before .args in
-    Summed near (a .k) (a .n) (a .i) (a .j) (a .x .now) (a .y .now) 0x7F800000 (a .start) (t .add-near .result) (h .loop .l + 1)
+turned : (t : After) → let h = t .before .before .before .before in let a = h .before .before .before .args in
+    Summed near (a .k) (a .n) (a .i) (a .j) (a .x .now) (a .y .now) 0x7F800000 (a .start) (t .add-product-near .result) (h .loop .l + 1)
 turned t =
-    let h = t .before .before .before .before .before in
+    let h = t .before .before .before .before in
     let a = h .before .before .before .args in
     dot-turn near (a .k) (a .n) (a .i) (a .j) (a .x .now) (a .y .now) near-fits 0x7F800000 refl (a .start)
-    (h .loop .s) (t .before .mul-near .result) (t .add-near .result) (h .loop .l) (h .loop .inv .1) (t .before .mul-near .ensures) (t .add-near .ensures)
+    (h .loop .s) (t .add-product-near .result) (h .loop .l) (h .loop .inv .1) (t .add-product-near .ensures)
 
 returns : tie.Need-returns Inv-loop μ-loop
 returns c =
     let t = c .before .before in
-    let g = t .before .before .before .before in
+    let g = t .before .before .before in
     let a = g .before .before .before .before .args in
     dot-stop near (a .k) (a .n) (a .i) (a .j) (a .x .now) (a .y .now) near-fits 0x7F800000 refl (a .start)
-    (t .add-near .result) (g .before .loop .l) (g .loop-test .taken) (turned t) (sym (c .before .is-finite .ensures) ∙ not-true _ (c .if1 .taken))
+    (t .add-product-near .result) (g .before .loop .l) (g .loop-test .taken) (turned t) (sym (c .before .is-finite .ensures) ∙ not-true _ (c .if1 .taken))
 
 add-l : tie.Need-add-l Inv-loop μ-loop
 add-l c = search needs
@@ -109,16 +106,15 @@ dot-near-spec =
     Inv-loop
     μ-loop
     loop-holds
-    mul-mul-near
-    add-mul-near
-    mul-mul-near-2
-    shared-slice-read-mul-near
-    mul-mul-near-3
-    add-mul-near-2
-    mul-mul-near-4
-    shared-slice-read-mul-near-2
-    mul-near-requires
-    add-near-requires
+    mul-add-product-near
+    add-add-product-near
+    mul-add-product-near-2
+    shared-slice-read-add-product-near
+    mul-add-product-near-3
+    add-add-product-near-2
+    mul-add-product-near-4
+    shared-slice-read-add-product-near-2
+    add-product-near-requires
     is-finite-requires
     returns
     add-l

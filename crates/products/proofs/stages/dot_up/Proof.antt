@@ -33,58 +33,55 @@ loop-holds c =
     let a = c .before .before .args in
     (search needs, dot-start up (a .k) (a .n) (a .i) (a .j) (a .x .now) (a .y .now) 0x7F800000 (a .start))
 
-mul-mul-up : tie.Need-mul-mul-up Inv-loop μ-loop
-mul-mul-up c = omega (arith, row c)
+mul-add-product-up : tie.Need-mul-add-product-up Inv-loop μ-loop
+mul-add-product-up c = omega (arith, row c)
 
-add-mul-up : tie.Need-add-mul-up Inv-loop μ-loop
-add-mul-up c = omega (arith, row c)
+add-add-product-up : tie.Need-add-add-product-up Inv-loop μ-loop
+add-add-product-up c = omega (arith, row c)
 
-mul-mul-up-2 : tie.Need-mul-mul-up-2 Inv-loop μ-loop
-mul-mul-up-2 c = omega (arith, row c)
+mul-add-product-up-2 : tie.Need-mul-add-product-up-2 Inv-loop μ-loop
+mul-add-product-up-2 c = omega (arith, row c)
 
-shared-slice-read-mul-up : tie.Need-shared-slice-read-mul-up Inv-loop μ-loop
-shared-slice-read-mul-up c = row (c .before)
+shared-slice-read-add-product-up : tie.Need-shared-slice-read-add-product-up Inv-loop μ-loop
+shared-slice-read-add-product-up c = row (c .before)
 
-mul-mul-up-3 : tie.Need-mul-mul-up-3 Inv-loop μ-loop
-mul-mul-up-3 c = omega (arith, column (c .before))
+mul-add-product-up-3 : tie.Need-mul-add-product-up-3 Inv-loop μ-loop
+mul-add-product-up-3 c = omega (arith, column (c .before))
 
-add-mul-up-2 : tie.Need-add-mul-up-2 Inv-loop μ-loop
-add-mul-up-2 c = omega (arith, column (c .before))
+add-add-product-up-2 : tie.Need-add-add-product-up-2 Inv-loop μ-loop
+add-add-product-up-2 c = omega (arith, column (c .before))
 
-mul-mul-up-4 : tie.Need-mul-mul-up-4 Inv-loop μ-loop
-mul-mul-up-4 c = omega (arith, column (c .before))
+mul-add-product-up-4 : tie.Need-mul-add-product-up-4 Inv-loop μ-loop
+mul-add-product-up-4 c = omega (arith, column (c .before))
 
-shared-slice-read-mul-up-2 : tie.Need-shared-slice-read-mul-up-2 Inv-loop μ-loop
-shared-slice-read-mul-up-2 c = column (c .before .before)
+shared-slice-read-add-product-up-2 : tie.Need-shared-slice-read-add-product-up-2 Inv-loop μ-loop
+shared-slice-read-add-product-up-2 c = column (c .before .before)
 
-mul-up-requires : tie.Need-mul-up-requires Inv-loop μ-loop
-mul-up-requires c κs = search needs
-
-add-up-requires : tie.Need-add-up-requires Inv-loop μ-loop
-add-up-requires c κs = search needs
+add-product-up-requires : tie.Need-add-product-up-requires Inv-loop μ-loop
+add-product-up-requires c κs = search needs
 
 is-finite-requires : tie.Need-is-finite-requires Inv-loop μ-loop
 is-finite-requires c κs = search needs
 
 -- the sum after a turn
 abbrev After : Type 0
-After = tie.After-add-up Inv-loop μ-loop
+After = tie.After-add-product-up Inv-loop μ-loop
 
-turned : (t : After) → let h = t .before .before .before .before .before in let a = h .before .before .before .args in
-    Summed up (a .k) (a .n) (a .i) (a .j) (a .x .now) (a .y .now) 0x7F800000 (a .start) (t .add-up .result) (h .loop .l + 1)
+turned : (t : After) → let h = t .before .before .before .before in let a = h .before .before .before .args in
+    Summed up (a .k) (a .n) (a .i) (a .j) (a .x .now) (a .y .now) 0x7F800000 (a .start) (t .add-product-up .result) (h .loop .l + 1)
 turned t =
-    let h = t .before .before .before .before .before in
+    let h = t .before .before .before .before in
     let a = h .before .before .before .args in
     dot-turn up (a .k) (a .n) (a .i) (a .j) (a .x .now) (a .y .now) up-fits 0x7F800000 refl (a .start)
-    (h .loop .s) (t .before .mul-up .result) (t .add-up .result) (h .loop .l) (h .loop .inv .1) (t .before .mul-up .ensures) (t .add-up .ensures)
+    (h .loop .s) (t .add-product-up .result) (h .loop .l) (h .loop .inv .1) (t .add-product-up .ensures)
 
 returns : tie.Need-returns Inv-loop μ-loop
 returns c =
     let t = c .before .before in
-    let g = t .before .before .before .before in
+    let g = t .before .before .before in
     let a = g .before .before .before .before .args in
     dot-stop up (a .k) (a .n) (a .i) (a .j) (a .x .now) (a .y .now) up-fits 0x7F800000 refl (a .start)
-    (t .add-up .result) (g .before .loop .l) (g .loop-test .taken) (turned t) (sym (c .before .is-finite .ensures) ∙ not-true _ (c .if1 .taken))
+    (t .add-product-up .result) (g .before .loop .l) (g .loop-test .taken) (turned t) (sym (c .before .is-finite .ensures) ∙ not-true _ (c .if1 .taken))
 
 add-l : tie.Need-add-l Inv-loop μ-loop
 add-l c = search needs
@@ -109,16 +106,15 @@ dot-up-spec =
     Inv-loop
     μ-loop
     loop-holds
-    mul-mul-up
-    add-mul-up
-    mul-mul-up-2
-    shared-slice-read-mul-up
-    mul-mul-up-3
-    add-mul-up-2
-    mul-mul-up-4
-    shared-slice-read-mul-up-2
-    mul-up-requires
-    add-up-requires
+    mul-add-product-up
+    add-add-product-up
+    mul-add-product-up-2
+    shared-slice-read-add-product-up
+    mul-add-product-up-3
+    add-add-product-up-2
+    mul-add-product-up-4
+    shared-slice-read-add-product-up-2
+    add-product-up-requires
     is-finite-requires
     returns
     add-l
