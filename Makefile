@@ -1,5 +1,6 @@
 # Commands of the repository; `make help` lists them.
 .DEFAULT_GOAL := help
+.DELETE_ON_ERROR:
 .PHONY: help run test check bench install uninstall fmt clean
 
 PREFIX ?= /usr/local
@@ -17,8 +18,7 @@ run: $(samples) ## multiply the two sample sheets by method 1 and print the prod
 
 target/samples/%.sheet: samples/%.txt tools/sheet tools/binary32.py tools/sheet_bytes.py tools/sheet_text.py
 	@mkdir -p $(@D)
-	@tools/sheet pack $< >$@.part
-	@mv $@.part $@
+	@tools/sheet pack $< >$@
 
 test: ## all tests, from nothing: ends in 'N passed, 0 failed'
 	@rt fmt --check
