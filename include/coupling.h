@@ -11,15 +11,15 @@
    5 and 10, and 0 for the other numbers.
 
    The first of these that holds is returned:
-     9           the method is not 1, 3, 4 or 7
-     matrix 1    A's sheet: 6 for its length and its head, 1 for its sizes, then
-                 for each cell along the chain 7, 8, 6, 10, 3, 4, 5
-     matrix 2    B's sheet: the same, in the same order
-     1, matrix 2 A's columns are not B's rows
-     5, matrix 3 a step of this entry, the first such by rows, has no finite
-                 number
+     9            the method is not 1, 3, 4 or 7
+     matrix 1     A's sheet: 6 for its length and its head, 1 for its sizes,
+                  then for each cell along the chain 7, 8, 6, 10, 3, 4, 5
+     matrix 2     B's sheet: the same, in the same order
+     1, matrix 2  A's columns are not B's rows
+     5, matrix 3  a step of this entry, the first such by rows, has no finite
+                  number
      11, matrix 3 out is shorter than the product's sheet
-   Number 2 belongs to functions that no C caller of this header has.
+   No call returns 2, which other functions of the library do.
 
    A refusal leaves out as it was. A success writes as many bytes as it returns
    and leaves the rest of out as it was. Bytes of a and b are only read.
@@ -30,8 +30,8 @@
    address will do. No pointer is kept.
 
    Calls may run at the same time in several threads, each with an out of its
-   own. A call uses no heap and no global data, does no input or output, and
-   neither reads nor changes floating-point state.
+   own. A call uses no heap and no writable global data, does no input or output,
+   and neither reads nor changes floating-point state.
 
    Stack: on x86-64 a call took at most 70,424 bytes below its caller's frame,
    measured on 32 by 32 by 32 products by each method (tests/stack). Give the

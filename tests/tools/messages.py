@@ -40,7 +40,7 @@ def test_bad_texts():
                 file.write(text)
             said = tool("pack", path)
             assert said == (2, b"", f"{path}:{line}: {message}\n"), (text, said)
-    ok("messages", f"{len(BAD_TEXTS)} bad texts, with file and line")
+    ok("tools/sheet, messages", f"{len(BAD_TEXTS)} bad texts, with file and line")
 
 
 def test_other_faults():
@@ -68,7 +68,7 @@ def test_sentences():
         with open(os.path.join(ROOT, name), encoding="utf-8") as file:
             found = {int(number): sentence for number, sentence in re.findall(form, file.read())}
         assert found == SENTENCES, (name, found)
-    ok("sentences", "the same in the header, the Rust wrapper and README.md")
+    ok("sentences of the refusals", "the same in the header, the Rust wrapper and README.md")
 
 
 test_bad_texts()

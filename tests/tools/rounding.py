@@ -38,7 +38,7 @@ def main(draw, count):
             if abs(near) <= binary32.LARGEST:
                 check(near)
                 check(-near)
-    ok("outward rounding", f"{count} decimals beside exact fractions")
+    ok("tools/sheet, outward rounding", f"{count} decimals beside exact fractions")
 
 
 main(random.Random(int(sys.argv[1])), 20000)

@@ -34,7 +34,7 @@ def main(library, program):
             row, column, lower, upper = CELL.fullmatch(line).groups()
             assert (int(row), int(column)) == record[:2]
             assert Fraction(lower) <= binary32.value(record.lower) and binary32.value(record.upper) <= Fraction(upper)
-    ok("samples", "multiplied by each method; the decimals enclose the patterns")
+    ok("sample sheets", "multiplied by each method; the decimals enclose the patterns")
 
 
 main(Library(sys.argv[1]), os.path.abspath(sys.argv[2]))

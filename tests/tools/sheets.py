@@ -48,7 +48,7 @@ def test_round_trips(library, draw, count):
         assert decode(data) == sheet
         for as_patterns in (False, True):
             assert packed(text_of(sheet, as_patterns)) == data, text_of(sheet, as_patterns)
-    ok("round trips", f"{count} random sheets, each accepted by the library")
+    ok("tools/sheet, round trips", f"{count} random sheets, each accepted by the library")
 
 
 def test_commands(draw):
@@ -87,7 +87,7 @@ def test_damage(library, draw, count):
         assert code == library.read_code(data), (code, library.read_code(data), data.hex())
         met.add(code // 1000000)
     assert met == {0, 1, 3, 4, 5, 6, 7, 8, 10}, met
-    ok("damaged sheets", f"{count}, refused as by the library, each number met")
+    ok("tools/sheet, damaged sheets", f"{count}, refused as by the library, each number met")
 
 
 def main(library, seed):

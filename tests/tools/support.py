@@ -3,14 +3,13 @@ import os
 import subprocess
 import sys
 
-sys.dont_write_bytecode = True
 ROOT = os.path.dirname(os.path.dirname(os.path.dirname(os.path.abspath(__file__))))
 TOOL = os.path.join(ROOT, "tools", "sheet")
 sys.path.insert(0, os.path.join(ROOT, "tools"))
 
 
 def ok(name, what):
-    print(f"ok   tools/sheet, {name}: {what}")
+    print(f"ok   {name}: {what}")
 
 
 def tool(*words, given=b""):
