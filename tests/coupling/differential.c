@@ -11,10 +11,9 @@
 #include <stdlib.h>
 #include <string.h>
 
+#include "../../include/coupling.h"
 #include "../oracle/oracle.h"
 #include "../sheets/random_sheet.h"
-
-uint32_t coupling_multiply(uint32_t method, const uint8_t *a, size_t a_len, const uint8_t *b, size_t b_len, uint8_t *out, size_t out_len);
 
 struct sheet_bytes { uint8_t bytes[BUFFER]; size_t length; };
 

@@ -33,4 +33,12 @@ static inline void put_cell(uint8_t *record, uint32_t next, uint32_t row, uint32
     record[12] = (uint8_t)wear_class;
 }
 
+/* The longest sheet, 16,400 bytes: 32 by 32, no cell [0, 0], all wear classes. */
+static inline void put_full(uint8_t *s)
+{
+    put_head(s, 1, 32, 32, 1025);
+    for (uint32_t i = 1; i <= 1024; i++)
+        put_cell(s + 16 * i, i == 1024 ? 0 : i + 1, (i - 1) / 32, (i - 1) % 32, 0x3F800000 + 977 * i, 0x3F800000 + 1009 * i, i % 8);
+}
+
 #endif

@@ -1,0 +1,60 @@
+//! A refusal of the sheet job: its number, what it names, and its sentence.
+use std::error::Error;
+use std::fmt;
+
+/// Why a call was turned down, and where.
+#[derive(Clone, Copy, Debug, PartialEq, Eq)]
+pub struct Refusal {
+    /// 1 to 11.
+    pub number: u32,
+    /// 1 is A, 2 is B, 3 is the product, 0 is none of them.
+    pub matrix: u32,
+    /// From 0; the place of a cell for numbers 3, 4, 5 and 10, otherwise 0.
+    pub row: u32,
+    /// As `row`.
+    pub column: u32,
+}
+
+impl Refusal {
+    /// The refusal that a number returned to C stands for; `None` where that number is a length.
+    pub fn from_code(code: u32) -> Option<Refusal> {
+        (code >= 1_000_000).then(|| Refusal {
+            number: code / 1_000_000,
+            matrix: code / 10_000 % 100,
+            row: code / 100 % 100,
+            column: code % 100,
+        })
+    }
+
+    /// The number that is returned to C.
+    pub fn code(&self) -> u32 {
+        1_000_000 * self.number + 10_000 * self.matrix + 100 * self.row + self.column
+    }
+
+    /// The refusal in plain English, without the place.
+    pub fn sentence(&self) -> &'static str {
+        match self.number {
+            1 => "a size is not from 1 to 32, or A's columns are not B's rows",
+            2 => "a slice is shorter than its cells",
+            3 => "a bound is not a finite number",
+            4 => "a lower bound is above the upper bound",
+            5 => "no finite number is right for a rounding",
+            6 => "the sheet's length or record count is wrong, or a byte that must be zero is not",
+            7 => "an index is not below the record count, or a cell is outside the matrix",
+            8 => "the cells of the chain do not rise by row, then column",
+            9 => "the method is not 1, 3, 4 or 7",
+            10 => "a wear class is above 7",
+            11 => "the out buffer is shorter than the sheet to be written",
+            _ => "no refusal has this number",
+        }
+    }
+}
+
+impl fmt::Display for Refusal {
+    fn fmt(&self, f: &mut fmt::Formatter<'_>) -> fmt::Result {
+        write!(f, "refusal {}: {}", self.number, self.sentence())?;
+        write!(f, " (matrix {}, row {}, column {})", self.matrix, self.row, self.column)
+    }
+}
+
+impl Error for Refusal {}

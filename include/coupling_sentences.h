@@ -1,0 +1,27 @@
+/* A sentence in plain English for each number of a refusal of coupling_multiply,
+   for C and C++. Not proved. */
+#ifndef COUPLING_SENTENCES_H
+#define COUPLING_SENTENCES_H
+
+#include <stdint.h>
+
+/* Never null; the text is constant. */
+static inline const char *coupling_sentence(uint32_t number)
+{
+    switch (number) {
+    case 1: return "a size is not from 1 to 32, or A's columns are not B's rows";
+    case 2: return "a slice is shorter than its cells";
+    case 3: return "a bound is not a finite number";
+    case 4: return "a lower bound is above the upper bound";
+    case 5: return "no finite number is right for a rounding";
+    case 6: return "the sheet's length or record count is wrong, or a byte that must be zero is not";
+    case 7: return "an index is not below the record count, or a cell is outside the matrix";
+    case 8: return "the cells of the chain do not rise by row, then column";
+    case 9: return "the method is not 1, 3, 4 or 7";
+    case 10: return "a wear class is above 7";
+    case 11: return "the out buffer is shorter than the sheet to be written";
+    default: return "no refusal has this number";
+    }
+}
+
+#endif

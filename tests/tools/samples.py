@@ -1,0 +1,40 @@
+"""Test of the sample sheets, not proved: samples.py LIBRARY PROGRAM, where PROGRAM is the independent implementation of the program that prints
+a product. Both are asked for the samples' product, and the decimals that tools/sheet prints enclose it."""
+import os
+import re
+import subprocess
+import sys
+from fractions import Fraction
+
+from support import ROOT, ok, tool
+from library import Library
+import binary32
+from sheet_bytes import decode
+
+CELL = re.compile(r"row (\d+), column (\d+): \[(.*), (.*)\]")
+
+
+def packed(name):
+    status, data, message = tool("pack", os.path.join(ROOT, "samples", name))
+    assert status == 0, message
+    return data
+
+
+def main(library, program):
+    a, b = packed("motor_to_lever.txt"), packed("lever_to_bar.txt")
+    for method in (1, 3, 4, 7):
+        printed = subprocess.run([program], input=b"%d" % method + a + b, capture_output=True, check=True).stdout
+        status, table, message = tool("table", given=printed)
+        assert (status, message) == (0, "")
+        title, *lines = table.decode().splitlines()
+        assert title == f"method {method}, 2 by 2"
+        records = decode(library.job(method, a, b)[1]).records
+        assert len(records) == len(lines) == 4
+        for record, line in zip(records, lines):
+            row, column, lower, upper = CELL.fullmatch(line).groups()
+            assert (int(row), int(column)) == record[:2]
+            assert Fraction(lower) <= binary32.value(record.lower) and binary32.value(record.upper) <= Fraction(upper)
+    ok("sample sheets", "multiplied by each method; the decimals enclose the patterns")
+
+
+main(Library(sys.argv[1]), os.path.abspath(sys.argv[2]))
