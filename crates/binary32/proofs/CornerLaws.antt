@@ -53,10 +53,10 @@ module _ (f : ℤ → ℤ → ℤ) (either : (P : ℤ → Type 0) (u v : ℤ) �
       ∙ law (both w x) (both y z) (both-fits w x hw hx) (both-fits y z hy hz)
       ∙ ap hold (both-four w x y z)
 
-least-either : (P : ℤ → Type 0) (u v : ℤ) → P u → P v → P (minℤ u v)
+pub least-either : (P : ℤ → Type 0) (u v : ℤ) → P u → P v → P (minℤ u v)
 least-either P u v a b = min-split u v (λ h e. subst P (sym e) a) (λ h e. subst P (sym e) b)
 
-greatest-either : (P : ℤ → Type 0) (u v : ℤ) → P u → P v → P (maxℤ u v)
+pub greatest-either : (P : ℤ → Type 0) (u v : ℤ) → P u → P v → P (maxℤ u v)
 greatest-either P u v a b = max-split u v (λ h e. subst P (sym e) b) (λ h e. subst P (sym e) a)
 
 -- ---- a corner that is refused
@@ -84,7 +84,7 @@ no-corner f w x y z true true true d ha hb hc hd t = all-none f w x y z (inr (in
 -- ---- both roundings of a product
 pub both-same : (a b : Parts) {x : Parts} {r : Both} → ProductIs a b x → BothOf (exact down x) (exact up x) r
     → BothOf (exact₂ down a b) (exact₂ up a b) r
-both-same a b p h = record { lower = h .lower ∙ ap holdDown (p .downs); upper = h .upper ∙ ap holdUp (p .ups) }
+both-same a b p h = record { lower = h .lower ∙ ap holdDown (p .same .downs); upper = h .upper ∙ ap holdUp (p .same .ups) }
 
 -- ---- what the code of `of_parts` found: the four products p, q, r, s, and the two ends e of them
 module _ (a b c d : Parts) where

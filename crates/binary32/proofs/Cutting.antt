@@ -72,11 +72,11 @@ module _ (s : ℤ) (e z K : ℕ) where
   moved : s *ℤ pos (2 ^ z) *ℤ pos (2 ^ e) ≡ pos (2 ^ z) *ℤ (s *ℤ pos (2 ^ e))
   moved = by-ring (s ∷ pos (2 ^ z) ∷ pos (2 ^ e) ∷ []) (search reading depth 20) tt
 
-  moved-up : up binary32 (2 ^ (z + K)) (s *ℤ pos (2 ^ z) *ℤ pos (2 ^ e)) ≡ up binary32 (2 ^ K) (s *ℤ pos (2 ^ e))
+  pub moved-up : up binary32 (2 ^ (z + K)) (s *ℤ pos (2 ^ z) *ℤ pos (2 ^ e)) ≡ up binary32 (2 ^ K) (s *ℤ pos (2 ^ e))
   moved-up =
       ap₂ (up binary32) (pow-add 2 z K) moved ∙ up-scale binary32 (2 ^ z) (2 ^ K) (pow-pos z) (pow-pos K) (s *ℤ pos (2 ^ e))
 
-  moved-down : down binary32 (2 ^ (z + K)) (s *ℤ pos (2 ^ z) *ℤ pos (2 ^ e)) ≡ down binary32 (2 ^ K) (s *ℤ pos (2 ^ e))
+  pub moved-down : down binary32 (2 ^ (z + K)) (s *ℤ pos (2 ^ z) *ℤ pos (2 ^ e)) ≡ down binary32 (2 ^ K) (s *ℤ pos (2 ^ e))
   moved-down =
       ap₂ (down binary32) (pow-add 2 z K) moved ∙ down-scale binary32 (2 ^ z) (2 ^ K) (pow-pos z) (pow-pos K) (s *ℤ pos (2 ^ e))
 

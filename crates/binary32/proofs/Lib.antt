@@ -13,6 +13,7 @@ pub mod Products
 pub mod Far
 pub mod Sums
 pub mod Unpacking
+pub mod Placing
 -- what a pattern holds, and the answer of an operation; for other crates: Held, Numbers, Negation
 pub mod Held
 pub mod Numbers
@@ -21,4 +22,5 @@ pub mod Exacts
 -- order and corner products
 pub mod Orders
 pub mod CornerLaws
+pub mod CornerPlaces
 pub mod Examples

@@ -3,3 +3,4 @@ pub mod Operations
 pub mod Order
 pub mod Steps
 pub mod Unpacked
+pub mod Place

@@ -101,13 +101,18 @@ pub record Same (D : ℕ) (X : ℤ) (x : Parts) : Type 0 where
   pub nears : exact near x ≡ near binary32 D X
   pub small : Small (x .sig) (x .exp)
 
--- two numbers to be multiplied, and their product
-pub record Factors (x y : Parts) : Type 0 where
-  pub first : Short x
-  pub second : Short y
+-- two numbers to be multiplied, whether or not they have all their digits, and their product
+pub record Bounded (x : Parts) : Type 0 where
+  pub few : natAbs (x .sig) ≤ 2 ^ 25
+  pub low : x .exp ≤ 255
 
-abbrev pub ProductIs : Parts → Parts → Parts → Type 0
-ProductIs x y r = Same (2 ^ 149) (of x *ℤ of y) r
+pub record Factors (x y : Parts) : Type 0 where
+  pub first : Bounded x
+  pub second : Bounded y
+
+pub record ProductIs (x y r : Parts) : Type 0 where
+  pub same : Same (2 ^ 149) (of x *ℤ of y) r
+  pub few : natAbs (r .sig) < 2 ^ 51
 
 -- two numbers to be added, and their sum: 2 ^ (149 - lift) is 1 for a sum, 2 for a midpoint
 pub record Summands (x y : Parts) (lift : ℕ) : Type 0 where

@@ -1,21 +1,30 @@
-// The four corner products of two intervals, each exact product worked out once and rounded both ways.
+// The four corner products of two intervals, each exact product worked out once. Products that are neither small nor large are compared by their places, and the
+// least and the greatest place are rounded; else each product is rounded both ways, and the patterns are compared.
 ghost use mathlib.Core.Path.{_≡_};
 ghost use mathlib.Core.Bool.{cond, false};
 ghost use Rattle.binary32.specs.Number.{finites};
 ghost use Rattle.binary32.specs.Order.{leastCorner, greatestCorner};
-ghost use Rattle.binary32.specs.Steps.{Short, BothOf, CornersOf};
+ghost use Prim.Native.Nat.{_*_, _^_, _≤_};
+ghost use lib.IntN.{natAbs, _*ℤ_};
+ghost use Rattle.binary32.specs.Place.{Placed, Between};
+ghost use Rattle.binary32.specs.Steps.{of, Bounded, Factors, BothOf, CornersOf};
 use crate::exact::times;
 use crate::funnel::round_both;
+use crate::funnel::split;
 use crate::order::greatest;
 use crate::order::least;
 use crate::partial::Both;
 use crate::parts::Parts;
 use crate::parts::both_finite;
 use crate::parts::decode;
+use crate::place::greater;
+use crate::place::lesser;
+use crate::place::pattern_at;
+use crate::place::place;
 
-// Of the products of a and b with c and d: the least rounded down, the greatest rounded up.
-fn of_parts(a: Parts, b: Parts, c: Parts, d: Parts) -> Both
-    requires { ⌜ Short a × Short b × Short c × Short d ⌝ }
+// Of the products of a and b with c and d: the least rounded down, the greatest rounded up; by patterns.
+fn by_patterns(a: Parts, b: Parts, c: Parts, d: Parts) -> Both
+    requires { ⌜ Bounded a × Bounded b × Bounded c × Bounded d ⌝ }
     ensures { λ r. ⌜ CornersOf a b c d r ⌝ }
 {
     let p = round_both(times(a, c));
@@ -26,6 +35,44 @@ fn of_parts(a: Parts, b: Parts, c: Parts, d: Parts) -> Both
         down: least(least(p.down, q.down), least(r.down, s.down)),
         up: greatest(greatest(p.up, q.up), greatest(r.up, s.up)),
     }
+}
+
+// The place of x × y.
+fn place_of(x: Parts, y: Parts) -> i64
+    requires { ⌜ Factors x y ⌝ }
+    ensures { λ r. ⌜ Placed (of x *ℤ of y) r ⌝ }
+{
+    let p = times(x, y);
+    place(p.sig, p.exp)
+}
+
+// The number below the place low and the one above the place high.
+fn between(low: i64, high: i64) -> Both
+    requires { ⌜ (natAbs low ≤ 254 * 2 ^ 50) × (natAbs high ≤ 254 * 2 ^ 50) ⌝ }
+    ensures { λ r. ⌜ Between low high r ⌝ }
+{
+    let below = split(low, 27, 0);
+    let above = split(high, 27, 0);
+    Both {
+        down: pattern_at(below.down),
+        up: pattern_at(above.up),
+    }
+}
+
+// The same by places, where all four have one.
+fn of_parts(a: Parts, b: Parts, c: Parts, d: Parts) -> Both
+    requires { ⌜ Bounded a × Bounded b × Bounded c × Bounded d ⌝ }
+    ensures { λ r. ⌜ CornersOf a b c d r ⌝ }
+{
+    let p = place_of(a, c);
+    let q = place_of(a, d);
+    let r = place_of(b, c);
+    let s = place_of(b, d);
+    let high = greater(greater(p, q), greater(r, s));
+    if high < 0x1000_0000_0000_0000 {
+        return between(lesser(lesser(p, q), lesser(r, s)), high);
+    }
+    by_patterns(a, b, c, d)
 }
 
 // Whether all four patterns stand for numbers.

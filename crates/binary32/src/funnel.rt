@@ -54,7 +54,7 @@ fn rest(w: i64, c: i64, n: u32) -> u64
 }
 
 // w / 2^n, rounded three ways.
-fn split(w: i64, n: u32, shift: u32) -> Ways
+pub fn split(w: i64, n: u32, shift: u32) -> Ways
     requires { ⌜ (natAbs w < 2 ^ 61) × (n ≤ 62) ⌝ }
     ensures { λ r. ⌜ Split w (2 ^ n) shift r ⌝ }
 {

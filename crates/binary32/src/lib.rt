@@ -11,6 +11,7 @@ mod hold;
 pub mod order;
 pub mod partial;
 mod parts;
+mod place;
 mod unpacked;
 
 // The format: precision, smallest exponent (one unit is 2^-149) and largest number.

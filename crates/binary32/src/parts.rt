@@ -52,7 +52,7 @@ pub fn magnitude(x: i64) -> u64
 }
 
 // m, or -m where neg is set.
-fn with_sign(neg: bool, m: u64) -> i64
+pub fn with_sign(neg: bool, m: u64) -> i64
     requires { ⌜ m < 2 ^ 62 ⌝ }
     ensures { λ r. ⌜ r ≡ signedBy neg m ⌝ }
 {

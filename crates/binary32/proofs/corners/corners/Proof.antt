@@ -6,6 +6,7 @@ use borrow.Author.Tests.{not-true, not-false}
 use Rattle.binary32.specs.Number.{finites}
 use Rattle.binary32.proofs.Held.{and-first, and-second, finite-is, finites-first, finites-second}
 use Rattle.binary32.proofs.CornerLaws.{corners-some, corners-none}
+use Rattle.binary32.proofs.Products.{bounded}
 use borrow.Author.Needs.{needs}
 use Rattle.binary32.proofs.corners.corners.Statement.{statement}
 use Rattle.binary32.proofs.corners.corners.Tie as tie
@@ -50,7 +51,12 @@ decode-requires-4 c κs =
     finite-is (S e .args .bu) (finites-second (S e .args .bl) (S e .args .bu) (second e))
 
 of-parts-requires : tie.Need-of-parts-requires
-of-parts-requires c κs = search needs
+of-parts-requires c κs = (
+  bounded (c .before .before .before .decode .ensures .short),
+  bounded (c .before .before .decode2 .ensures .short),
+  bounded (c .before .decode3 .ensures .short),
+  bounded (c .decode4 .ensures .short),
+)
 
 returns-2 : tie.Need-returns-2
 returns-2 c =

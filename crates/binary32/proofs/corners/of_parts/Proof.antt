@@ -1,87 +1,173 @@
--- `binary32::corners::of_parts` meets its contract: the least of four patterns rounded down holds the least of four numbers, or none, and the
--- greatest of four rounded up the greatest (`corners-of`).
-use mathlib.Core.Path.{ap₂, _∙_}
-use Rattle.binary32.specs.Order.{leastOf, greatestOf}
-use Rattle.binary32.proofs.CornerLaws.{both-same, corners-of}
+-- `binary32::corners::of_parts` meets its contract: by the four places where there are four (`lower-is`, `upper-is`), else by patterns.
+use mathlib.Core.Path.{_≡_, sym, ap, ap₂, subst, subst₂, _∙_}
+use mathlib.Core.Bool.{true}
+use Prim.Native.Nat.{_*_, _^_, _≤_}
+use lib.IntN.{ℤ, pos, natAbs, _*ℤ_}
+use lib.Signed.{shrZ, ltZ}
+use mir.Syntax.{w64}
+use mir.Val.{ofZ, toZ}
+use Rattle.algebra.specs.Extremes.{minℤ, maxℤ, least₄, greatest₄}
+use Rattle.rounding.specs.Quotient.{ceilS}
+use Rattle.binary32.specs.Place.{patternAt}
+use Rattle.binary32.specs.Steps.{of}
+use Rattle.binary32.proofs.Ints.{read}
+use Rattle.binary32.proofs.CornerPlaces.{least-low, greatest-low, lower-is, upper-is}
 use borrow.Author.Needs.{needs}
 use Rattle.binary32.proofs.corners.of_parts.Statement.{statement}
 use Rattle.binary32.proofs.corners.of_parts.Tie as tie
 
-times-requires : tie.Need-times-requires
-times-requires c κs = search needs
+-- the four places, and the greatest of them
+module _ (c : tie.After-place-of4) where
+  abbrev P : ℤ
+  P = c .before .before .before .place-of .result
 
-round-both-requires : tie.Need-round-both-requires
-round-both-requires c κs = search needs
+  abbrev Q : ℤ
+  Q = c .before .before .place-of2 .result
 
-times-requires-2 : tie.Need-times-requires-2
-times-requires-2 c κs = search needs
+  abbrev R : ℤ
+  R = c .before .place-of3 .result
 
-round-both-requires-2 : tie.Need-round-both-requires-2
-round-both-requires-2 c κs = search needs
+  abbrev S : ℤ
+  S = c .place-of4 .result
 
-times-requires-3 : tie.Need-times-requires-3
-times-requires-3 c κs = search needs
+  readP : toZ w64 (ofZ w64 P) ≡ P
+  readP = read P (c .before .before .before .place-of .ok)
 
-round-both-requires-3 : tie.Need-round-both-requires-3
-round-both-requires-3 c κs = search needs
+  readQ : toZ w64 (ofZ w64 Q) ≡ Q
+  readQ = read Q (c .before .before .place-of2 .ok)
 
-times-requires-4 : tie.Need-times-requires-4
-times-requires-4 c κs = search needs
+  readR : toZ w64 (ofZ w64 R) ≡ R
+  readR = read R (c .before .place-of3 .ok)
 
-round-both-requires-4 : tie.Need-round-both-requires-4
-round-both-requires-4 c κs = search needs
+  readS : toZ w64 (ofZ w64 S) ≡ S
+  readS = read S (c .place-of4 .ok)
 
-least-requires : tie.Need-least-requires
-least-requires c κs = search needs
+module _ (c : tie.After-greater3) where
+  abbrev four : tie.After-place-of4
+  four = c .before .before .before
 
-least-requires-2 : tie.Need-least-requires-2
-least-requires-2 c κs = search needs
+  high-is : toZ w64 (ofZ w64 (c .greater3 .result)) ≡ greatest₄ (P four) (Q four) (R four) (S four)
+  high-is =
+      read (c .greater3 .result) (c .greater3 .ok) ∙ c .greater3 .ensures
+      ∙ ap₂ maxℤ
+      (read (c .before .before .greater .result) (c .before .before .greater .ok) ∙ c .before .before .greater .ensures ∙ ap₂ maxℤ (readP four) (readQ four))
+      (read (c .before .greater2 .result) (c .before .greater2 .ok) ∙ c .before .greater2 .ensures ∙ ap₂ maxℤ (readR four) (readS four))
 
-least-requires-3 : tie.Need-least-requires-3
-least-requires-3 c κs = search needs
+module _ (c : tie.After-lesser3) where
+  abbrev chosen : tie.Then1
+  chosen = c .before .before .before
 
-greatest-requires : tie.Need-greatest-requires
-greatest-requires c κs = search needs
+  abbrev g : tie.After-greater3
+  g = chosen .before
 
-greatest-requires-2 : tie.Need-greatest-requires-2
-greatest-requires-2 c κs = search needs
+  abbrev f : tie.After-place-of4
+  f = four g
 
-greatest-requires-3 : tie.Need-greatest-requires-3
-greatest-requires-3 c κs = search needs
+  low-is : toZ w64 (ofZ w64 (c .lesser3 .result)) ≡ least₄ (P f) (Q f) (R f) (S f)
+  low-is =
+      read (c .lesser3 .result) (c .lesser3 .ok) ∙ c .lesser3 .ensures
+      ∙ ap₂ minℤ
+      (read (c .before .before .lesser .result) (c .before .before .lesser .ok) ∙ c .before .before .lesser .ensures ∙ ap₂ minℤ (readP f) (readQ f))
+      (read (c .before .lesser2 .result) (c .before .lesser2 .ok) ∙ c .before .lesser2 .ensures ∙ ap₂ minℤ (readR f) (readS f))
 
--- the four products p, q, r, s in their order, then the two ends
+  under : ltZ (greatest₄ (P f) (Q f) (R f) (S f)) (pos (2 ^ 60)) ≡ true
+  under = subst (λ (t : ℤ). ltZ t (pos (2 ^ 60)) ≡ true) (high-is g) (chosen .if1 .taken)
+
+  -- the four exact products
+  abbrev args : tie.Start
+  args = f .before .before .before .before
+
+  abbrev AC : ℤ
+  AC = of (args .args .a) *ℤ of (args .args .c)
+
+  abbrev AD : ℤ
+  AD = of (args .args .a) *ℤ of (args .args .d)
+
+  abbrev BC : ℤ
+  BC = of (args .args .b) *ℤ of (args .args .c)
+
+  abbrev BD : ℤ
+  BD = of (args .args .b) *ℤ of (args .args .d)
+
+place-of-requires : tie.Need-place-of-requires
+place-of-requires c κs = search needs
+
+place-of-requires-2 : tie.Need-place-of-requires-2
+place-of-requires-2 c κs = search needs
+
+place-of-requires-3 : tie.Need-place-of-requires-3
+place-of-requires-3 c κs = search needs
+
+place-of-requires-4 : tie.Need-place-of-requires-4
+place-of-requires-4 c κs = search needs
+
+greater-requires : tie.Need-greater-requires
+greater-requires c κs = search needs
+
+greater-requires-2 : tie.Need-greater-requires-2
+greater-requires-2 c κs = search needs
+
+greater-requires-3 : tie.Need-greater-requires-3
+greater-requires-3 c κs = search needs
+
+lesser-requires : tie.Need-lesser-requires
+lesser-requires c κs = search needs
+
+lesser-requires-2 : tie.Need-lesser-requires-2
+lesser-requires-2 c κs = search needs
+
+lesser-requires-3 : tie.Need-lesser-requires-3
+lesser-requires-3 c κs = search needs
+
+between-requires : tie.Need-between-requires
+between-requires c κs =
+    let f = f c in
+    let h₁ = f .before .before .before .place-of .ensures in
+    let h₂ = f .before .before .place-of2 .ensures in
+    let h₃ = f .before .place-of3 .ensures in
+    let h₄ = f .place-of4 .ensures in (
+      subst (λ (t : ℤ). natAbs t ≤ 254 * 2 ^ 50) (sym (low-is c)) (least-low (AC c) (AD c) (BC c) (BD c) (P f) (Q f) (R f) (S f) h₁ h₂ h₃ h₄ (under c)),
+      subst (λ (t : ℤ). natAbs t ≤ 254 * 2 ^ 50) (sym (high-is (g c))) (greatest-low (AC c) (AD c) (BC c) (BD c) (P f) (Q f) (R f) (S f) h₁ h₂ h₃ h₄ (under c)),
+    )
+
 returns : tie.Need-returns
 returns c =
-    let l = c .before .before .before in
-    let s = l .before .before .before in
-    let r = s .before .before in
-    let q = r .before .before in
-    let p = q .before .before in
-    let x = p .before .before .args in
-    corners-of (x .a) (x .b) (x .c) (x .d) (p .round-both .result) (q .round-both2 .result) (r .round-both3 .result) (s .round-both4 .result) _
-    (both-same (x .a) (x .c) (p .before .times .ensures) (p .round-both .ensures))
-    (both-same (x .a) (x .d) (q .before .times2 .ensures) (q .round-both2 .ensures))
-    (both-same (x .b) (x .c) (r .before .times3 .ensures) (r .round-both3 .ensures))
-    (both-same (x .b) (x .d) (s .before .times4 .ensures) (s .round-both4 .ensures))
-    (l .least3 .ensures ∙ ap₂ leastOf (l .before .before .least .ensures) (l .before .least2 .ensures))
-    (c .greatest3 .ensures ∙ ap₂ greatestOf (c .before .before .greatest .ensures) (c .before .greatest2 .ensures))
+    let l = c .before in
+    let f = f l in
+    let h₁ = f .before .before .before .place-of .ensures in
+    let h₂ = f .before .before .place-of2 .ensures in
+    let h₃ = f .before .place-of3 .ensures in
+    let h₄ = f .place-of4 .ensures in
+    record {
+      lower =
+          c .between .ensures .lower ∙ ap (λ (t : ℤ). patternAt (shrZ t (2 ^ 27))) (low-is l)
+          ∙ lower-is (AC l) (AD l) (BC l) (BD l) (P f) (Q f) (R f) (S f) h₁ h₂ h₃ h₄ (under l);
+      upper =
+          c .between .ensures .upper ∙ ap (λ (t : ℤ). patternAt (ceilS t (2 ^ 27))) (high-is (g l))
+          ∙ upper-is (AC l) (AD l) (BC l) (BD l) (P f) (Q f) (R f) (S f) h₁ h₂ h₃ h₄ (under l);
+    }
+
+by-patterns-requires : tie.Need-by-patterns-requires
+by-patterns-requires c κs = search needs
+
+returns-2 : tie.Need-returns-2
+returns-2 c = search needs
 
 pub of-parts-spec : {M : Type 1} → statement M
 of-parts-spec =
     tie.close
     (tie.spec
-    times-requires
-    round-both-requires
-    times-requires-2
-    round-both-requires-2
-    times-requires-3
-    round-both-requires-3
-    times-requires-4
-    round-both-requires-4
-    least-requires
-    least-requires-2
-    least-requires-3
-    greatest-requires
-    greatest-requires-2
-    greatest-requires-3
-    returns)
+    place-of-requires
+    place-of-requires-2
+    place-of-requires-3
+    place-of-requires-4
+    greater-requires
+    greater-requires-2
+    greater-requires-3
+    lesser-requires
+    lesser-requires-2
+    lesser-requires-3
+    between-requires
+    returns
+    by-patterns-requires
+    returns-2)

@@ -7,6 +7,7 @@ use Rattle.binary32.specs.Number.{finites}
 use Rattle.binary32.specs.Operations.{mul}
 use Rattle.binary32.proofs.Held.{finite-is, finites-first, finites-second}
 use Rattle.binary32.proofs.Exacts.{rounds-value, rounds-none}
+use Rattle.binary32.proofs.Products.{bounded}
 use borrow.Author.Needs.{needs}
 use Rattle.binary32.proofs.exact.product.Statement.{statement}
 use Rattle.binary32.proofs.exact.product.Tie as tie
@@ -29,13 +30,13 @@ decode-requires-2 c κs =
     finite-is (s .b) (finites-second (s .a) (s .b) (told (c .before)))
 
 times-requires : tie.Need-times-requires
-times-requires c κs = search needs
+times-requires c κs = record { first = bounded (c .before .decode .ensures .short); second = bounded (c .decode2 .ensures .short) }
 
 returns : tie.Need-returns
 returns c =
     let d = c .before in
     let s = d .before .before .before .before .args in
-    rounds-value (2 ^ 149) _*ℤ_ (s .a) (s .b) (told (d .before .before)) (d .before .decode .ensures) (d .decode2 .ensures) (c .times .ensures)
+    rounds-value (2 ^ 149) _*ℤ_ (s .a) (s .b) (told (d .before .before)) (d .before .decode .ensures) (d .decode2 .ensures) (c .times .ensures .same)
 
 returns-2 : tie.Need-returns-2
 returns-2 c =
