@@ -13,7 +13,7 @@ run: ## multiply two intervals by each method
 
 test: ## all tests, from nothing: ends in 'N passed, 0 failed'
 	@rt fmt --check
-	@rt check check_vectors
+	@rt check check_vectors print_product
 	@rt staticlib products_face
 	@tests/run
 	@rt ci
