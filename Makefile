@@ -22,7 +22,7 @@ target/samples/%.sheet: samples/%.txt tools/sheet tools/binary32.py tools/sheet_
 
 test: ## all tests, from nothing: ends in 'N passed, 0 failed'
 	@rt fmt --check
-	@rt check check_vectors
+	@rt check check_vectors print_product
 	@rt staticlib products_face
 	@tests/run
 	@rt ci
@@ -54,7 +54,7 @@ uninstall: ## remove what install put under PREFIX
 	@rm -f $(DESTDIR)$(PREFIX)/include/coupling.h $(DESTDIR)$(PREFIX)/include/coupling_sentences.h
 	@rm -f $(DESTDIR)$(PREFIX)/lib/libcoupling.a $(DESTDIR)$(PREFIX)/lib/pkgconfig/coupling.pc
 
-$(archive):
+$(archive): $(wildcard crates/*/src/*.rt)
 	@rt staticlib coupling
 
 fmt: ## format the Rattle sources

@@ -75,8 +75,9 @@ LENT = [
     ("1,024 cells, an out buffer a byte too short", FULL, 1024, 1024, 16399),
 ]
 
-for name, sheet, lowers, uppers, room in [(n, s, 1026, 1026, 16416) for n, s in CASES] + LENT:
-    if sys.argv[1:] == ["--list"]:
-        print(name)
-    else:
-        sys.stdout.buffer.write(number(len(sheet), 2) + number(lowers, 2) + number(uppers, 2) + number(room, 2) + sheet)
+if __name__ == "__main__":
+    for name, sheet, lowers, uppers, room in [(n, s, 1026, 1026, 16416) for n, s in CASES] + LENT:
+        if sys.argv[1:] == ["--list"]:
+            print(name)
+        else:
+            sys.stdout.buffer.write(number(len(sheet), 2) + number(lowers, 2) + number(uppers, 2) + number(room, 2) + sheet)

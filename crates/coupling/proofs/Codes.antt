@@ -37,7 +37,7 @@ produced-within : (r c : ℕ) (p : P.Outcome) → ProductWithin p → ReadWithin
 produced-within r c Pv.Done w = tt
 produced-within r c (Pv.Refused x) w = w
 
-product-within : (method : ℕ) (a b : List ℕ) → ReadWithin (productOf method a b 1024 1024)
+pub product-within : (method : ℕ) (a b : List ℕ) → ReadWithin (productOf method a b 1024 1024)
 unfolding productOf
 product-within method a b = go (known (methodOf method))
   where

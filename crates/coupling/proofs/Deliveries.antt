@@ -96,7 +96,7 @@ module _ (r c : ℕ) (lo up : List ℕ) (room n : ℕ) (e : writeOf r c lo up ro
       }
 
 -- ---- a job that goes on to the write has read both sheets, and they fit
-read-both : (method : ℕ) (a b : List ℕ) (r c : ℕ) → productOf method a b 1024 1024 ≡ O.Done r c
+pub read-both : (method : ℕ) (a b : List ℕ) (r c : ℕ) → productOf method a b 1024 1024 ≡ O.Done r c
     → (sheetRead a ≡ O.Done (rowsOf a) (columnsOf a)) × (sheetRead b ≡ O.Done (rowsOf b) (columnsOf b))
 unfolding productOf readAs
 read-both method a b r c e = go (known (methodOf method)) (sheetRead a) (sheetRead b) refl refl e

@@ -26,7 +26,7 @@ module _ (n : ℕ) (h : n ≤ 3) where
   named-within (R.Class m i j) w = record { matrix = h; row = w .row; column = w .column }
   named-within (R.Room m) w = record { matrix = h; row = w .row; column = w .column }
 
-number-small : (x : Refusal) → reportOf x .number ≤ 11
+pub number-small : (x : Refusal) → reportOf x .number ≤ 11
 unfolding reportOf
 number-small (R.Size m) = omega arith
 number-small (R.Short m) = omega arith

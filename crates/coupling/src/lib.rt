@@ -79,7 +79,7 @@ fn multiply(
 }
 
 // 9, then A's sheet, then B's, then their product. That A's columns are B's rows is the product's first check.
-fn multiply_sheets(method: u32, a: &[u8], b: &[u8], lo: &mut [u32], up: &mut [u32]) -> Outcome
+pub fn multiply_sheets(method: u32, a: &[u8], b: &[u8], lo: &mut [u32], up: &mut [u32]) -> Outcome
     ensures { λ r. ⌜ Sheets method (now (a .entry)) (now (b .entry)) (now (lo .entry)) (now (up .entry)) r (now (lo .exit)) (now (up .exit)) ⌝ }
 {
     if !is_method(method) {

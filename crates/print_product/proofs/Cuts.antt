@@ -1,0 +1,110 @@
+-- What is printed depends on the first 32,802 bytes alone: more only makes a sheet too long. Assumes nothing.
+use mathlib.Core.Path.{_≡_, refl, sym, ap, ap₂, _∙_}
+use mathlib.Core.Bool.{Bool, true, false, cond}
+use mathlib.Core.List.{List, [], _∷_}
+use Prim.Native.Nat.{ℕ, _+_, _-_, _*_, _%_, _≤_, _<_, min}
+use native.Mathlib.Omega.{arith}
+use lib.Dec.{leb, eqb}
+use lib.ListN.{length, take, drop, length-drop}
+use lib.Seq.{take-all, take-take, getD-take, length-take-le}
+use borrow.Author.Tests.{leb-true, leb-false, lt-leb}
+use Rattle.refusals.specs.declared.Refusal.{Refusal}
+use Rattle.refusals.specs.declared.Refusal.the-variants as R
+use Rattle.sheets.specs.declared.Outcome.{Outcome}
+use Rattle.sheets.specs.declared.Outcome.the-variants as O
+use Rattle.sheets.specs.Layout.{u16At, framed, countOf}
+use Rattle.sheets.specs.Reading.{readOf}
+use Rattle.products.specs.Checks.{known, methodOf}
+use Rattle.coupling.specs.Job.{readAs, sheetRead, afterRead, productOf}
+use Rattle.print_product.specs.Input.{digitValue, lengthOfA, sheetA, sheetB}
+use Rattle.print_product.specs.Printed.{answerText, sheetsText, printedOf}
+use Rattle.print_product.proofs.Answers.{textOf}
+use Rattle.print_product.proofs.InputLaws.{length-long}
+
+-- ---- a sheet of more than 16,400 bytes is refused
+
+not-framed : (s : List ℕ) → 16400 < length s → framed s ≡ false
+unfolding framed
+not-framed s h = rw (lt-leb (length s) 16400 h) (go (eqb (length s % 16) 0) (leb 16 (length s)))
+  where
+    go : (a b : Bool) → cond a (cond b false false) false ≡ false
+    go true true = refl
+    go true false = refl
+    go false b = refl
+
+too-long : (s : List ℕ) → 16400 < length s → sheetRead s ≡ O.Refused (R.Layout 0)
+unfolding readOf
+too-long s h = rw (not-framed s h)
+
+-- ---- the text where a sheet is refused does not depend on what comes after that sheet
+
+module _ (method : ℕ) (x : Refusal) where
+  first-refused : (a b : List ℕ) → sheetRead a ≡ O.Refused x → textOf method a b ≡ answerText method [] [] (cond (known (methodOf method)) (readAs 1 (O.Refused x)) (O.Refused R.Method))
+  unfolding productOf readAs
+  first-refused a b e = rw e (go (known (methodOf method)))
+    where
+      go : (t : Bool) → answerText method a b (cond t (readAs 1 (O.Refused x)) (O.Refused R.Method)) ≡ answerText method [] [] (cond t (readAs 1 (O.Refused x)) (O.Refused R.Method))
+      go true = refl
+      go false = refl
+
+  second-refused : (a b : List ℕ) → sheetRead b ≡ O.Refused x
+      → textOf method a b ≡ answerText method [] [] (cond (known (methodOf method)) (afterRead (readAs 1 (sheetRead a)) (readAs 2 (O.Refused x))) (O.Refused R.Method))
+  unfolding productOf readAs
+  second-refused a b e = rw e (go (known (methodOf method)) (sheetRead a))
+    where
+      go : (t : Bool) (o : Outcome) → answerText method a b (cond t (afterRead (readAs 1 o) (readAs 2 (O.Refused x))) (O.Refused R.Method))
+          ≡ answerText method [] [] (cond t (afterRead (readAs 1 o) (readAs 2 (O.Refused x))) (O.Refused R.Method))
+      go true (O.Done r c) = refl
+      go true (O.Refused y) = refl
+      go false o = refl
+
+-- ---- both sheets, cut
+
+count-cut : (s : List ℕ) (n : ℕ) → 6 ≤ n → countOf (take n s) ≡ countOf s
+unfolding u16At
+count-cut s n h = ap₂ (λ x y. x + 256 * y) (getD-take n s 4 0 (omega arith)) (getD-take n s 5 0 (omega arith))
+
+module _ (method : ℕ) (s : List ℕ) (long : 32801 < length s) where
+  cut-length : length (take 32801 s) ≡ 32801
+  cut-length = length-take-le 32801 s (omega arith)
+
+  first-cut : lengthOfA (take 32801 s) ≡ min (16 * countOf s) 32801
+  first-cut = sym (length-long (take 32801 s) (countOf s) (min (16 * countOf s) 32801) (omega (arith, cut-length)) (sym (count-cut s 32801 (omega arith))) (ap (min (16 * countOf s)) (sym cut-length)))
+
+  first-whole : lengthOfA s ≡ min (16 * countOf s) (length s)
+  first-whole = sym (length-long s (countOf s) (min (16 * countOf s) (length s)) (omega arith) refl refl)
+
+  cut : sheetsText method (take 32801 s) ≡ sheetsText method s
+  unfolding sheetsText
+  cut = go (leb (16 * countOf s) 16400) refl
+    where
+      go : (t : Bool) → leb (16 * countOf s) 16400 ≡ t → textOf method (sheetA (take 32801 s)) (sheetB (take 32801 s)) ≡ textOf method (sheetA s) (sheetB s)
+      go true e =
+          let k : ℕ = 16 * countOf s in
+          let few : k ≤ 16400 = leb-true k 16400 e in
+          let m : lengthOfA (take 32801 s) ≡ k = first-cut ∙ omega arith in
+          let n : lengthOfA s ≡ k = first-whole ∙ omega arith in
+          let same : take k (take 32801 s) ≡ take k s = take-take k 32801 s (omega arith) in
+          let b : sheetRead (drop k (take 32801 s)) ≡ O.Refused (R.Layout 0) = too-long (drop k (take 32801 s)) (omega (arith, length-drop k (take 32801 s), cut-length)) in
+          let c : sheetRead (drop k s) ≡ O.Refused (R.Layout 0) = too-long (drop k s) (omega (arith, length-drop k s)) in
+          rw (m, n, same) (second-refused method (R.Layout 0) (take k s) (drop k (take 32801 s)) b ∙ sym (second-refused method (R.Layout 0) (take k s) (drop k s) c))
+      go false e =
+          let k : ℕ = 16 * countOf s in
+          let many : 16400 < k = leb-false k 16400 e in
+          let m : length (sheetA (take 32801 s)) ≡ lengthOfA (take 32801 s) = length-take-le (lengthOfA (take 32801 s)) (take 32801 s) (omega (arith, first-cut, cut-length)) in
+          let n : length (sheetA s) ≡ lengthOfA s = length-take-le (lengthOfA s) s (omega (arith, first-whole)) in
+          first-refused method (R.Layout 0) (sheetA (take 32801 s)) (sheetB (take 32801 s)) (too-long (sheetA (take 32801 s)) (omega (arith, m, first-cut)))
+          ∙ sym (first-refused method (R.Layout 0) (sheetA s) (sheetB s) (too-long (sheetA s) (omega (arith, n, first-whole))))
+
+sheets-cut : (method : ℕ) (s : List ℕ) → sheetsText method (take 32801 s) ≡ sheetsText method s
+sheets-cut method s = go (leb (length s) 32801) refl
+  where
+    go : (t : Bool) → leb (length s) 32801 ≡ t → sheetsText method (take 32801 s) ≡ sheetsText method s
+    go true e = ap (sheetsText method) (take-all 32801 s (leb-true (length s) 32801 e))
+    go false e = cut method s (leb-false (length s) 32801 e)
+
+-- ---- the whole input
+pub printed-cut : (s : List ℕ) → printedOf (take 32802 s) ≡ printedOf s
+unfolding printedOf
+printed-cut [] = refl
+printed-cut (x ∷ s) = sheets-cut (digitValue x) s

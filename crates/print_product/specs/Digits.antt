@@ -1,0 +1,29 @@
+-- Numbers as text: decimal, and hexadecimal in capitals. Definitions only (01, "The printed product").
+use mathlib.Core.Bool.{cond}
+use mathlib.Core.List.{List, [], _∷_, _++_}
+use Prim.Native.Nat.{ℕ, zero, suc, _+_, _/_, _%_}
+use lib.Dec.{ltb}
+
+-- the ASCII code of a digit below 16: 0 to 9, then A to F
+unfoldable pub digit : ℕ → ℕ
+digit d = cond (ltb d 10) (48 + d) (55 + d)
+
+-- the last k digits of n in base b, the most significant first
+unfoldable pub digits : ℕ → ℕ → ℕ → List ℕ
+digits b zero n = []
+digits b (suc k) n = digits b k (n / b) ++ (digit (n % b) ∷ [])
+
+-- how many decimal digits n has; t bounds the divisions, and n of them are enough
+unfoldable pub placesTo : ℕ → ℕ → ℕ
+placesTo zero n = 1
+placesTo (suc t) n = cond (ltb n 10) 1 (suc (placesTo t (n / 10)))
+
+abbrev pub places : ℕ → ℕ
+places n = placesTo n n
+
+abbrev pub decimal : ℕ → List ℕ
+decimal n = digits 10 (places n) n
+
+-- a pattern: eight capitals
+abbrev pub hexadecimal : ℕ → List ℕ
+hexadecimal p = digits 16 8 p

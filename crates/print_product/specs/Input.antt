@@ -1,0 +1,29 @@
+-- What is read: one ASCII digit, sheet A, sheet B. Definitions only (01, "The printed product").
+use mathlib.Core.Bool.{cond}
+use mathlib.Core.List.{List}
+use Prim.Native.Nat.{ℕ, _-_, _*_, min}
+use lib.Dec.{ltb}
+use lib.ListN.{length, getD, take, drop}
+use Rattle.sheets.specs.Layout.{countOf}
+
+-- the value of an ASCII digit; 0, which is no method, for any other byte
+unfoldable pub digitValue : ℕ → ℕ
+digitValue b = cond (ltb b 48) 0 (cond (ltb 57 b) 0 (b - 48))
+
+-- the method; 0 where there is no byte
+abbrev pub methodIn : List ℕ → ℕ
+methodIn input = digitValue (getD input 0 0)
+
+abbrev pub sheetsIn : List ℕ → List ℕ
+sheetsIn input = drop 1 input
+
+-- A's length in s, both sheets: 16 × its record count, or all that is left if that is fewer or ends before the count
+unfoldable pub lengthOfA : List ℕ → ℕ
+lengthOfA s = cond (ltb (length s) 6) (length s) (min (16 * countOf s) (length s))
+
+-- A, and B, which is the rest
+abbrev pub sheetA : List ℕ → List ℕ
+sheetA s = take (lengthOfA s) s
+
+abbrev pub sheetB : List ℕ → List ℕ
+sheetB s = drop (lengthOfA s) s

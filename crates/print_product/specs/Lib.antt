@@ -1,0 +1,5 @@
+pub mod Digits
+pub mod Lines
+pub mod Input
+pub mod Printed
+pub mod Put

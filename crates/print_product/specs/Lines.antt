@@ -1,0 +1,29 @@
+-- The lines that are printed: fields one space apart, and a line feed at the end. Definitions only (01, "The printed product").
+use mathlib.Core.List.{List, [], _∷_, _++_}
+use Prim.Native.Nat.{ℕ}
+use Rattle.refusals.specs.declared.Report.{Report}
+use Rattle.print_product.specs.Digits.{decimal, hexadecimal}
+
+abbrev pub line : List (List ℕ) → List ℕ
+line [] = []
+line (f ∷ []) = f ++ (10 ∷ [])
+line (f ∷ g ∷ fs) = (f ++ (32 ∷ [])) ++ line (g ∷ fs)
+
+-- ASCII: product, refused
+abbrev pub product : List ℕ
+product = 112 ∷ 114 ∷ 111 ∷ 100 ∷ 117 ∷ 99 ∷ 116 ∷ []
+
+abbrev pub refused : List ℕ
+refused = 114 ∷ 101 ∷ 102 ∷ 117 ∷ 115 ∷ 101 ∷ 100 ∷ []
+
+-- method, rows, columns
+unfoldable pub productLine : ℕ → ℕ → ℕ → List ℕ
+productLine m r c = line (product ∷ decimal m ∷ decimal r ∷ decimal c ∷ [])
+
+-- row, column, lower, upper
+unfoldable pub cellLine : ℕ → ℕ → ℕ → ℕ → List ℕ
+cellLine i j l u = line (decimal i ∷ decimal j ∷ hexadecimal l ∷ hexadecimal u ∷ [])
+
+-- number, matrix, row, column
+unfoldable pub refusedLine : Report → List ℕ
+refusedLine x = line (refused ∷ decimal (x .number) ∷ decimal (x .matrix) ∷ decimal (x .row) ∷ decimal (x .column) ∷ [])

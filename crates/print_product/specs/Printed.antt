@@ -1,0 +1,31 @@
+-- What is printed for an input. Definitions only (01, "The printed product").
+use mathlib.Core.List.{List, [], _++_}
+use Prim.Native.Nat.{ℕ, zero, suc, _*_, _/_, _%_}
+use lib.ListN.{getD}
+use Rattle.refusals.specs.Report.{reportOf}
+use Rattle.sheets.specs.declared.Outcome.{Outcome}
+use Rattle.sheets.specs.declared.Outcome.the-variants as O
+use Rattle.coupling.specs.Job.{productOf, resultLowers, resultUppers}
+use Rattle.print_product.specs.Lines.{productLine, cellLine, refusedLine}
+use Rattle.print_product.specs.Input.{methodIn, sheetsIn, sheetA, sheetB}
+
+-- the first p cells, by rows
+unfoldable pub cellLines : ℕ → List ℕ → List ℕ → ℕ → List ℕ
+cellLines columns lo up zero = []
+cellLines columns lo up (suc p) = cellLines columns lo up p ++ cellLine (p / columns) (p % columns) (getD lo p 0) (getD up p 0)
+
+-- a product with these bounds
+abbrev pub productText : ℕ → ℕ → ℕ → List ℕ → List ℕ → List ℕ
+productText method rows columns lo up = productLine method rows columns ++ cellLines columns lo up (rows * columns)
+
+-- the job's answer, by the method and the sheets A and B
+abbrev pub answerText : ℕ → List ℕ → List ℕ → Outcome → List ℕ
+answerText method a b (O.Done r c) = productText method r c (resultLowers method a b) (resultUppers method a b)
+answerText method a b (O.Refused x) = refusedLine (reportOf x)
+
+-- s: both sheets
+unfoldable pub sheetsText : ℕ → List ℕ → List ℕ
+sheetsText method s = answerText method (sheetA s) (sheetB s) (productOf method (sheetA s) (sheetB s) 1024 1024)
+
+unfoldable pub printedOf : List ℕ → List ℕ
+printedOf input = sheetsText (methodIn input) (sheetsIn input)

@@ -1,0 +1,86 @@
+// The printed lines, put into a buffer. Each function hands back where the next line starts.
+ghost use Prim.Native.Nat.{_+_, _*_, _≤_, _<_};
+ghost use lib.ListN.{length};
+ghost use Rattle.print_product.specs.Lines.{productLine, cellLine, refusedLine};
+ghost use Rattle.print_product.specs.Printed.{cellLines, productText};
+ghost use Rattle.print_product.specs.Put.{Put};
+use crate::put;
+use refusals::Report;
+
+// "product", method, rows, columns.
+fn product_line(out: &mut [u8], method: usize, rows: usize, columns: usize) -> usize
+    requires { ⌜ (method < 10) × (rows < 100) × (columns < 100) × (16 ≤ length (now out)) ⌝ }
+    ensures { λ r. ⌜ Put 0 (productLine method rows columns) (now (out .entry)) r (now (out .exit)) ⌝ }
+{
+    let mut at = put::bytes(out, 0, b"product ");
+    at = put::decimal(out, at, method, b' ');
+    at = put::decimal(out, at, rows, b' ');
+    put::decimal(out, at, columns, b'\n')
+}
+
+// Row, column, lower, upper.
+fn cell_line(
+    out: &mut [u8],
+    start: usize,
+    row: usize,
+    column: usize,
+    lower: u32,
+    upper: u32,
+) -> usize
+    requires { ⌜ (row < 100) × (column < 100) × (start + 24 ≤ length (now out)) ⌝ }
+    ensures { λ r. ⌜ Put start (cellLine row column lower upper) (now (out .entry)) r (now (out .exit)) ⌝ }
+{
+    let mut at = put::decimal(out, start, row, b' ');
+    at = put::decimal(out, at, column, b' ');
+    at = put::hexadecimal(out, at, lower, b' ');
+    put::hexadecimal(out, at, upper, b'\n')
+}
+
+// The lines of the first count cells, by rows.
+fn cell_lines(
+    out: &mut [u8],
+    start: usize,
+    columns: usize,
+    count: usize,
+    lowers: &[u32],
+    uppers: &[u32],
+) -> usize
+    requires { ⌜ (0 < columns) × (columns ≤ 32) × (count ≤ 32 * columns) × (count ≤ length (now lowers)) × (count ≤ length (now uppers)) × (start + 24 * count ≤ length (now out)) ⌝ }
+    ensures { λ r. ⌜ Put start (cellLines columns (now (lowers .entry)) (now (uppers .entry)) count) (now (out .entry)) r (now (out .exit)) ⌝ }
+{
+    let mut at = start;
+    let mut p = 0;
+    while p < count {
+        at = cell_line(out, at, p / columns, p % columns, lowers[p], uppers[p]);
+        p += 1;
+    }
+    at
+}
+
+// A whole product.
+pub fn product_text(
+    out: &mut [u8],
+    method: usize,
+    rows: usize,
+    columns: usize,
+    lowers: &[u32],
+    uppers: &[u32],
+) -> usize
+    requires { ⌜ (method < 10) × (rows ≤ 32) × (0 < columns) × (columns ≤ 32) × (rows * columns ≤ length (now lowers)) × (rows * columns ≤ length (now uppers)) × (24592 ≤ length (now out)) ⌝ }
+    ensures { λ r. ⌜ Put 0 (productText method rows columns (now (lowers .entry)) (now (uppers .entry))) (now (out .entry)) r (now (out .exit)) ⌝ }
+{
+    let at = product_line(out, method, rows, columns);
+    cell_lines(out, at, columns, rows * columns, lowers, uppers)
+}
+
+// "refused", number, matrix, row, column.
+pub fn refused_line(out: &mut [u8], report: Report) -> usize
+    requires { ⌜ (report .number < 100) × (report .matrix < 100) × (report .row < 10000) × (report .column < 10000) × (24 ≤ length (now out)) ⌝ }
+    ensures { λ r. ⌜ Put 0 (refusedLine report) (now (out .entry)) r (now (out .exit)) ⌝ }
+{
+    let mut at = put::bytes(out, 0, b"refused ");
+    at = put::decimal(out, at, report.number as usize, b' ');
+    at = put::decimal(out, at, report.matrix as usize, b' ');
+    at = put::decimal(out, at, report.row, b' ');
+    put::decimal(out, at, report.column, b'\n')
+}
