@@ -1,7 +1,8 @@
 -- The exact value of an operation on two patterns, from the exact value of their parts; and the answer with its refusals.
 use mathlib.Core.Path.{_≡_, refl, sym, ap, ap₂, _∙_}
 use mathlib.Core.Bool.{Bool, true, false, cond}
-use mathlib.Core.Option.{Option, none, some}
+use mathlib.Core.Logic.{_⊎_, inl, inr}
+use mathlib.Core.Option.{Option, none, some, bind}
 use Prim.Native.Nat.{ℕ}
 use lib.IntN.{ℤ}
 use Rattle.rounding.specs.Format.{binary32}
@@ -9,32 +10,40 @@ use Rattle.rounding.specs.Rounding.{up, down, near}
 use Rattle.binary32.specs.declared.parts.Parts.{Parts}
 use Rattle.binary32.specs.declared.exact.Exact.the-variants.{Value, Unknown}
 use Rattle.binary32.specs.declared.Rounded.the-variants.{Number, NotFinite, Overflow}
-use Rattle.binary32.specs.Number.{valueOf, finite, finites, hold}
-use Rattle.binary32.specs.Operations.{Way, with₂, answerOf, answer, checkedOf}
+use Rattle.binary32.specs.Number.{valueOf, finite, finites, held, hold}
+use Rattle.binary32.specs.Operations.{Way, on₂, with₂, answerOf, answer, checkedOf}
 use Rattle.binary32.specs.Steps.{of, Decoded, Same, Rounds}
-use Rattle.binary32.proofs.Held.{Fits, is-finite, pattern-finite, with-some, with-none}
+use Rattle.binary32.proofs.Held.{Fits, is-finite, pattern-finite, held-finite, held-none, with-some}
 
--- ---- the value of an operation F, in units of 1 / D
-pub rounds-value : (D : ℕ) (F : ℤ → ℤ → ℤ) (a b : ℕ) {x y r : Parts} → finites a b ≡ true → Decoded a x → Decoded b y
-    → Same D (F (of x) (of y)) r
-    → Rounds (λ way u v. way binary32 D (F u v)) a b (Value r)
-rounds-value D F a b t dx dy s =
-    let e : F _ _ ≡ F (valueOf a) (valueOf b) = ap₂ F (dx .value) (dy .value) in
-    record {
-      downs = s .downs ∙ ap (down binary32 D) e ∙ sym (with-some (λ u v. down binary32 D (F u v)) a b t);
-      ups = s .ups ∙ ap (up binary32 D) e ∙ sym (with-some (λ u v. up binary32 D (F u v)) a b t);
-      nears = s .nears ∙ ap (near binary32 D) e ∙ sym (with-some (λ u v. near binary32 D (F u v)) a b t);
-      safe = s .small;
-    }
+-- ---- an operation on two partial results: F in units of 1 / D, where both are numbers
+pub rounds-some : (D : ℕ) (F : ℤ → ℤ → ℤ) (m n : Option ℤ) (x y : Parts) {r : Parts} → m ≡ some (of x) → n ≡ some (of y) → Same D (F (of x) (of y)) r
+    → Rounds (λ way. on₂ (λ u v. way binary32 D (F u v)) m n) (Value r)
+unfolding bind
+rounds-some D F m n x y em en s = record { downs = s .downs ∙ each down; ups = s .ups ∙ each up; nears = s .nears ∙ each near; safe = s .small }
+  where
+    each : (way : Way) → way binary32 D (F (of x) (of y)) ≡ on₂ (λ u v. way binary32 D (F u v)) m n
+    each way = sym (ap₂ (on₂ (λ u v. way binary32 D (F u v))) em en)
 
-pub rounds-none : (op : Way → ℤ → ℤ → Option ℤ) (a b : ℕ) → finites a b ≡ false → Rounds op a b Unknown
-rounds-none op a b t =
-    record {
-      downs = sym (with-none (op down) a b t);
-      ups = sym (with-none (op up) a b t);
-      nears = sym (with-none (op near) a b t);
-      safe = tt;
-    }
+-- none, where one of them is none
+pub on-none : (op : ℤ → ℤ → Option ℤ) (m n : Option ℤ) → (m ≡ none) ⊎ (n ≡ none) → none ≡ on₂ op m n
+unfolding bind
+on-none op m n (inl e) = sym (ap (λ t. on₂ op t n) e)
+on-none op none n (inr e) = refl
+on-none op (some u) n (inr e) = sym (ap (λ t. on₂ op (some u) t) e)
+
+pub rounds-none : (op : Way → ℤ → ℤ → Option ℤ) (m n : Option ℤ) → (m ≡ none) ⊎ (n ≡ none) → Rounds (λ way. on₂ (op way) m n) Unknown
+rounds-none op m n h = record { downs = on-none (op down) m n h; ups = on-none (op up) m n h; nears = on-none (op near) m n h; safe = tt }
+
+-- of two patterns
+pub held-decoded : (p : ℕ) {x : Parts} → finite p ≡ true → Decoded p x → held p ≡ some (of x)
+held-decoded p t d = held-finite p t ∙ ap some (sym (d .value))
+
+pub held-either : (a b : ℕ) → finites a b ≡ false → (held a ≡ none) ⊎ (held b ≡ none)
+held-either a b e = go (finite a) refl
+  where
+    go : (t : Bool) → finite a ≡ t → (held a ≡ none) ⊎ (held b ≡ none)
+    go false f = inl (held-none a f)
+    go true f = inr (held-none b (sym (ap (λ t. cond t (finite b) false) f) ∙ e))
 
 -- ---- the answer, from a result that holds a number or none
 pub checked-is : (op : ℤ → ℤ → Option ℤ) (a b z : ℕ) → finite z ≡ false → Fits (op (valueOf a) (valueOf b))

@@ -13,6 +13,7 @@ pub mod Products
 pub mod Far
 pub mod Sums
 pub mod Unpacking
+pub mod Words
 pub mod Placing
 -- what a pattern holds, and the answer of an operation; for other crates: Held, Numbers, Negation
 pub mod Held

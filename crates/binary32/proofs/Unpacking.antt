@@ -16,12 +16,11 @@ use Rattle.rounding.proofs.Pattern.{val-pattern}
 use Rattle.rounding.proofs.Sign.{neg-mul}
 use Rattle.binary32.specs.declared.parts.Parts.{Parts}
 use Rattle.binary32.specs.declared.unpacked.Held.{Held}
-use Rattle.binary32.specs.declared.unpacked.Held.the-variants.{Number, Nothing}
-use Rattle.binary32.specs.declared.exact.Exact.the-variants.{Value, Unknown}
+use Rattle.binary32.specs.declared.unpacked.Held.the-variants.{Number}
 use Rattle.binary32.specs.Number.{valueOf, finite, held, hold}
 use Rattle.binary32.specs.Operations.{Way, add, with₂, plusOf}
 use Rattle.binary32.specs.Steps.{of, Decoded, Small, packed, exact, exactly, SumIs}
-use Rattle.binary32.specs.Unpacked.{Apart, numberIn, Gives, Totals}
+use Rattle.binary32.specs.Unpacked.{Apart, Gives}
 use Rattle.binary32.proofs.Ints.{read-small}
 use Rattle.binary32.proofs.Held.{Fits, is-finite, held-finite, held-none, held-hold, value-low, value-high}
 
@@ -72,30 +71,6 @@ module _ (z : ℕ) (t : finite z ≡ false) (x : Parts) (small : Small (x .sig) 
       is =
           ap (λ v. packed v j below above) (read-small c (omega arith)) ∙ h
           ∙ ap (λ v. hold z (way binary32 (2 ^ 149) (v *ℤ pos (2 ^ (x .exp))))) (read-small (x .sig) (omega (arith, small .short)))
-
--- ---- a sum
-bind-none : (m : Option ℤ) (op : ℤ → ℤ → Option ℤ) → none ≡ bind m λ x. bind none λ y. op x y
-unfolding bind
-bind-none none op = refl
-bind-none (some x) op = refl
-
-module _ (s : ℕ) where
-  pub totals-some : (x y : Parts) {r : Parts} → finite s ≡ true → Decoded s x → SumIs x y 149 r → Totals s (some (of y)) (Value r)
-  unfolding bind
-  totals-some x y t d h = record { downs = h .downs ∙ each down; ups = h .ups ∙ each up; nears = h .nears ∙ each near; safe = h .small }
-    where
-      each : (way : Way) → way binary32 1 (of x +ℤ of y) ≡ plusOf way s (some (of y))
-      each way = ap (λ v. way binary32 1 (v +ℤ of y)) (d .value) ∙ ap (λ m. bind m λ u. bind (some (of y)) λ v. add way u v) (sym (held-finite s t))
-
-  pub totals-infinite : (y : Parts) → finite s ≡ false → Totals s (some (of y)) Unknown
-  unfolding bind
-  totals-infinite y t = record { downs = each down; ups = each up; nears = each near; safe = tt }
-    where
-      each : (way : Way) → none ≡ plusOf way s (some (of y))
-      each way = ap (λ m. bind m λ u. bind (some (of y)) λ v. add way u v) (sym (held-none s t))
-
-  pub totals-none : Totals s none Unknown
-  totals-none = record { downs = bind-none (held s) (add down); ups = bind-none (held s) (add up); nears = bind-none (held s) (add near); safe = tt }
 
 -- ---- a sum with a term that a pattern holds
 pub plus-held : (way : Way) (s p z : ℕ) (t : Option ℤ) → finite z ≡ false → Fits t → p ≡ hold z t → with₂ (add way) s p ≡ plusOf way s t

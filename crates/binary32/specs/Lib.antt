@@ -4,3 +4,4 @@ pub mod Order
 pub mod Steps
 pub mod Unpacked
 pub mod Place
+pub mod Word

@@ -35,9 +35,13 @@ lifted lift way x y = way binary32 (2 ^ (149 - lift)) (x +ℤ y)
 unfoldable pub with₂ : (ℤ → ℤ → Option ℤ) → ℕ → ℕ → Option ℤ
 with₂ op a b = bind (held a) λ x. bind (held b) λ y. op x y
 
+-- ---- of two partial results
+abbrev pub on₂ : (ℤ → ℤ → Option ℤ) → Option ℤ → Option ℤ → Option ℤ
+on₂ op m n = bind m λ x. bind n λ y. op x y
+
 -- what a pattern holds, and a partial result more
 abbrev pub plusOf : Way → ℕ → Option ℤ → Option ℤ
-plusOf way s t = bind (held s) λ x. bind t λ y. add way x y
+plusOf way s t = on₂ (add way) (held s) t
 
 -- ---- of two patterns, with the refusals: 3 for exponent field 255, 5 where no finite number is right
 

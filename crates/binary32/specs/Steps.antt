@@ -17,7 +17,7 @@ use Rattle.binary32.specs.declared.partial.Both.{Both}
 use Rattle.binary32.specs.declared.exact.Exact.{Exact}
 use Rattle.binary32.specs.declared.exact.Exact.the-variants.{Value, Unknown}
 use Rattle.binary32.specs.Number.{valueOf, holdDown, holdUp, holdNear}
-use Rattle.binary32.specs.Operations.{Way, with₂}
+use Rattle.binary32.specs.Operations.{Way}
 use Rattle.binary32.specs.Order.{all₄}
 
 -- ---- a number taken apart
@@ -140,11 +140,11 @@ abbrev pub Safe : Exact → Type 0
 Safe (Value x) = Small (x .sig) (x .exp)
 Safe Unknown = Unit {0}
 
--- r has the three roundings of the operation op on the patterns a and b, and can be rounded
-pub record Rounds (op : Way → ℤ → ℤ → Option ℤ) (a b : ℕ) (r : Exact) : Type 0 where
-  pub downs : exactly down r ≡ with₂ (op down) a b
-  pub ups : exactly up r ≡ with₂ (op up) a b
-  pub nears : exactly near r ≡ with₂ (op near) a b
+-- r has three roundings, given by the direction, and can be rounded
+pub record Rounds (m : Way → Option ℤ) (r : Exact) : Type 0 where
+  pub downs : exactly down r ≡ m down
+  pub ups : exactly up r ≡ m up
+  pub nears : exactly near r ≡ m near
   pub safe : Safe r
 
 -- ---- r has the patterns of the least of the four products of a, b and c, d, each rounded down, and of the greatest, each rounded up

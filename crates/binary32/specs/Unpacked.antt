@@ -3,12 +3,9 @@ use mathlib.Core.Path.{_≡_}
 use mathlib.Core.Option.{Option, none, some}
 use Prim.Native.Nat.{ℕ, _^_, _≤_, _<_}
 use lib.IntN.{ℤ, natAbs}
-use Rattle.rounding.specs.Rounding.{up, down, near}
 use Rattle.binary32.specs.declared.unpacked.Held.{Held}
 use Rattle.binary32.specs.declared.unpacked.Held.the-variants.{Number, Nothing}
-use Rattle.binary32.specs.declared.exact.Exact.{Exact}
-use Rattle.binary32.specs.Operations.{plusOf}
-use Rattle.binary32.specs.Steps.{of, Short, exactly, Safe}
+use Rattle.binary32.specs.Steps.{of, Short}
 
 -- c * 2 ^ shift, with all 24 digits where it is shifted
 pub record Apart (c : ℤ) (shift : ℕ) : Type 0 where
@@ -29,10 +26,3 @@ Sound Nothing = Unit {0}
 pub record Gives (m : Option ℤ) (r : Held) : Type 0 where
   pub number : numberIn r ≡ m
   pub sound : Sound r
-
--- r has the three roundings of the sum of what the pattern s holds and of t, and can be rounded
-pub record Totals (s : ℕ) (t : Option ℤ) (r : Exact) : Type 0 where
-  pub downs : exactly down r ≡ plusOf down s t
-  pub ups : exactly up r ≡ plusOf up s t
-  pub nears : exactly near r ≡ plusOf near s t
-  pub safe : Safe r

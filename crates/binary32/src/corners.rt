@@ -1,12 +1,10 @@
 // The four corner products of two intervals, each exact product worked out once. Products that are neither small nor large are compared by their places, and the
 // least and the greatest place are rounded; else each product is rounded both ways, and the patterns are compared.
-ghost use mathlib.Core.Path.{_≡_};
-ghost use mathlib.Core.Bool.{cond, false};
-ghost use Rattle.binary32.specs.Number.{finites};
 ghost use Rattle.binary32.specs.Order.{leastCorner, greatestCorner};
 ghost use Prim.Native.Nat.{_*_, _^_, _≤_};
 ghost use lib.IntN.{natAbs, _*ℤ_};
 ghost use Rattle.binary32.specs.Place.{Placed, Between};
+ghost use Rattle.binary32.specs.Word.{heldIn};
 ghost use Rattle.binary32.specs.Steps.{of, Bounded, Factors, BothOf, CornersOf};
 use crate::exact::times;
 use crate::funnel::round_both;
@@ -15,8 +13,8 @@ use crate::order::greatest;
 use crate::order::least;
 use crate::partial::Both;
 use crate::parts::Parts;
-use crate::parts::both_finite;
-use crate::parts::decode;
+use crate::parts::both_numbers;
+use crate::parts::of_word;
 use crate::place::greater;
 use crate::place::lesser;
 use crate::place::pattern_at;
@@ -75,25 +73,21 @@ fn of_parts(a: Parts, b: Parts, c: Parts, d: Parts) -> Both
     by_patterns(a, b, c, d)
 }
 
-// Whether all four patterns stand for numbers.
-fn all_finite(al: u32, au: u32, bl: u32, bu: u32) -> bool
-    ensures { λ r. ⌜ r ≡ cond (finites al au) (finites bl bu) false ⌝ }
+// Of the products of two numbers with two others, all in words: the least, each rounded down, and the greatest, each rounded up.
+pub fn corners(al: u64, au: u64, bl: u64, bu: u64) -> Both
+    ensures { λ r. ⌜ BothOf (leastCorner (heldIn al) (heldIn au) (heldIn bl) (heldIn bu)) (greatestCorner (heldIn al) (heldIn au) (heldIn bl) (heldIn bu)) r ⌝ }
 {
-    if !both_finite(al, au) {
-        return false;
-    }
-    both_finite(bl, bu)
-}
-
-// The least corner product of [al, au] and [bl, bu], each rounded down, and the greatest, each rounded up.
-pub fn corners(al: u32, au: u32, bl: u32, bu: u32) -> Both
-    ensures { λ r. ⌜ BothOf (leastCorner al au bl bu) (greatestCorner al au bl bu) r ⌝ }
-{
-    if !all_finite(al, au, bl, bu) {
+    if !both_numbers(al, au) {
         return Both {
             down: 0xFF80_0000,
             up: 0x7F80_0000,
         };
     }
-    of_parts(decode(al), decode(au), decode(bl), decode(bu))
+    if !both_numbers(bl, bu) {
+        return Both {
+            down: 0xFF80_0000,
+            up: 0x7F80_0000,
+        };
+    }
+    of_parts(of_word(al), of_word(au), of_word(bl), of_word(bu))
 }

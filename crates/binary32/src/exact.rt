@@ -2,11 +2,14 @@
 ghost use mathlib.Core.Path.{_≡_};
 ghost use Prim.Native.Nat.{_-_, _^_, _≤_, _<_};
 ghost use lib.IntN.{pos, natAbs, _+ℤ_, _*ℤ_};
-ghost use Rattle.binary32.specs.Operations.{mul, lifted};
+ghost use Rattle.binary32.specs.Operations.{mul, lifted, with₂, on₂};
 ghost use Rattle.binary32.specs.Steps.{Factors, Summands, Larger, Same, ProductIs, SumIs, Rounds, sgn, earlier, later, of};
+ghost use Rattle.binary32.specs.Word.{heldIn};
 use crate::parts::Parts;
 use crate::parts::both_finite;
+use crate::parts::both_numbers;
 use crate::parts::decode;
+use crate::parts::of_word;
 use crate::parts::power;
 
 // An exact value, or one that has the same roundings; none where an operand holds no number.
@@ -95,7 +98,7 @@ pub fn plus(x: Parts, y: Parts, lift: u32) -> Parts
 
 // a × b, where both patterns stand for numbers.
 pub fn product(a: u32, b: u32) -> Exact
-    ensures { λ r. ⌜ Rounds mul a b r ⌝ }
+    ensures { λ r. ⌜ Rounds (λ way. with₂ (mul way) a b) r ⌝ }
 {
     if both_finite(a, b) {
         return Exact::Value(times(decode(a), decode(b)));
@@ -103,10 +106,20 @@ pub fn product(a: u32, b: u32) -> Exact
     Exact::Unknown
 }
 
+// a × b, where both words hold numbers.
+pub fn product_in(a: u64, b: u64) -> Exact
+    ensures { λ r. ⌜ Rounds (λ way. on₂ (mul way) (heldIn a) (heldIn b)) r ⌝ }
+{
+    if both_numbers(a, b) {
+        return Exact::Value(times(of_word(a), of_word(b)));
+    }
+    Exact::Unknown
+}
+
 // (a + b) × 2^(lift - 149), where both patterns stand for numbers: with lift 149 their sum, with 148 their midpoint.
 pub fn total(a: u32, b: u32, lift: u32) -> Exact
     requires { ⌜ lift ≤ 149 ⌝ }
-    ensures { λ r. ⌜ Rounds (lifted lift) a b r ⌝ }
+    ensures { λ r. ⌜ Rounds (λ way. with₂ (lifted lift way) a b) r ⌝ }
 {
     if both_finite(a, b) {
         return Exact::Value(plus(decode(a), decode(b), lift));

@@ -13,6 +13,7 @@ pub mod partial;
 mod parts;
 mod place;
 mod unpacked;
+pub mod word;
 
 // The format: precision, smallest exponent (one unit is 2^-149) and largest number.
 pub struct Binary32 {

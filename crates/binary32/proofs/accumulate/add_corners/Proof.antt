@@ -25,10 +25,10 @@ returns c =
     record {
       lower =
           d .add-down .ensures
-          ∙ ap holdDown (plus-held down (s .lower) _ 0xFF800000 _ refl (least-fits (s .al) (s .au) (s .bl) (s .bu)) (k .corners .ensures .lower));
+          ∙ ap holdDown (plus-held down (s .lower) _ 0xFF800000 _ refl (least-fits _ _ _ _) (k .corners .ensures .lower));
       upper =
           c .add-up .ensures
-          ∙ ap holdUp (plus-held up (s .upper) _ 0x7F800000 _ refl (greatest-fits (s .al) (s .au) (s .bl) (s .bu)) (k .corners .ensures .upper));
+          ∙ ap holdUp (plus-held up (s .upper) _ 0x7F800000 _ refl (greatest-fits _ _ _ _) (k .corners .ensures .upper));
     }
 
 pub add-corners-spec : {M : Type 1} → statement M

@@ -1,17 +1,19 @@
 -- `binary32::accumulate::add_product_both` meets its contract: the two roundings of one product are kept and added, or a factor is none and both sums are.
 use mathlib.Core.Path.{_≡_, refl, sym, ap, subst, _∙_}
-use mathlib.Core.Option.{Option}
+use mathlib.Core.Logic.{inr}
+use mathlib.Core.Option.{none}
 use Prim.Native.Nat.{ℕ, _^_}
 use lib.IntN.{ℤ}
 use lib.Pow.{pow-pos}
 use Rattle.rounding.specs.Rounding.{up, down}
 use Rattle.binary32.specs.declared.parts.Parts.{Parts}
 use Rattle.binary32.specs.declared.exact.Exact.the-variants.{Unknown}
-use Rattle.binary32.specs.Number.{holdDown, holdUp}
-use Rattle.binary32.specs.Operations.{mul, with₂, plusOf}
+use Rattle.binary32.specs.Number.{held, holdDown, holdUp}
+use Rattle.binary32.specs.Operations.{add, plusOf}
 use Rattle.binary32.specs.Steps.{Small, Safe, exactly}
 use Rattle.binary32.proofs.Numbers.{up-fits, down-fits}
-use Rattle.binary32.proofs.Unpacking.{small-read, cut-gives, totals-none}
+use Rattle.binary32.proofs.Exacts.{rounds-none}
+use Rattle.binary32.proofs.Unpacking.{small-read, cut-gives}
 use borrow.Author.Needs.{needs}
 use Rattle.binary32.proofs.accumulate.add_product_both.Statement.{statement}
 use Rattle.binary32.proofs.accumulate.add_product_both.Tie as tie
@@ -21,10 +23,10 @@ abbrev P : tie.After-p → Parts
 P c = c .p .given .0 .0
 
 small : (c : tie.After-p) → Small (P c .sig) (P c .exp)
-small c = subst Safe (c .p .given .1) (c .before .before .product .ensures .safe)
+small c = subst Safe (c .p .given .1) (c .before .before .product-in .ensures .safe)
 
-product-requires : tie.Need-product-requires
-product-requires c κs = search needs
+product-in-requires : tie.Need-product-in-requires
+product-in-requires c κs = search needs
 
 enum-known-p : tie.Need-enum-known-p
 enum-known-p c = search needs
@@ -69,10 +71,10 @@ returns c =
     record {
       lower =
           d .down-of .ensures
-          ∙ ap holdDown (d .before .sum .ensures .downs ∙ ap (plusOf down (s .lower)) (low .number ∙ sym (ap (exactly down) (v .p .given .1)) ∙ x .product .ensures .downs));
+          ∙ ap holdDown (d .before .sum .ensures .downs ∙ ap (plusOf down (s .lower)) (low .number ∙ sym (ap (exactly down) (v .p .given .1)) ∙ x .product-in .ensures .downs));
       upper =
           c .up-of .ensures
-          ∙ ap holdUp (c .before .sum2 .ensures .ups ∙ ap (plusOf up (s .upper)) (high .number ∙ sym (ap (exactly up) (v .p .given .1)) ∙ x .product .ensures .ups));
+          ∙ ap holdUp (c .before .sum2 .ensures .ups ∙ ap (plusOf up (s .upper)) (high .number ∙ sym (ap (exactly up) (v .p .given .1)) ∙ x .product-in .ensures .ups));
     }
 
 returns-2 : tie.Need-returns-2
@@ -80,15 +82,15 @@ returns-2 c =
     let x = c .before .before in
     let s = x .before .args in
     record {
-      lower = ap holdDown (totals-none (s .lower) .downs ∙ ap (plusOf down (s .lower)) (sym (ap (exactly down) (c .enum-told .given .1)) ∙ x .product .ensures .downs));
-      upper = ap holdUp (totals-none (s .upper) .ups ∙ ap (plusOf up (s .upper)) (sym (ap (exactly up) (c .enum-told .given .1)) ∙ x .product .ensures .ups));
+      lower = ap holdDown (rounds-none add (held (s .lower)) none (inr refl) .downs ∙ ap (plusOf down (s .lower)) (sym (ap (exactly down) (c .enum-told .given .1)) ∙ x .product-in .ensures .downs));
+      upper = ap holdUp (rounds-none add (held (s .upper)) none (inr refl) .ups ∙ ap (plusOf up (s .upper)) (sym (ap (exactly up) (c .enum-told .given .1)) ∙ x .product-in .ensures .ups));
     }
 
 pub add-product-both-spec : {M : Type 1} → statement M
 add-product-both-spec =
     tie.close
     (tie.spec
-    product-requires
+    product-in-requires
     enum-known-p
     cut-requires
     keep-requires

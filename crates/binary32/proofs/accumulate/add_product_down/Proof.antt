@@ -7,8 +7,8 @@ use borrow.Author.Needs.{needs}
 use Rattle.binary32.proofs.accumulate.add_product_down.Statement.{statement}
 use Rattle.binary32.proofs.accumulate.add_product_down.Tie as tie
 
-product-requires : tie.Need-product-requires
-product-requires c κs = search needs
+product-in-requires : tie.Need-product-in-requires
+product-in-requires c κs = search needs
 
 keep-down-requires : tie.Need-keep-down-requires
 keep-down-requires c κs = search needs
@@ -23,8 +23,8 @@ returns : tie.Need-returns
 returns c =
     let k = c .before .before in
     let s = k .before .before .args .s in
-    c .down-of .ensures ∙ ap holdDown (c .before .sum .ensures .downs ∙ ap (plusOf down s) (k .keep-down .ensures .number ∙ k .before .product .ensures .downs))
+    c .down-of .ensures ∙ ap holdDown (c .before .sum .ensures .downs ∙ ap (plusOf down s) (k .keep-down .ensures .number ∙ k .before .product-in .ensures .downs))
 
 pub add-product-down-spec : {M : Type 1} → statement M
 add-product-down-spec =
-    tie.close (tie.spec product-requires keep-down-requires sum-requires down-of-requires returns)
+    tie.close (tie.spec product-in-requires keep-down-requires sum-requires down-of-requires returns)

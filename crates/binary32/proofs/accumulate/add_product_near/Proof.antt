@@ -7,8 +7,8 @@ use borrow.Author.Needs.{needs}
 use Rattle.binary32.proofs.accumulate.add_product_near.Statement.{statement}
 use Rattle.binary32.proofs.accumulate.add_product_near.Tie as tie
 
-product-requires : tie.Need-product-requires
-product-requires c κs = search needs
+product-in-requires : tie.Need-product-in-requires
+product-in-requires c κs = search needs
 
 keep-near-requires : tie.Need-keep-near-requires
 keep-near-requires c κs = search needs
@@ -23,8 +23,8 @@ returns : tie.Need-returns
 returns c =
     let k = c .before .before in
     let s = k .before .before .args .s in
-    c .near-of .ensures ∙ ap holdNear (c .before .sum .ensures .nears ∙ ap (plusOf near s) (k .keep-near .ensures .number ∙ k .before .product .ensures .nears))
+    c .near-of .ensures ∙ ap holdNear (c .before .sum .ensures .nears ∙ ap (plusOf near s) (k .keep-near .ensures .number ∙ k .before .product-in .ensures .nears))
 
 pub add-product-near-spec : {M : Type 1} → statement M
 add-product-near-spec =
-    tie.close (tie.spec product-requires keep-near-requires sum-requires near-of-requires returns)
+    tie.close (tie.spec product-in-requires keep-near-requires sum-requires near-of-requires returns)

@@ -7,8 +7,8 @@ use borrow.Author.Needs.{needs}
 use Rattle.binary32.proofs.accumulate.add_product_up.Statement.{statement}
 use Rattle.binary32.proofs.accumulate.add_product_up.Tie as tie
 
-product-requires : tie.Need-product-requires
-product-requires c κs = search needs
+product-in-requires : tie.Need-product-in-requires
+product-in-requires c κs = search needs
 
 keep-up-requires : tie.Need-keep-up-requires
 keep-up-requires c κs = search needs
@@ -23,8 +23,8 @@ returns : tie.Need-returns
 returns c =
     let k = c .before .before in
     let s = k .before .before .args .s in
-    c .up-of .ensures ∙ ap holdUp (c .before .sum .ensures .ups ∙ ap (plusOf up s) (k .keep-up .ensures .number ∙ k .before .product .ensures .ups))
+    c .up-of .ensures ∙ ap holdUp (c .before .sum .ensures .ups ∙ ap (plusOf up s) (k .keep-up .ensures .number ∙ k .before .product-in .ensures .ups))
 
 pub add-product-up-spec : {M : Type 1} → statement M
 add-product-up-spec =
-    tie.close (tie.spec product-requires keep-up-requires sum-requires up-of-requires returns)
+    tie.close (tie.spec product-in-requires keep-up-requires sum-requires up-of-requires returns)

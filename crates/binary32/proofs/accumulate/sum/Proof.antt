@@ -1,12 +1,17 @@
--- `binary32::accumulate::sum` meets its contract: both are numbers (`totals-some`), s is none (`totals-infinite`), or y is (`totals-none`).
-use mathlib.Core.Path.{sym, ap, subst, _∙_}
+-- `binary32::accumulate::sum` meets its contract: both are numbers, or s or y is none.
+use mathlib.Core.Path.{refl, sym, subst, _∙_}
+use mathlib.Core.Logic.{inl, inr}
+use mathlib.Core.Option.{none, some}
 use native.Mathlib.Omega.{arith}
+use lib.IntN.{_+ℤ_}
 use Rattle.binary32.specs.declared.parts.Parts.{Parts}
 use Rattle.binary32.specs.declared.exact.Exact.the-variants.{Value, Unknown}
-use Rattle.binary32.specs.Steps.{Short}
-use Rattle.binary32.specs.Unpacked.{numberIn, Sound, Totals}
-use Rattle.binary32.proofs.Held.{finite-is}
-use Rattle.binary32.proofs.Unpacking.{totals-some, totals-infinite, totals-none}
+use Rattle.binary32.specs.Number.{held}
+use Rattle.binary32.specs.Operations.{add, plusOf}
+use Rattle.binary32.specs.Steps.{of, Short, Rounds}
+use Rattle.binary32.specs.Unpacked.{numberIn, Sound}
+use Rattle.binary32.proofs.Held.{finite-is, held-none}
+use Rattle.binary32.proofs.Exacts.{rounds-some, rounds-none, held-decoded}
 use borrow.Author.Needs.{needs}
 use Rattle.binary32.proofs.accumulate.sum.Statement.{statement}
 use Rattle.binary32.proofs.accumulate.sum.Tie as tie
@@ -36,8 +41,8 @@ returns c =
     let t = d .before in
     let v = t .before .before .before in
     let s = v .before .before .args .s in
-    subst (λ y. Totals s (numberIn y) (Value (c .plus .result))) (sym (v .y .given .1))
-    (totals-some s (d .decode .result) (P v) (sym (t .before .is-finite .ensures) ∙ t .if1 .taken) (d .decode .ensures) (c .plus .ensures))
+    subst (λ y. Rounds (λ way. plusOf way s (numberIn y)) (Value (c .plus .result))) (sym (v .y .given .1))
+    (rounds-some 1 _+ℤ_ (held s) (some (of (P v))) (d .decode .result) (P v) (held-decoded s (sym (t .before .is-finite .ensures) ∙ t .if1 .taken) (d .decode .ensures)) refl (c .plus .ensures))
 
 enum-told : tie.Need-enum-told
 enum-told c = search needs
@@ -46,10 +51,13 @@ returns-2 : tie.Need-returns-2
 returns-2 c =
     let v = c .before .before .before in
     let s = v .before .before .args .s in
-    subst (λ y. Totals s (numberIn y) Unknown) (sym (v .y .given .1)) (totals-infinite s (P v) (sym (c .before .is-finite .ensures) ∙ c .if1 .left))
+    subst (λ y. Rounds (λ way. plusOf way s (numberIn y)) Unknown) (sym (v .y .given .1))
+    (rounds-none add (held s) (some (of (P v))) (inl (held-none s (sym (c .before .is-finite .ensures) ∙ c .if1 .left))))
 
 returns-3 : tie.Need-returns-3
-returns-3 c = subst (λ y. Totals (c .before .before .args .s) (numberIn y) Unknown) (sym (c .enum-told .given .1)) (totals-none (c .before .before .args .s))
+returns-3 c =
+    let s = c .before .before .args .s in
+    subst (λ y. Rounds (λ way. plusOf way s (numberIn y)) Unknown) (sym (c .enum-told .given .1)) (rounds-none add (held s) none (inr refl))
 
 pub sum-spec : {M : Type 1} → statement M
 sum-spec =

@@ -1,81 +1,107 @@
--- `binary32::corners::corners` meets its contract: all four patterns are finite, and `of_parts` finds both ends (`corners-some`), or one is not
+-- `binary32::corners::corners` meets its contract: all four words hold numbers, and `of_parts` finds both ends (`corners-some`), or one holds none
 -- and a corner product is refused (`corners-none`).
-use mathlib.Core.Path.{_≡_, sym, _∙_}
+use mathlib.Core.Path.{_≡_, sym, ap, subst, _∙_}
 use mathlib.Core.Bool.{true, false, cond}
+use mathlib.Core.Logic.{inl, inr}
+use mathlib.Core.Option.{some}
+use Prim.Native.Nat.{ℕ, _*_, _^_, _<_}
+use lib.Dec.{ltb}
 use borrow.Author.Tests.{not-true, not-false}
-use Rattle.binary32.specs.Number.{finites}
-use Rattle.binary32.proofs.Held.{and-first, and-second, finite-is, finites-first, finites-second}
+use Rattle.binary32.specs.declared.parts.Parts.{Parts}
+use Rattle.binary32.specs.Steps.{of, Bounded}
+use Rattle.binary32.specs.Word.{partsIn, heldIn}
 use Rattle.binary32.proofs.CornerLaws.{corners-some, corners-none}
-use Rattle.binary32.proofs.Products.{bounded}
+use Rattle.binary32.proofs.Words.{in-some, first-in, second-in, either-none, bounded-in}
 use borrow.Author.Needs.{needs}
 use Rattle.binary32.proofs.corners.corners.Statement.{statement}
 use Rattle.binary32.proofs.corners.corners.Tie as tie
 
-all-finite-requires : tie.Need-all-finite-requires
-all-finite-requires c κs = search needs
+both-numbers-requires : tie.Need-both-numbers-requires
+both-numbers-requires c κs = search needs
 
 returns : tie.Need-returns
 returns c =
     let s = c .before .before .args in
-    corners-none (s .al) (s .au) (s .bl) (s .bu) (sym (c .before .all-finite .ensures) ∙ not-true _ (c .if1 .taken))
+    corners-none _ _ _ _ (inl (either-none (s .al) (s .au) (sym (c .before .both-numbers .ensures) ∙ not-true _ (c .if1 .taken))))
 
--- all four are finite
-abbrev S : tie.Else1 → tie.Start
-S c = c .before .before
-
-all : (c : tie.Else1) → cond (finites (S c .args .al) (S c .args .au)) (finites (S c .args .bl) (S c .args .bu)) false ≡ true
-all c = sym (c .before .all-finite .ensures) ∙ not-false _ (c .if1 .left)
-
-first : (c : tie.Else1) → finites (S c .args .al) (S c .args .au) ≡ true
-first c = and-first (finites (S c .args .al) (S c .args .au)) (finites (S c .args .bl) (S c .args .bu)) (all c)
-
-second : (c : tie.Else1) → finites (S c .args .bl) (S c .args .bu) ≡ true
-second c = and-second (finites (S c .args .al) (S c .args .au)) (finites (S c .args .bl) (S c .args .bu)) (all c)
-
-decode-requires : tie.Need-decode-requires
-decode-requires c κs = finite-is (S c .args .al) (finites-first (S c .args .al) (S c .args .au) (first c))
-
-decode-requires-2 : tie.Need-decode-requires-2
-decode-requires-2 c κs =
-    let e = c .before in
-    finite-is (S e .args .au) (finites-second (S e .args .al) (S e .args .au) (first e))
-
-decode-requires-3 : tie.Need-decode-requires-3
-decode-requires-3 c κs =
-    let e = c .before .before in
-    finite-is (S e .args .bl) (finites-first (S e .args .bl) (S e .args .bu) (second e))
-
-decode-requires-4 : tie.Need-decode-requires-4
-decode-requires-4 c κs =
-    let e = c .before .before .before in
-    finite-is (S e .args .bu) (finites-second (S e .args .bl) (S e .args .bu) (second e))
-
-of-parts-requires : tie.Need-of-parts-requires
-of-parts-requires c κs = (
-  bounded (c .before .before .before .decode .ensures .short),
-  bounded (c .before .before .decode2 .ensures .short),
-  bounded (c .before .decode3 .ensures .short),
-  bounded (c .decode4 .ensures .short),
-)
+both-numbers-requires-2 : tie.Need-both-numbers-requires-2
+both-numbers-requires-2 c κs = search needs
 
 returns-2 : tie.Need-returns-2
 returns-2 c =
-    let d = c .before in
-    let e = d .before .before .before .before in
-    let s = S e .args in
-    corners-some (s .al) (s .au) (s .bl) (s .bu) (first e) (second e)
-    (d .before .before .before .decode .ensures) (d .before .before .decode2 .ensures) (d .before .decode3 .ensures) (d .decode4 .ensures)
-    (c .of-parts .ensures)
+    let s = c .before .before .before .before .args in
+    corners-none _ _ _ _ (inr (either-none (s .bl) (s .bu) (sym (c .before .both-numbers2 .ensures) ∙ not-true _ (c .if2 .taken))))
+
+-- all four hold numbers
+module _ (c : tie.Else2) where
+  abbrev start : tie.Start
+  start = c .before .before .before .before
+
+  a-in : cond (ltb (start .args .al) (254 * 2 ^ 26)) (ltb (start .args .au) (254 * 2 ^ 26)) false ≡ true
+  a-in = sym (c .before .before .before .both-numbers .ensures) ∙ not-false _ (c .before .before .if1 .left)
+
+  b-in : cond (ltb (start .args .bl) (254 * 2 ^ 26)) (ltb (start .args .bu) (254 * 2 ^ 26)) false ≡ true
+  b-in = sym (c .before .both-numbers2 .ensures) ∙ not-false _ (c .if2 .left)
+
+  al-in : start .args .al < 254 * 2 ^ 26
+  al-in = first-in (start .args .al) (start .args .au) a-in
+
+  au-in : start .args .au < 254 * 2 ^ 26
+  au-in = second-in (start .args .al) (start .args .au) a-in
+
+  bl-in : start .args .bl < 254 * 2 ^ 26
+  bl-in = first-in (start .args .bl) (start .args .bu) b-in
+
+  bu-in : start .args .bu < 254 * 2 ^ 26
+  bu-in = second-in (start .args .bl) (start .args .bu) b-in
+
+of-word-requires : tie.Need-of-word-requires
+of-word-requires c κs = al-in c
+
+of-word-requires-2 : tie.Need-of-word-requires-2
+of-word-requires-2 c κs = au-in (c .before)
+
+of-word-requires-3 : tie.Need-of-word-requires-3
+of-word-requires-3 c κs = bl-in (c .before .before)
+
+of-word-requires-4 : tie.Need-of-word-requires-4
+of-word-requires-4 c κs = bu-in (c .before .before .before)
+
+-- what a word's parts are, and what it holds
+bounded-of : (w : ℕ) (x : Parts) → w < 254 * 2 ^ 26 → x ≡ partsIn w → Bounded x
+bounded-of w x h e = subst Bounded (sym e) (bounded-in w h)
+
+held-of : (w : ℕ) (x : Parts) → w < 254 * 2 ^ 26 → x ≡ partsIn w → heldIn w ≡ some (of x)
+held-of w x h e = in-some w h ∙ ap (λ y. some (of y)) (sym e)
+
+of-parts-requires : tie.Need-of-parts-requires
+of-parts-requires c κs =
+    let f = c .before .before .before .before in (
+      bounded-of _ _ (al-in f) (c .before .before .before .of-word .ensures),
+      bounded-of _ _ (au-in f) (c .before .before .of-word2 .ensures),
+      bounded-of _ _ (bl-in f) (c .before .of-word3 .ensures),
+      bounded-of _ _ (bu-in f) (c .of-word4 .ensures),
+    )
+
+returns-3 : tie.Need-returns-3
+returns-3 c =
+    let w = c .before in
+    let f = w .before .before .before .before in
+    corners-some _ _ _ _ (w .before .before .before .of-word .result) (w .before .before .of-word2 .result) (w .before .of-word3 .result) (w .of-word4 .result)
+    (held-of _ _ (al-in f) (w .before .before .before .of-word .ensures)) (held-of _ _ (au-in f) (w .before .before .of-word2 .ensures))
+    (held-of _ _ (bl-in f) (w .before .of-word3 .ensures)) (held-of _ _ (bu-in f) (w .of-word4 .ensures)) (c .of-parts .ensures)
 
 pub corners-spec : {M : Type 1} → statement M
 corners-spec =
     tie.close
     (tie.spec
-    all-finite-requires
+    both-numbers-requires
     returns
-    decode-requires
-    decode-requires-2
-    decode-requires-3
-    decode-requires-4
+    both-numbers-requires-2
+    returns-2
+    of-word-requires
+    of-word-requires-2
+    of-word-requires-3
+    of-word-requires-4
     of-parts-requires
-    returns-2)
+    returns-3)

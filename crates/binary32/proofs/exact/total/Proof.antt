@@ -6,7 +6,9 @@ use lib.IntN.{_+ℤ_}
 use Rattle.binary32.specs.Number.{finites}
 use Rattle.binary32.specs.Operations.{lifted}
 use Rattle.binary32.proofs.Held.{finite-is, finites-first, finites-second}
-use Rattle.binary32.proofs.Exacts.{rounds-value, rounds-none}
+use Rattle.binary32.proofs.Exacts.{rounds-some, rounds-none, held-decoded, held-either}
+use Rattle.binary32.specs.Number.{held}
+use Rattle.binary32.specs.Operations.{with₂}
 use borrow.Author.Needs.{needs}
 use Rattle.binary32.proofs.exact.total.Statement.{statement}
 use Rattle.binary32.proofs.exact.total.Tie as tie
@@ -32,15 +34,20 @@ plus-requires : tie.Need-plus-requires
 plus-requires c κs = search needs
 
 returns : tie.Need-returns
+unfolding with₂
 returns c =
     let d = c .before in
-    let s = d .before .before .before .before .args in
-    rounds-value (2 ^ (149 - s .lift)) _+ℤ_ (s .a) (s .b) (told (d .before .before)) (d .before .decode .ensures) (d .decode2 .ensures) (c .plus .ensures)
+    let t = d .before .before in
+    let s = t .before .before .args in
+    rounds-some (2 ^ (149 - s .lift)) _+ℤ_ (held (s .a)) (held (s .b)) (d .before .decode .result) (d .decode2 .result)
+    (held-decoded (s .a) (finites-first (s .a) (s .b) (told t)) (d .before .decode .ensures)) (held-decoded (s .b) (finites-second (s .a) (s .b) (told t)) (d .decode2 .ensures))
+    (c .plus .ensures)
 
 returns-2 : tie.Need-returns-2
+unfolding with₂
 returns-2 c =
     let s = c .before .before .args in
-    rounds-none (lifted (s .lift)) (s .a) (s .b) (sym (c .before .both-finite .ensures) ∙ c .if1 .left)
+    rounds-none (lifted (s .lift)) (held (s .a)) (held (s .b)) (held-either (s .a) (s .b) (sym (c .before .both-finite .ensures) ∙ c .if1 .left))
 
 pub total-spec : {M : Type 1} → statement M
 total-spec =
