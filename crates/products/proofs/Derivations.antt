@@ -16,7 +16,7 @@ use Rattle.binary32.specs.Operations.{add, mul, with₂}
 use Rattle.binary32.specs.Order.{magnitudeOf, leastOf}
 use Rattle.binary32.proofs.Held.{held-hold}
 use Rattle.products.specs.declared.derived.Kind.{Kind}
-use Rattle.products.specs.declared.derived.Kind.the-variants.{Magnitude, Radius, Wide, Raised, Part, PartMagnitude, PartOpposed}
+use Rattle.products.specs.declared.derived.Kind.the-variants.{Middle, Magnitude, Radius, Wide, Raised, Part, PartMagnitude, PartOpposed}
 use Rattle.products.specs.Derived.{MidRad, Derives, derivedOf}
 use Rattle.products.proofs.Steps.{plus-up-fits, mul-up-fits}
 use Rattle.products.proofs.Patterns.{held-is, low-value, high-value, magnitude-value, magnitude-finite, held-magnitude, held-negated, held-least, min-zero}
@@ -55,6 +55,10 @@ part-high m r q p z M h l e f g =
 -- ---- the kinds
 
 module _ (kind : Kind) (m r p : ℕ) where
+  pub middle-derived : kind ≡ Middle → MidRad m r → p ≡ m → Derives kind m r p
+  unfolding derivedOf
+  middle-derived k M e = subst (λ x. Derives x m r p) (sym k) (record { holds = ap held e ∙ held-is m (M .mid) })
+
   pub magnitude-derived : kind ≡ Magnitude → MidRad m r → p ≡ magnitudeOf m → Derives kind m r p
   unfolding derivedOf
   magnitude-derived k M e = subst (λ x. Derives x m r p) (sym k) (record { holds = ap held e ∙ held-magnitude m (held-is m (M .mid)) })

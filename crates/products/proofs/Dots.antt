@@ -1,20 +1,18 @@
 -- Sums of products along a row and a column: one turn of a loop that keeps such a sum as a pattern, its stop at a refused step, and its end.
-use mathlib.Core.Path.{_≡_, refl, sym, ap, ap₂, _∙_, subst}
+use mathlib.Core.Path.{_≡_, refl, sym, ap, _∙_, subst}
 use mathlib.Core.Bool.{true, false, cond}
 use mathlib.Core.List.{List}
 use mathlib.Core.Option.{Option, none, some, bind, Option·none-ne-some}
-use Prim.Native.Nat.{ℕ, zero, suc, _+_, _-_, _*_, _^_, _≤_, _<_}
+use Prim.Native.Nat.{ℕ, zero, suc, _+_, _-_, _*_, _≤_, _<_}
 use native.Mathlib.Nat.{zero-add, mul-le-mul-right}
 use native.Mathlib.Numerals.{add-one}
 use native.Mathlib.Omega.{arith}
 use lib.Dec.{lit<}
-use lib.IntN.{ℤ, _+ℤ_, _*ℤ_}
-use lib.ListN.{getD}
-use lib.Pow.{pow-pos}
+use lib.IntN.{ℤ, _+ℤ_}
 use Rattle.rounding.specs.Format.{binary32}
 use Rattle.enclosure.specs.Sums.{sum}
 use Rattle.binary32.specs.Number.{finite, held, patternOf, hold}
-use Rattle.binary32.specs.Operations.{Way, add, mul, with₂, plusOf}
+use Rattle.binary32.specs.Operations.{Way, add, plusOf}
 use Rattle.binary32.proofs.Held.{Fits, is-finite, pattern-finite, held-hold}
 use Rattle.products.specs.Stages.{productAt, dotOf}
 

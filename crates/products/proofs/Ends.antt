@@ -16,8 +16,7 @@ use Rattle.products.specs.Running.{nextOf, heldNext}
 use Rattle.products.specs.Entries.{patternsOf}
 use Rattle.products.specs.MidRad.{endsOf}
 use Rattle.products.proofs.Steps.{bind-fits, held-next}
-use Rattle.products.proofs.Nexts.{next-none}
-use Rattle.products.proofs.Running.{patterns-both}
+use Rattle.products.proofs.Nexts.{next-none, patterns-both}
 
 ends-next : (R S T : Option ℤ) → nextOf (bind S λ x. bind R λ y. sub down x y) (bind T λ x. bind R λ y. add up x y) ≡ patternsOf (ends (of binary32) R S T)
 unfolding ends bind

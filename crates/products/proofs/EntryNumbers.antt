@@ -12,7 +12,7 @@ use Rattle.binary32.proofs.Held.{Fits}
 use Rattle.binary32.proofs.Numbers.{down-fits, up-fits}
 use Rattle.products.specs.Matrix.{Matrix}
 use Rattle.products.specs.Entries.{entryOf}
-use Rattle.products.proofs.Running.{lowerTo, upperTo, lower-fits, upper-fits}
+use Rattle.products.proofs.Running.{sum-fits}
 
 pub record Numbers (e : Range) : Type 0 where
   pub lower : Num binary32 (e .lower)
@@ -35,8 +35,8 @@ ends-numbers (some r) (some s) none e h = absurd (Option·none-ne-some e h)
 ends-numbers (some r) (some s) (some t) e h = both-numbers (down binary32 1 (s -ℤ r)) (up binary32 1 (t +ℤ r)) e (down-fits 1 (lit< tt) (s -ℤ r)) (up-fits 1 (lit< tt) (t +ℤ r)) h
 
 pub entry-numbers : (m : Method) (k n : ℕ) (A B : Matrix) (i j : ℕ) (e : Range) → entryOf m k n A B i j ≡ some e → Numbers e
-unfolding entryOf entry entry₁ total lowerTo upperTo
-entry-numbers classical k n A B i j e h = both-numbers (lowerTo k n A B i j k) (upperTo k n A B i j k) e (lower-fits k n A B i j k) (upper-fits k n A B i j k) h
+unfolding entryOf entry entry₁ total
+entry-numbers classical k n A B i j e h = both-numbers _ _ e (sum-fits down (down-fits 1 (lit< tt)) _ k) (sum-fits up (up-fits 1 (lit< tt)) _ k) h
 entry-numbers three k n A B i j e h = ends-numbers _ _ _ e h
 entry-numbers four k n A B i j e h = ends-numbers _ _ _ e h
 entry-numbers seven k n A B i j e h = ends-numbers _ _ _ e h

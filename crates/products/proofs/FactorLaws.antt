@@ -15,20 +15,20 @@ use Rattle.rounding.specs.Rounding.{up}
 use Rattle.enclosure.specs.Cell.{Cell}
 use Rattle.enclosure.proofs.Conversion.{cell-converted}
 use Rattle.binary32.specs.Number.{valueOf, held}
+use Rattle.binary32.specs.Word.{heldIn}
 use Rattle.binary32.proofs.Held.{pattern-value, pattern-finite}
 use Rattle.intervals.specs.Conversion.{midOf, radOf}
 use Rattle.intervals.proofs.Rounded.{mid-num, rad-num}
 use Rattle.intervals.proofs.Faults.{Ordered, fine-tells}
 use Rattle.products.specs.declared.derived.Kind.{Kind}
-use Rattle.products.specs.declared.derived.Kind.the-variants.{Magnitude, Radius, Wide, Raised, Part, PartMagnitude, PartOpposed}
+use Rattle.products.specs.declared.derived.Kind.the-variants.{Middle, Magnitude, Radius, Wide, Raised, Part, PartMagnitude, PartOpposed}
 use Rattle.products.specs.Lists.{front}
 use Rattle.products.specs.Matrix.{Matrix, AllFine, lowerAt, upperAt, cellAt, midAt, radAt}
-use Rattle.products.specs.Derived.{MidRad, Derives, derivedOf, raisedOf}
+use Rattle.products.specs.Derived.{MidRad, derivedOf, raisedOf}
 use Rattle.products.specs.Checks.{chosen, methodOf}
 use Rattle.products.specs.Converted.{Numbered, is-three, is-four, is-seven, Cells, DerivesAll, innerOf, InnerAll}
 use Rattle.products.specs.Factors.{Holds, innerRadius, Factors, Parts}
 use Rattle.products.proofs.Fronts.{getD-front, length-front}
-use Rattle.products.proofs.Patterns.{held-is}
 
 -- ---- a converted cell without a fault
 module _ (X : Matrix) (c : ℕ) (o : Ordered (lowerAt X c) (upperAt X c)) where
@@ -60,17 +60,17 @@ inner-radius _ k is-three x = refl
 inner-radius _ k is-four x = refl
 inner-radius _ k is-seven x = refl
 
-pub inner-three : (method k m r p x : ℕ) → method ≡ 3 → held x ≡ raisedOf k → Derives (Raised x) m r p → held p ≡ innerOf method k (valueOf m) (valueOf r)
+pub inner-three : (method k m r p x : ℕ) → method ≡ 3 → held x ≡ raisedOf k → heldIn p ≡ derivedOf (Raised x) (valueOf m) (valueOf r) → heldIn p ≡ innerOf method k (valueOf m) (valueOf r)
 unfolding innerOf derivedOf raisedOf bind
 inner-three method k m r p x e f d =
-    subst (λ z. held p ≡ innerOf z k (valueOf m) (valueOf r)) (sym e)
-    (d .holds ∙ ap (λ h. bind (bind h λ f. up binary32 (2 ^ 149) (f *ℤ abs (valueOf m))) λ t. up binary32 1 (t +ℤ valueOf r)) f)
+    subst (λ z. heldIn p ≡ innerOf z k (valueOf m) (valueOf r)) (sym e)
+    (d ∙ ap (λ h. bind (bind h λ f. up binary32 (2 ^ 149) (f *ℤ abs (valueOf m))) λ t. up binary32 1 (t +ℤ valueOf r)) f)
 
-pub inner-other : (method k m r p : ℕ) → (method ≡ 3 → ⊥) → Derives Radius m r p → held p ≡ innerOf method k (valueOf m) (valueOf r)
+pub inner-other : (method k m r p : ℕ) → (method ≡ 3 → ⊥) → heldIn p ≡ derivedOf Radius (valueOf m) (valueOf r) → heldIn p ≡ innerOf method k (valueOf m) (valueOf r)
 unfolding innerOf derivedOf
 inner-other method k m r p e d =
     let three = bind (up binary32 (2 ^ 149) (pos ((k + 2) * 2 ^ 125) *ℤ abs (valueOf m))) λ t. up binary32 1 (t +ℤ valueOf r) in
-    d .holds ∙ sym (ap (λ s. cond s three (some (valueOf r))) (ne-eqb method 3 e))
+    d ∙ sym (ap (λ s. cond s three (some (valueOf r))) (ne-eqb method 3 e))
 
 -- ---- the first count cells, converted into m and r
 pub record Converted (X : Matrix) (count : ℕ) (m r : List ℕ) : Type 0 where
@@ -107,15 +107,9 @@ module _ {X : Matrix} {count : ℕ} {m r : List ℕ} (C : Converted X count m r)
   pub cells : (out : ℕ) → count ≤ out → Cells count m r out
   cells out h = record { mids = C .mids; rads = C .rads; room = h; each = both }
 
-  pub mids-hold : Holds m count (λ c. some (cellAt X c .mid))
-  mids-hold = record { long = C .mids; each = λ c h. held-is (getD m c 0) (both c h .mid) ∙ ap some (mid-is c h) }
-
-  pub rads-hold : Holds r count (λ c. some (cellAt X c .rad))
-  rads-hold = record { long = C .rads; each = λ c h. held-is (getD r c 0) (both c h .rad) ∙ ap some (rad-is c h) }
-
   module _ (p : List ℕ) (long : count ≤ length p) where
     pub derived-hold : (kind : Kind) → DerivesAll kind count m r p → Holds p count (λ c. derivedOf kind (cellAt X c .mid) (cellAt X c .rad))
-    derived-hold kind d = record { long = long; each = λ c h. d c h .holds ∙ ap₂ (derivedOf kind) (mid-is c h) (rad-is c h) }
+    derived-hold kind d = record { long = long; each = λ c h. d c h ∙ ap₂ (derivedOf kind) (mid-is c h) (rad-is c h) }
 
     pub inner-hold : (method k : ℕ) → Numbered method → InnerAll method k count m r p → Holds p count (λ c. innerRadius (chosen method) k (cellAt X c))
     inner-hold method k N d =
@@ -123,15 +117,17 @@ module _ {X : Matrix} {count : ℕ} {m r : List ℕ} (C : Converted X count m r)
 
 -- ---- both matrices
 module _ {A B : Matrix} {a b : ℕ} {ma ra mb rb : List ℕ} (CA : Converted A a ma ra) (CB : Converted B b mb rb) where
-  pub factors : (method k : ℕ) (ua vb wb : List ℕ) → Numbered method → a ≤ length ua → b ≤ length vb → b ≤ length wb
-      → DerivesAll Magnitude a ma ra ua → InnerAll method k b mb rb vb → DerivesAll Wide b mb rb wb → Factors (chosen method) k A B a b ma ra ua mb vb wb
+  pub factors : (method k : ℕ) (na sa ua nb vb wb : List ℕ) → Numbered method
+      → a ≤ length na → a ≤ length sa → a ≤ length ua → b ≤ length nb → b ≤ length vb → b ≤ length wb
+      → DerivesAll Middle a ma ra na → DerivesAll Radius a ma ra sa → DerivesAll Magnitude a ma ra ua
+      → DerivesAll Middle b mb rb nb → InnerAll method k b mb rb vb → DerivesAll Wide b mb rb wb → Factors (chosen method) k A B a b na sa ua nb vb wb
   unfolding derivedOf
-  factors method k ua vb wb N lu lv lw du dv dw =
+  factors method k na sa ua nb vb wb N ln ls lu lm lv lw dn ds du dm dv dw =
       record {
-        a-mids = mids-hold CA;
-        a-rads = rads-hold CA;
+        a-mids = derived-hold CA na ln Middle dn;
+        a-rads = derived-hold CA sa ls Radius ds;
         a-magnitudes = derived-hold CA ua lu Magnitude du;
-        b-mids = mids-hold CB;
+        b-mids = derived-hold CB nb lm Middle dm;
         b-inner = inner-hold CB vb lv method k N dv;
         b-outer = derived-hold CB wb lw Wide dw;
       }

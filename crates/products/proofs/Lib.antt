@@ -19,6 +19,7 @@ pub mod Terms
 pub mod Centres
 pub mod MidRadPlaces
 pub mod MidRads
+pub mod ClassicalWords
 pub mod EntryNumbers
 pub mod Keeping
 pub mod Accepted

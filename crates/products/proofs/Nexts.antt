@@ -1,13 +1,14 @@
 -- Two partial results, a lower and an upper sum, as patterns: what they hold when both are numbers, and which is none when they are refused.
 use mathlib.Core.Path.{_≡_, refl, sym, ap, _∙_, subst}
 use mathlib.Core.Logic.{_⊎_, inl, inr}
-use mathlib.Core.Option.{Option, none, some}
+use mathlib.Core.Option.{Option, none, some, bind}
 use lib.IntN.{ℤ}
 use Rattle.binary32.specs.Number.{held}
 use Rattle.binary32.proofs.Held.{Fits, held-hold}
 use Rattle.products.specs.declared.sums.Sums.{Sums}
 use Rattle.products.specs.declared.sums.Next.{Next}
 use Rattle.products.specs.declared.sums.Next.the-variants.{More, Overflow}
+use Rattle.products.specs.Entries.{patternsOf}
 use Rattle.products.specs.Running.{nextOf, zeroSums}
 
 abbrev more-sums : Next → Sums
@@ -40,3 +41,10 @@ next-refused (some u) (some v) e = overflow-more (sym e)
 pub next-none : (a : Option ℤ) → nextOf a none ≡ Overflow
 next-none none = refl
 next-none (some u) = refl
+
+-- an entry of two sums
+pub patterns-both : (x y : Option ℤ) → patternsOf (bind x λ l. bind y λ u. some (record { lower = l; upper = u })) ≡ nextOf x y
+unfolding bind
+patterns-both none y = refl
+patterns-both (some l) none = refl
+patterns-both (some l) (some u) = refl

@@ -13,7 +13,7 @@ use Rattle.enclosure.specs.Arithmetic.{of}
 use Rattle.enclosure.specs.Cell.{Cell}
 use Rattle.enclosure.specs.Sums.{sum}
 use Rattle.enclosure.specs.Methods.{Method, three, four, seven, innerTerm, outerTerm, raisedTerm, sharedTerm, midTerm, partTerm, total}
-use Rattle.binary32.specs.Operations.{Way, mul, with₂}
+use Rattle.binary32.specs.Operations.{Way, mul}
 use Rattle.products.specs.Matrix.{Matrix, cellAt}
 use Rattle.products.specs.Stages.{productAt, dotOf, Inside}
 use Rattle.products.specs.Factors.{Holds, Factors, Parts, partOf, innerRadius}
@@ -29,10 +29,9 @@ unfolding sum
 sum-ext add f g s zero h = refl
 sum-ext add f g s (suc k) h = ap₂ (λ m t. bind m λ u. bind t λ v. add (u +ℤ v)) (sum-ext add f g s k (λ l t. h l (omega arith))) (h k (omega arith))
 
--- ---- of any two lists whose patterns hold f and g
+-- ---- of any two lists whose words hold f and g
 module _ (k n i j a b : ℕ) (at : Inside k n i j a b) (x y : List ℕ) (f g : ℕ → Option ℤ) (X : Holds x a f) (Y : Holds y b g) where
   product-is : (way : Way) (l : ℕ) → l < k → productAt way k n i j x y l ≡ (bind (f (i * k + l)) λ u. bind (g (l * n + j)) λ v. mul way u v)
-  unfolding with₂
   product-is way l h =
       ap₂ (λ s t. bind s λ u. bind t λ v. mul way u v) (X .each (i * k + l) (in-row k i l a (at .row) h)) (Y .each (l * n + j) (in-column k n j l b (at .column) (at .rows) h))
 

@@ -10,13 +10,14 @@ use lib.ListN.{length, getD}
 use Rattle.algebra.specs.Absolute.{abs}
 use Rattle.rounding.specs.Format.{binary32}
 use Rattle.rounding.specs.Rounding.{up}
-use Rattle.binary32.specs.Number.{valueOf, held}
+use Rattle.binary32.specs.Number.{valueOf}
+use Rattle.binary32.specs.Word.{heldIn}
 use Rattle.products.specs.declared.sums.Place.{Place}
 use Rattle.products.specs.declared.derived.Kind.{Kind}
 use Rattle.products.specs.Lists.{front}
 use Rattle.products.specs.Matrix.{Matrix, midAt, radAt}
 use Rattle.products.specs.Entries.{Sizes, Written, entryAt}
-use Rattle.products.specs.Derived.{MidRad, Derives}
+use Rattle.products.specs.Derived.{MidRad, derivedOf}
 use Rattle.products.specs.Checks.{chosen}
 
 -- the methods' numbers
@@ -32,17 +33,17 @@ pub record Cells (count : ℕ) (m r : List ℕ) (out : ℕ) : Type 0 where
   pub room : count ≤ out
   pub each : (c : ℕ) → c < count → MidRad (getD m c 0) (getD r c 0)
 
--- each of the first count cells of p holds what is worked out of m and r
+-- each of the first count words of p holds what is worked out of m and r
 abbrev pub DerivesAll : Kind → (count : ℕ) → (m r p : List ℕ) → Type 0
-DerivesAll kind count m r p = (c : ℕ) → c < count → Derives kind (getD m c 0) (getD r c 0) (getD p c 0)
+DerivesAll kind count m r p = (c : ℕ) → c < count → heldIn (getD p c 0) ≡ derivedOf kind (valueOf (getD m c 0)) (valueOf (getD r c 0))
 
 -- the inner radius: for method 3 ((k + 2) × 2^-24 × |m|) + r, each rounded up, otherwise r
 unfoldable pub innerOf : (method k : ℕ) → ℤ → ℤ → Option ℤ
 innerOf method k m r = cond (eqb method 3) (bind (up binary32 (2 ^ 149) (pos ((k + 2) * 2 ^ 125) *ℤ abs m)) λ t. up binary32 1 (t +ℤ r)) (some r)
 
--- each of the first count cells of p holds the inner radius
+-- each of the first count words of p holds the inner radius
 abbrev pub InnerAll : (method k count : ℕ) → (m r p : List ℕ) → Type 0
-InnerAll method k count m r p = (c : ℕ) → c < count → held (getD p c 0) ≡ innerOf method k (valueOf (getD m c 0)) (valueOf (getD r c 0))
+InnerAll method k count m r p = (c : ℕ) → c < count → heldIn (getD p c 0) ≡ innerOf method k (valueOf (getD m c 0)) (valueOf (getD r c 0))
 
 pub record Ready (method m k n : ℕ) (A B : Matrix) (ma ra mb rb lo up : List ℕ) : Type 0 where
   pub numbered : Numbered method

@@ -10,9 +10,11 @@ use Rattle.rounding.specs.Rounding.{up}
 use Rattle.enclosure.specs.Methods.{part}
 use Rattle.binary32.specs.Number.{valueOf, Finite, held}
 use Rattle.products.specs.declared.derived.Kind.{Kind}
-use Rattle.products.specs.declared.derived.Kind.the-variants.{Magnitude, Radius, Wide, Raised, Part, PartMagnitude, PartOpposed}
+use Rattle.products.specs.declared.derived.Kind.the-variants.{Middle, Magnitude, Radius, Wide, Raised, Part, PartMagnitude, PartOpposed}
 
 unfoldable pub derivedOf : Kind → ℤ → ℤ → Option ℤ
+-- m
+derivedOf Middle m r = some m
 -- |m|
 derivedOf Magnitude m r = some (abs m)
 -- r

@@ -10,13 +10,13 @@ use Rattle.rounding.specs.Format.{binary32}
 use Rattle.rounding.specs.Rounding.{up}
 use Rattle.enclosure.specs.Cell.{Cell}
 use Rattle.enclosure.specs.Methods.{Method, classical, three, four, seven, part}
-use Rattle.binary32.specs.Number.{held}
+use Rattle.binary32.specs.Word.{heldIn}
 use Rattle.products.specs.Matrix.{Matrix, cellAt}
 
--- the first `count` patterns of x hold f
+-- the first `count` words of x hold f
 pub record Holds (x : List ℕ) (count : ℕ) (f : ℕ → Option ℤ) : Type 0 where
   pub long : count ≤ length x
-  pub each : (c : ℕ) → c < count → held (getD x c 0) ≡ f c
+  pub each : (c : ℕ) → c < count → heldIn (getD x c 0) ≡ f c
 
 -- what |mA| is multiplied by: rB, and for method 3 rB′ = ((k + 2) × 2^-24 × |mB|) + rB, each rounded up
 abbrev pub innerRadius : Method → ℕ → Cell → Option ℤ

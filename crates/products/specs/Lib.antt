@@ -2,6 +2,7 @@ pub mod Lists
 pub mod Running
 pub mod Matrix
 pub mod Entries
+pub mod Classical
 pub mod Stages
 pub mod Derived
 pub mod MidRad

@@ -2,7 +2,7 @@
 ghost use mathlib.Core.Path.{_≡_};
 ghost use Prim.Native.Nat.{_≤_};
 ghost use lib.ListN.{length};
-ghost use Rattle.products.specs.declared.derived.Kind.the-variants.{Part};
+ghost use Rattle.products.specs.declared.derived.Kind.the-variants.{Middle, Magnitude, Radius, Wide, Part};
 ghost use Rattle.products.specs.Converted.{Cells, DerivesAll, InnerAll, Ready, Multiplied};
 use crate::cells::convert;
 use crate::derived::Kind;
@@ -15,7 +15,7 @@ use crate::sums::Place;
 const CELLS: usize = 1024;
 
 // The inner radius: method 3's is raised.
-fn inner(method: u32, k: usize, count: usize, m: &[u32], r: &[u32], out: &mut [u32])
+fn inner(method: u32, k: usize, count: usize, m: &[u32], r: &[u32], out: &mut [u64])
     requires { ⌜ (k ≤ 32) × Cells count (now m) (now r) (length (now out)) ⌝ }
     ensures { λ _. ⌜ InnerAll method k count (now (m .entry)) (now (r .entry)) (now (out .exit)) ⌝ }
 {
@@ -27,7 +27,7 @@ fn inner(method: u32, k: usize, count: usize, m: &[u32], r: &[u32], out: &mut [u
 }
 
 // Method 7's parts, and what of them the radius needs.
-fn parts(method: u32, kind: Kind, count: usize, m: &[u32], r: &[u32], p: &mut [u32], q: &mut [u32])
+fn parts(method: u32, kind: Kind, count: usize, m: &[u32], r: &[u32], p: &mut [u64], q: &mut [u64])
     requires { ⌜ Cells count (now m) (now r) (length (now p)) × (count ≤ length (now q)) ⌝ }
     ensures { λ _. ⌜ (method ≡ 7 → DerivesAll Part count (now (m .entry)) (now (r .entry)) (now (p .exit)) × DerivesAll kind count (now (m .entry)) (now (r .entry)) (now (q .exit))) ⌝ }
 {
@@ -35,6 +35,42 @@ fn parts(method: u32, kind: Kind, count: usize, m: &[u32], r: &[u32], p: &mut [u
         derive_all(Kind::Part, count, m, r, p);
         derive_all(kind, count, m, r, q);
     }
+}
+
+// A's factors: midpoints, radii and the midpoints' magnitudes.
+fn first_factors(
+    count: usize,
+    m: &[u32],
+    r: &[u32],
+    mids: &mut [u64],
+    rads: &mut [u64],
+    magnitudes: &mut [u64],
+)
+    requires { ⌜ Cells count (now m) (now r) (length (now mids)) × (count ≤ length (now rads)) × (count ≤ length (now magnitudes)) ⌝ }
+    ensures { λ _. ⌜ DerivesAll Middle count (now (m .entry)) (now (r .entry)) (now (mids .exit)) × DerivesAll Radius count (now (m .entry)) (now (r .entry)) (now (rads .exit)) × DerivesAll Magnitude count (now (m .entry)) (now (r .entry)) (now (magnitudes .exit)) ⌝ }
+{
+    derive_all(Kind::Middle, count, m, r, mids);
+    derive_all(Kind::Radius, count, m, r, rads);
+    derive_all(Kind::Magnitude, count, m, r, magnitudes);
+}
+
+// B's factors: midpoints, inner radii and |m| + r.
+fn second_factors(
+    method: u32,
+    k: usize,
+    count: usize,
+    m: &[u32],
+    r: &[u32],
+    mids: &mut [u64],
+    inners: &mut [u64],
+    outers: &mut [u64],
+)
+    requires { ⌜ (k ≤ 32) × Cells count (now m) (now r) (length (now mids)) × (count ≤ length (now inners)) × (count ≤ length (now outers)) ⌝ }
+    ensures { λ _. ⌜ DerivesAll Middle count (now (m .entry)) (now (r .entry)) (now (mids .exit)) × InnerAll method k count (now (m .entry)) (now (r .entry)) (now (inners .exit)) × DerivesAll Wide count (now (m .entry)) (now (r .entry)) (now (outers .exit)) ⌝ }
+{
+    derive_all(Kind::Middle, count, m, r, mids);
+    inner(method, k, count, m, r, inners);
+    derive_all(Kind::Wide, count, m, r, outers);
 }
 
 // Converts the cells into the lent slices, works out the factors and writes the entries.
@@ -59,16 +95,18 @@ pub fn multiply(
 {
     convert(m * k, al, au, ma, ra);
     convert(k * n, bl, bu, mb, rb);
-    let mut ua = [0; CELLS];
-    let mut vb = [0; CELLS];
-    let mut wb = [0; CELLS];
-    derive_all(Kind::Magnitude, m * k, ma, ra, &mut ua);
-    inner(method, k, k * n, mb, rb, &mut vb);
-    derive_all(Kind::Wide, k * n, mb, rb, &mut wb);
-    let mut pa = [0; CELLS];
-    let mut xa = [0; CELLS];
-    let mut pb = [0; CELLS];
-    let mut yb = [0; CELLS];
+    let mut na = [0u64; CELLS];
+    let mut sa = [0u64; CELLS];
+    let mut ua = [0u64; CELLS];
+    first_factors(m * k, ma, ra, &mut na, &mut sa, &mut ua);
+    let mut nb = [0u64; CELLS];
+    let mut vb = [0u64; CELLS];
+    let mut wb = [0u64; CELLS];
+    second_factors(method, k, k * n, mb, rb, &mut nb, &mut vb, &mut wb);
+    let mut pa = [0u64; CELLS];
+    let mut xa = [0u64; CELLS];
+    let mut pb = [0u64; CELLS];
+    let mut yb = [0u64; CELLS];
     parts(method, Kind::PartOpposed, m * k, ma, ra, &mut pa, &mut xa);
     parts(method, Kind::PartMagnitude, k * n, mb, rb, &mut pb, &mut yb);
     entries(
@@ -76,10 +114,10 @@ pub fn multiply(
         m,
         k,
         n,
-        ma,
-        ra,
+        &na,
+        &sa,
         &ua,
-        mb,
+        &nb,
         &vb,
         &wb,
         &pa,

@@ -4,15 +4,18 @@ ghost use Prim.Native.Nat.{ℕ, _≤_, _<_};
 ghost use lib.ListN.{length, getD};
 ghost use Rattle.binary32.specs.Number.{held};
 ghost use Rattle.products.specs.declared.derived.Kind.the-variants.{Part};
+ghost use Rattle.products.specs.Converted.{DerivesAll};
 ghost use Rattle.products.specs.Derived.{MidRad, Derives, raisedOf};
 use binary32::order::least;
 use binary32::order::magnitude;
 use binary32::order::negate;
 use binary32::partial::add_up;
 use binary32::partial::mul_up;
+use binary32::word::word;
 
-// |m|; r; |m| + r; (c × |m|) + r; p = sign(m) × min(|m|, r); |p|; -|p|
+// m; |m|; r; |m| + r; (c × |m|) + r; p = sign(m) × min(|m|, r); |p|; -|p|
 pub enum Kind {
+    Middle,
     Magnitude,
     Radius,
     Wide,
@@ -84,6 +87,7 @@ pub fn derive(kind: Kind, m: u32, r: u32) -> u32
     ensures { λ p. ⌜ Derives kind m r p ⌝ }
 {
     match kind {
+        Kind::Middle => m,
         Kind::Magnitude => magnitude(m),
         Kind::Radius => r,
         Kind::Wide => add_up(magnitude(m), r),
@@ -94,14 +98,14 @@ pub fn derive(kind: Kind, m: u32, r: u32) -> u32
     }
 }
 
-// Each of the first count cells.
-pub fn derive_all(kind: Kind, count: usize, m: &[u32], r: &[u32], out: &mut [u32])
+// Each of the first count cells, in words.
+pub fn derive_all(kind: Kind, count: usize, m: &[u32], r: &[u32], out: &mut [u64])
     requires { ⌜ (count ≤ length (now m)) × (count ≤ length (now r)) × (count ≤ length (now out)) × ((c : ℕ) → c < count → MidRad (getD (now m) c 0) (getD (now r) c 0)) ⌝ }
-    ensures { λ _. ⌜ ((c : ℕ) → c < count → Derives kind (getD (now (m .entry)) c 0) (getD (now (r .entry)) c 0) (getD (now (out .exit)) c 0)) ⌝ }
+    ensures { λ _. ⌜ DerivesAll kind count (now (m .entry)) (now (r .entry)) (now (out .exit)) ⌝ }
 {
     let mut c = 0;
     while c < count {
-        out[c] = derive(kind, m[c], r[c]);
+        out[c] = word(derive(kind, m[c], r[c]));
         c += 1;
     }
 }

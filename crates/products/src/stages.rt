@@ -1,4 +1,4 @@
-// Sums of products over a row of x (k columns) and a column of y (n columns), each a loop that stops at the first refused step.
+// Sums of products over a row of x (k columns) and a column of y (n columns), both in words, each a loop that stops at the first refused step.
 ghost use mathlib.Core.Path.{_≡_};
 ghost use mathlib.Core.Option.{Option};
 ghost use lib.IntN.{ℤ};
@@ -16,7 +16,7 @@ use binary32::accumulate::add_product_up;
 use intervals::is_finite;
 
 // start + x[i, 0] × y[0, j] + .. + x[i, k - 1] × y[k - 1, j], all up: a pattern that holds the sum or none.
-pub fn dot_up(k: usize, n: usize, i: usize, j: usize, x: &[u32], y: &[u32], start: u32) -> u32
+pub fn dot_up(k: usize, n: usize, i: usize, j: usize, x: &[u64], y: &[u64], start: u32) -> u32
     requires { ⌜ Inside k n i j (length (now x)) (length (now y)) ⌝ }
     ensures { λ r. ⌜ ((s : Option ℤ) → Fits s → start ≡ holdUp s → r ≡ holdUp (dotOf up k n i j (now (x .entry)) (now (y .entry)) s k)) ⌝ }
 {
@@ -31,7 +31,7 @@ pub fn dot_up(k: usize, n: usize, i: usize, j: usize, x: &[u32], y: &[u32], star
 }
 
 // The same, all to nearest.
-pub fn dot_near(k: usize, n: usize, i: usize, j: usize, x: &[u32], y: &[u32], start: u32) -> u32
+pub fn dot_near(k: usize, n: usize, i: usize, j: usize, x: &[u64], y: &[u64], start: u32) -> u32
     requires { ⌜ Inside k n i j (length (now x)) (length (now y)) ⌝ }
     ensures { λ r. ⌜ ((s : Option ℤ) → Fits s → start ≡ holdNear s → r ≡ holdNear (dotOf near k n i j (now (x .entry)) (now (y .entry)) s k)) ⌝ }
 {
@@ -46,7 +46,7 @@ pub fn dot_near(k: usize, n: usize, i: usize, j: usize, x: &[u32], y: &[u32], st
 }
 
 // Two such sums along one walk: the lower one all down, the upper one all up.
-pub fn dot_both(k: usize, n: usize, i: usize, j: usize, x: &[u32], y: &[u32], start: Sums) -> Next
+pub fn dot_both(k: usize, n: usize, i: usize, j: usize, x: &[u64], y: &[u64], start: Sums) -> Next
     requires { ⌜ Inside k n i j (length (now x)) (length (now y)) ⌝ }
     ensures { λ r. ⌜ ((s t : Option ℤ) → Fits s → Fits t → nextOf s t ≡ More start → r ≡ nextOf (dotOf down k n i j (now (x .entry)) (now (y .entry)) s k) (dotOf up k n i j (now (x .entry)) (now (y .entry)) t k)) ⌝ }
 {

@@ -45,16 +45,16 @@ impl Sums {
         Sums { lower: 0, upper: 0 }
     }
 
-    // The classical step: the lower sum and the least of the four corner products, each rounded down; the upper sum and the greatest, each rounded up.
-    pub fn step(self, al: u32, au: u32, bl: u32, bu: u32) -> Next
+    // The classical step, of cells in words: the lower sum and the least of the four corner products, each rounded down; the upper sum and the greatest, each rounded up.
+    pub fn step(self, al: u64, au: u64, bl: u64, bu: u64) -> Next
         ensures { λ r. ⌜ r ≡ stepOf self al au bl bu ⌝ }
     {
         let s = add_corners(self.lower, self.upper, al, au, bl, bu);
         both_held(s.down, s.up)
     }
 
-    // Both sums and the product a × b.
-    pub fn add(self, a: u32, b: u32) -> Next
+    // Both sums and the product a × b, a and b in words.
+    pub fn add(self, a: u64, b: u64) -> Next
         ensures { λ r. ⌜ r ≡ addOf self a b ⌝ }
     {
         let s = add_product_both(self.lower, self.upper, a, b);

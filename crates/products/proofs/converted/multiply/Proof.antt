@@ -7,7 +7,7 @@ use Rattle.products.specs.Checks.{chosen}
 use Rattle.products.proofs.FactorLaws.{cells}
 use Rattle.products.proofs.MidRads.{place-is}
 use Rattle.products.proofs.WrittenExt.{written-ext}
-use Rattle.products.proofs.converted.multiply.Proof.Calls.{Head, Last, first, second, start, head, from-ua, from-vb, from-wb, from-xa, A, B, a-small, b-small, a-converted, b-converted, factors-at, parts-at, lists-at}
+use Rattle.products.proofs.converted.multiply.Proof.Calls.{Head, last, first, second, start, head, from-first, from-second, from-parts, A, B, a-small, b-small, a-converted, b-converted, factors-at, parts-at, lists-at}
 use Rattle.products.proofs.converted.multiply.Statement.{statement}
 use Rattle.products.proofs.converted.multiply.Tie as tie
 
@@ -23,43 +23,42 @@ mul-convert-2 c = search needs
 convert-requires-2 : tie.Need-convert-requires-2
 convert-requires-2 c κs = search needs
 
-mul-derive-all : tie.Need-mul-derive-all
-mul-derive-all c = search needs
+mul-first-factors : tie.Need-mul-first-factors
+mul-first-factors c = search needs
 
-slice-aggregate-derive-all : tie.Need-slice-aggregate-derive-all
-slice-aggregate-derive-all c = search needs
+slice-aggregate-first-factors : tie.Need-slice-aggregate-first-factors
+slice-aggregate-first-factors c = search needs
 
-derive-all-requires : tie.Need-derive-all-requires
-derive-all-requires c κs =
-    let h : Head = c .before .before .before in
-    let C = cells (a-converted h) 1024 (a-small h) in
-    (C .mids, C .rads, C .room, C .each)
+slice-aggregate-first-factors-2 : tie.Need-slice-aggregate-first-factors-2
+slice-aggregate-first-factors-2 c = search needs
 
-mul-inner : tie.Need-mul-inner
-mul-inner c = omega (arith, b-small (from-ua c))
+slice-aggregate-first-factors-3 : tie.Need-slice-aggregate-first-factors-3
+slice-aggregate-first-factors-3 c = search needs
 
-slice-aggregate-inner : tie.Need-slice-aggregate-inner
-slice-aggregate-inner c = search needs
+first-factors-requires : tie.Need-first-factors-requires
+first-factors-requires c κs =
+    let h : Head = c .before .before .before .before .before in
+    (cells (a-converted h) 1024 (a-small h), a-small h, a-small h)
 
-inner-requires : tie.Need-inner-requires
-inner-requires c κs =
-    let h : Head = from-ua (c .before .before .before) in
-    (start h .pre .sizes .inner, cells (b-converted h) 1024 (b-small h))
+mul-second-factors : tie.Need-mul-second-factors
+mul-second-factors c = omega (arith, b-small (from-first c))
 
-mul-derive-all-2 : tie.Need-mul-derive-all-2
-mul-derive-all-2 c = omega (arith, b-small (from-vb c))
+slice-aggregate-second-factors : tie.Need-slice-aggregate-second-factors
+slice-aggregate-second-factors c = search needs
 
-slice-aggregate-derive-all-2 : tie.Need-slice-aggregate-derive-all-2
-slice-aggregate-derive-all-2 c = search needs
+slice-aggregate-second-factors-2 : tie.Need-slice-aggregate-second-factors-2
+slice-aggregate-second-factors-2 c = search needs
 
-derive-all-requires-2 : tie.Need-derive-all-requires-2
-derive-all-requires-2 c κs =
-    let h : Head = from-vb (c .before .before .before) in
-    let C = cells (b-converted h) 1024 (b-small h) in
-    (C .mids, C .rads, C .room, C .each)
+slice-aggregate-second-factors-3 : tie.Need-slice-aggregate-second-factors-3
+slice-aggregate-second-factors-3 c = search needs
+
+second-factors-requires : tie.Need-second-factors-requires
+second-factors-requires c κs =
+    let h : Head = from-first (c .before .before .before .before .before) in
+    (start h .pre .sizes .inner, cells (b-converted h) 1024 (b-small h), b-small h, b-small h)
 
 mul-parts : tie.Need-mul-parts
-mul-parts c = omega (arith, a-small (from-wb c))
+mul-parts c = omega (arith, a-small (from-second c))
 
 slice-aggregate-parts : tie.Need-slice-aggregate-parts
 slice-aggregate-parts c = search needs
@@ -69,11 +68,11 @@ slice-aggregate-parts-2 c = search needs
 
 parts-requires : tie.Need-parts-requires
 parts-requires c κs =
-    let h : Head = from-wb (c .before .before .before .before) in
+    let h : Head = from-second (c .before .before .before .before) in
     (cells (a-converted h) 1024 (a-small h), a-small h)
 
 mul-parts-2 : tie.Need-mul-parts-2
-mul-parts-2 c = omega (arith, b-small (from-xa c))
+mul-parts-2 c = omega (arith, b-small (from-parts c))
 
 slice-aggregate-parts-3 : tie.Need-slice-aggregate-parts-3
 slice-aggregate-parts-3 c = search needs
@@ -83,7 +82,7 @@ slice-aggregate-parts-4 c = search needs
 
 parts-requires-2 : tie.Need-parts-requires-2
 parts-requires-2 c κs =
-    let h : Head = from-xa (c .before .before .before .before) in
+    let h : Head = from-parts (c .before .before .before .before) in
     (cells (b-converted h) 1024 (b-small h), b-small h)
 
 slice-aggregate-entries : tie.Need-slice-aggregate-entries
@@ -107,11 +106,17 @@ slice-aggregate-entries-6 c = search needs
 slice-aggregate-entries-7 : tie.Need-slice-aggregate-entries-7
 slice-aggregate-entries-7 c = search needs
 
+slice-aggregate-entries-8 : tie.Need-slice-aggregate-entries-8
+slice-aggregate-entries-8 c = search needs
+
+slice-aggregate-entries-9 : tie.Need-slice-aggregate-entries-9
+slice-aggregate-entries-9 c = search needs
+
+slice-aggregate-entries-10 : tie.Need-slice-aggregate-entries-10
+slice-aggregate-entries-10 c = search needs
+
 entries-requires : tie.Need-entries-requires
 entries-requires c κs = lists-at c
-
-abbrev last : tie.After-slice-known12 → Last
-last c = c .before .before .before .before .before
 
 same-length : tie.Need-same-length
 same-length c = head (last c) .before .before .before .before .before .before .before .before .before .before .ma .given
@@ -155,15 +160,16 @@ multiply-spec =
     convert-requires
     mul-convert-2
     convert-requires-2
-    mul-derive-all
-    slice-aggregate-derive-all
-    derive-all-requires
-    mul-inner
-    slice-aggregate-inner
-    inner-requires
-    mul-derive-all-2
-    slice-aggregate-derive-all-2
-    derive-all-requires-2
+    mul-first-factors
+    slice-aggregate-first-factors
+    slice-aggregate-first-factors-2
+    slice-aggregate-first-factors-3
+    first-factors-requires
+    mul-second-factors
+    slice-aggregate-second-factors
+    slice-aggregate-second-factors-2
+    slice-aggregate-second-factors-3
+    second-factors-requires
     mul-parts
     slice-aggregate-parts
     slice-aggregate-parts-2
@@ -179,6 +185,9 @@ multiply-spec =
     slice-aggregate-entries-5
     slice-aggregate-entries-6
     slice-aggregate-entries-7
+    slice-aggregate-entries-8
+    slice-aggregate-entries-9
+    slice-aggregate-entries-10
     entries-requires
     same-length
     same-length-2

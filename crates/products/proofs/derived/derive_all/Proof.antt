@@ -1,16 +1,19 @@
--- `products::derived::derive_all` meets its contract: of each cell below c, `out` holds what is worked out of it.
+-- `products::derived::derive_all` meets its contract: of each cell below c, a word of `out` holds what is worked out of it.
 use mathlib.Core.Path.{_≡_, refl, _∙_}
-use Prim.Native.Nat.{ℕ, _-_, _≤_, _<_}
+use Prim.Native.Nat.{_-_, _≤_}
 use native.Mathlib.Omega.{arith}
 use borrow.Author.Needs.{needs}
 use lib.ListN.{length, getD, length-set}
-use Rattle.products.specs.Derived.{Derives}
+use Rattle.binary32.specs.Number.{valueOf}
+use Rattle.binary32.specs.Word.{heldIn}
+use Rattle.products.specs.Derived.{derivedOf}
+use Rattle.products.specs.Converted.{DerivesAll}
 use Rattle.products.proofs.Stores.{stored-more}
 use Rattle.products.proofs.derived.derive_all.Statement.{statement}
 use Rattle.products.proofs.derived.derive_all.Tie as tie
 
 abbrev Inv-loop : tie.InvT-loop
-Inv-loop kind count m r out₀ c₀ out c = (c ≤ count) × (length out ≡ length out₀) × ((a : ℕ) → a < c → Derives kind (getD m a 0) (getD r a 0) (getD out a 0))
+Inv-loop kind count m r out₀ c₀ out c = (c ≤ count) × (length out ≡ length out₀) × DerivesAll kind c m r out
 
 abbrev μ-loop : tie.MeasureT-loop
 μ-loop kind count m r out₀ c₀ out c = count - c
@@ -35,6 +38,9 @@ derive-requires c κs =
     let g = c .before .before in
     g .before .before .before .before .before .pre .3 (g .before .loop .c) (g .loop-test .taken)
 
+word-requires : tie.Need-word-requires Inv-loop μ-loop
+word-requires c κs = search needs
+
 mul-out : tie.Need-mul-out Inv-loop μ-loop
 mul-out c = search needs
 
@@ -49,12 +55,12 @@ loop-less c = search needs
 
 loop-again : tie.Need-loop-again Inv-loop μ-loop
 loop-again c =
-    let h = c .before .before .before .before in
+    let h = c .before .before .before .before .before in
     let a = h .before .before .before .before .args in (
       search needs,
-      length-set (h .loop .out) (h .loop .c) (c .derive .result) ∙ h .loop .inv .1,
-      stored-more (λ b v. Derives (a .kind) (getD (a .m .now) b 0) (getD (a .r .now) b 0) v)
-          (h .loop .out) (h .loop .c) (c .derive .result) (omega arith) (h .loop .inv .2) (c .derive .ensures),
+      length-set (h .loop .out) (h .loop .c) (c .word .result) ∙ h .loop .inv .1,
+      stored-more (λ b v. heldIn v ≡ derivedOf (a .kind) (valueOf (getD (a .m .now) b 0)) (valueOf (getD (a .r .now) b 0)))
+          (h .loop .out) (h .loop .c) (c .word .result) (omega arith) (h .loop .inv .2) (c .word .ensures ∙ c .before .derive .ensures .holds),
     )
 
 same-length : tie.Need-same-length Inv-loop μ-loop
@@ -75,6 +81,7 @@ derive-all-spec =
     mul-derive-2
     shared-slice-read-derive-2
     derive-requires
+    word-requires
     mul-out
     slice-write-out
     add-c

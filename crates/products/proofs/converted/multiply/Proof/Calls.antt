@@ -71,20 +71,20 @@ module _ (c : Head) where
       converted-front B b mb rb (s .args .mb .now) (s .args .rb .now) (s .pre .sizes .b-fine) (s .pre .b-mids) (s .pre .b-rads) (e .0) (e .1)
 
 -- ---- after each of the other calls, and before the last: back to `Head`
-abbrev pub from-ua : tie.After-ua2 → Head
-from-ua c = c .before .before .before .before .before
+abbrev pub from-first : tie.After-ua2 → Head
+from-first c = c .before .before .before .before .before .before .before .before .before
 
-abbrev pub from-vb : tie.After-vb2 → Head
-from-vb c = from-ua (c .before .before .before .before .before)
+abbrev pub from-second : tie.After-wb2 → Head
+from-second c = from-first (c .before .before .before .before .before .before .before .before .before)
 
-abbrev pub from-wb : tie.After-wb2 → Head
-from-wb c = from-vb (c .before .before .before .before .before)
-
-abbrev pub from-xa : tie.After-xa2 → Head
-from-xa c = from-wb (c .before .before .before .before .before .before .before)
+abbrev pub from-parts : tie.After-xa2 → Head
+from-parts c = from-second (c .before .before .before .before .before .before .before)
 
 abbrev pub Last : Type 0
-Last = tie.After-entries-arg5
+Last = tie.After-entries-arg2
+
+abbrev pub last : tie.After-slice-known12 → Last
+last c = c .before .before .before .before .before
 
 module _ (c : Last) where
   abbrev with-yb : tie.After-yb2
@@ -96,24 +96,36 @@ module _ (c : Last) where
   abbrev with-wb : tie.After-wb2
   with-wb = with-xa .before .before .before .before .before .before .before
 
-  abbrev with-vb : tie.After-vb2
-  with-vb = with-wb .before .before .before .before .before
-
   abbrev with-ua : tie.After-ua2
-  with-ua = with-vb .before .before .before .before .before
+  with-ua = with-wb .before .before .before .before .before .before .before .before .before
 
   abbrev pub head : Head
-  head = from-ua with-ua
+  head = from-first with-ua
+
+  abbrev first-call : tie.After-first-factors
+  first-call = with-ua .before .before .before
+
+  abbrev second-call : tie.After-second-factors
+  second-call = with-wb .before .before .before
 
   -- the lists, each as long as its array
+  abbrev pub na : List ℕ
+  na = first-call .first-factors .last .1 .1 .1 .0
+
+  abbrev pub sa : List ℕ
+  sa = first-call .first-factors .last .1 .1 .1 .1 .0
+
   abbrev pub ua : List ℕ
-  ua = with-ua .before .derive-all .last .1 .1 .1 .1 .0
+  ua = first-call .first-factors .last .1 .1 .1 .1 .1 .0
+
+  abbrev pub nb : List ℕ
+  nb = second-call .second-factors .last .1 .1 .1 .1 .1 .0
 
   abbrev pub vb : List ℕ
-  vb = with-vb .before .inner .last .1 .1 .1 .1 .1 .0
+  vb = second-call .second-factors .last .1 .1 .1 .1 .1 .1 .0
 
   abbrev pub wb : List ℕ
-  wb = with-wb .before .derive-all2 .last .1 .1 .1 .1 .0
+  wb = second-call .second-factors .last .1 .1 .1 .1 .1 .1 .1 .0
 
   abbrev pub pa : List ℕ
   pa = with-xa .before .before .parts .last .1 .1 .1 .1 .1 .0
@@ -142,11 +154,14 @@ module _ (c : Last) where
   yb-long : b head ≤ length yb
   yb-long = covers yb (b-small head) (with-yb .yb2 .given)
 
-  pub factors-at : Factors (chosen (start head .args .method)) (start head .args .k) (A head) (B head) (a head) (b head) (ma head) (ra head) ua (mb head) vb wb
+  pub factors-at : Factors (chosen (start head .args .method)) (start head .args .k) (A head) (B head) (a head) (b head) na sa ua nb vb wb
   factors-at =
-      factors (a-converted head) (b-converted head) (start head .args .method) (start head .args .k) ua vb wb (start head .pre .numbered)
-      (covers ua (a-small head) (with-ua .ua2 .given)) (covers vb (b-small head) (with-vb .vb2 .given)) (covers wb (b-small head) (with-wb .wb2 .given))
-      (with-ua .before .derive-all .ensures) (with-vb .before .inner .ensures) (with-wb .before .derive-all2 .ensures)
+      let d = first-call .first-factors .ensures in
+      let e = second-call .second-factors .ensures in
+      factors (a-converted head) (b-converted head) (start head .args .method) (start head .args .k) na sa ua nb vb wb (start head .pre .numbered)
+      (covers na (a-small head) (with-ua .before .before .na2 .given)) (covers sa (a-small head) (with-ua .before .sa2 .given)) (covers ua (a-small head) (with-ua .ua2 .given))
+      (covers nb (b-small head) (with-wb .before .before .nb2 .given)) (covers vb (b-small head) (with-wb .before .vb2 .given)) (covers wb (b-small head) (with-wb .wb2 .given))
+      (d .0) (d .1) (d .2) (e .0) (e .1) (e .2)
 
   pub parts-at : start head .args .method ≡ 7 → Parts (A head) (B head) (a head) (b head) pa xa pb yb
   parts-at e =
@@ -155,7 +170,7 @@ module _ (c : Last) where
 
   pub lists-at :
       let s : tie.Start = start head in
-      Lists (s .args .k) (s .args .n) (ma head) (ra head) ua (mb head) vb wb pa xa pb yb (s .args .m) (length (s .args .lo .now)) (length (s .args .up .now))
+      Lists (s .args .k) (s .args .n) na sa ua nb vb wb pa xa pb yb (s .args .m) (length (s .args .lo .now)) (length (s .args .up .now))
   lists-at =
       let z = start head .pre .sizes in
       record {

@@ -1,43 +1,33 @@
--- The loops of `products::classical::entries`: their invariants, what a turn reads and writes, and which entry it works at.
+-- The loops of `products::classical::walk`: their invariants, what a turn reads and writes, and which entry it works at.
 use mathlib.Core.Path.{_≡_, _∙_}
 use mathlib.Core.List.{List}
 use Prim.Native.Nat.{ℕ, _+_, _-_, _*_, _≤_, _<_}
 use native.Mathlib.Omega.{arith}
 use lib.ListN.{length}
-use Rattle.enclosure.specs.Methods.{classical}
-use Rattle.intervals.specs.declared.Fault.the-variants.{Fine}
 use Rattle.products.specs.declared.sums.Next.{Next}
 use Rattle.products.specs.declared.sums.Next.the-variants.{More}
 use Rattle.products.specs.declared.sums.Place.the-variants.{Nowhere}
-use Rattle.products.specs.Matrix.{Matrix, faultAt}
-use Rattle.products.specs.Entries.{entryAt, stopOf}
+use Rattle.products.specs.Classical.{sumTo, entryIn}
+use Rattle.products.specs.Entries.{stopOf}
 use Rattle.products.proofs.Fronts.{Filled}
-use Rattle.products.proofs.Running.{sumTo, entry-is}
+use Rattle.products.proofs.Running.{entry-is}
 use Rattle.products.proofs.Writing.{below, lowersOf, uppersOf}
-use Rattle.products.proofs.classical.entries.Tie as tie
-
--- a matrix of two lists
-abbrev pub M₂ : List ℕ → List ℕ → Matrix
-M₂ lo up = record { lowers = lo; uppers = up }
-
--- its entries
-abbrev pub E₂ : ℕ → ℕ → Matrix → Matrix → ℕ → Next
-E₂ k n A B = entryAt classical k n A B
+use Rattle.products.proofs.classical.walk.Tie as tie
 
 abbrev pub Inv-loop2 : tie.InvT-loop2
-Inv-loop2 m k n al au bl bu lo up place₀ at i j s₀ l₀ place s l = (l ≤ k) × (place ≡ Nowhere) × (sumTo k n (M₂ al au) (M₂ bl bu) i j l ≡ More s)
+Inv-loop2 m k n al au bl bu lo up place₀ at i j s₀ l₀ place s l = (l ≤ k) × (place ≡ Nowhere) × (sumTo k n al au bl bu i j l ≡ More s)
 
 abbrev pub μ-loop2 : tie.MeasureT-loop2
 μ-loop2 m k n al au bl bu lo up place₀ at i j s₀ l₀ place s l = k - l
 
 abbrev pub Inv-loop : tie.InvT-loop
-Inv-loop m k n al au bl bu lo₀ up₀ place₀ at₀ i j₀ lo up place at j = (j ≤ n) × (at ≡ at₀ + j) × (place ≡ Nowhere) × (stopOf (E₂ k n (M₂ al au) (M₂ bl bu)) at ≡ at) × Filled at (lowersOf (E₂ k n (M₂ al au) (M₂ bl bu))) lo₀ lo × Filled at (uppersOf (E₂ k n (M₂ al au) (M₂ bl bu))) up₀ up
+Inv-loop m k n al au bl bu lo₀ up₀ place₀ at₀ i j₀ lo up place at j = (j ≤ n) × (at ≡ at₀ + j) × (place ≡ Nowhere) × (stopOf (entryIn k n al au bl bu) at ≡ at) × Filled at (lowersOf (entryIn k n al au bl bu)) lo₀ lo × Filled at (uppersOf (entryIn k n al au bl bu)) up₀ up
 
 abbrev pub μ-loop : tie.MeasureT-loop
 μ-loop m k n al au bl bu lo₀ up₀ place₀ at₀ i j₀ lo up place at j = n - j
 
 abbrev pub Inv-search : tie.InvT-search
-Inv-search m k n al au bl bu lo₀ up₀ place₀ at₀ i₀ lo up place at i = (i ≤ m) × (at ≡ i * n) × (place ≡ Nowhere) × (stopOf (E₂ k n (M₂ al au) (M₂ bl bu)) at ≡ at) × Filled at (lowersOf (E₂ k n (M₂ al au) (M₂ bl bu))) lo₀ lo × Filled at (uppersOf (E₂ k n (M₂ al au) (M₂ bl bu))) up₀ up
+Inv-search m k n al au bl bu lo₀ up₀ place₀ at₀ i₀ lo up place at i = (i ≤ m) × (at ≡ i * n) × (place ≡ Nowhere) × (stopOf (entryIn k n al au bl bu) at ≡ at) × Filled at (lowersOf (entryIn k n al au bl bu)) lo₀ lo × Filled at (uppersOf (entryIn k n al au bl bu)) up₀ up
 
 abbrev pub μ-search : tie.MeasureT-search
 μ-search m k n al au bl bu lo₀ up₀ place₀ at₀ i₀ lo up place at i = m - i
@@ -61,21 +51,27 @@ K s = s .before .before .before .before .before .before .before .args .k
 abbrev pub N : Head → ℕ
 N s = s .before .before .before .before .before .before .before .args .n
 
-abbrev pub A : Head → Matrix
-A s = M₂ (s .before .before .before .before .before .before .before .args .al .now) (s .before .before .before .before .before .before .before .args .au .now)
+abbrev pub AL : Head → List ℕ
+AL s = s .before .before .before .before .before .before .before .args .al .now
 
-abbrev pub B : Head → Matrix
-B s = M₂ (s .before .before .before .before .before .before .before .args .bl .now) (s .before .before .before .before .before .before .before .args .bu .now)
+abbrev pub AU : Head → List ℕ
+AU s = s .before .before .before .before .before .before .before .args .au .now
+
+abbrev pub BL : Head → List ℕ
+BL s = s .before .before .before .before .before .before .before .args .bl .now
+
+abbrev pub BU : Head → List ℕ
+BU s = s .before .before .before .before .before .before .before .args .bu .now
 
 abbrev pub E : Head → ℕ → Next
-E s = E₂ (K s) (N s) (A s) (B s)
+E s = entryIn (K s) (N s) (AL s) (AU s) (BL s) (BU s)
 
 -- the places that the innermost turn reads
 pub places : (c : In2) →
     let s : Head = c .before .before .before .before .before .before in
     let p : ℕ = s .search .i * K s + c .before .loop2 .l in
     let q : ℕ = c .before .loop2 .l * N s + c .before .before .before .before .loop .j in
-    (p < length (A s .lowers)) × (p < length (A s .uppers)) × (q < length (B s .lowers)) × (q < length (B s .uppers))
+    (p < length (AL s)) × (p < length (AU s)) × (q < length (BL s)) × (q < length (BU s))
 places c =
     let s : Head = c .before .before .before .before .before .before in
     let a = below (s .search .i) (M s) (c .before .loop2 .l) (K s) (omega arith) (omega arith) in
@@ -97,22 +93,10 @@ place-out c =
 -- that place's entry is the one in row i and column j
 pub entry-place : (c : In1) →
     let s : Head = c .before .before .before in
-    E s (c .before .loop .at) ≡ sumTo (K s) (N s) (A s) (B s) (s .search .i) (c .before .loop .j) (K s)
+    E s (c .before .loop .at) ≡ sumTo (K s) (N s) (AL s) (AU s) (BL s) (BU s) (s .search .i) (c .before .loop .j) (K s)
 entry-place c =
     let s : Head = c .before .before .before in
-    entry-is (K s) (N s) (A s) (B s) (s .search .i) (c .before .loop .j) (c .before .loop .at) (omega arith) (c .loop-test .taken)
-
--- the cells of a turn have no fault
-pub fine-a : (c : In2) → let s : Head = c .before .before .before .before .before .before in faultAt (A s) (s .search .i * K s + c .before .loop2 .l) ≡ Fine
-fine-a c =
-    let s : Head = c .before .before .before .before .before .before in
-    s .before .before .before .before .before .before .before .pre .a-fine (s .search .i * K s + c .before .loop2 .l) (below (s .search .i) (M s) (c .before .loop2 .l) (K s) (omega arith) (omega arith))
-
-pub fine-b : (c : In2) → let s : Head = c .before .before .before .before .before .before in faultAt (B s) (c .before .loop2 .l * N s + c .before .before .before .before .loop .j) ≡ Fine
-fine-b c =
-    let s : Head = c .before .before .before .before .before .before in
-    s .before .before .before .before .before .before .before .pre .b-fine (c .before .loop2 .l * N s + c .before .before .before .before .loop .j)
-    (below (c .before .loop2 .l) (K s) (c .before .before .before .before .loop .j) (N s) (omega arith) (omega arith))
+    entry-is (K s) (N s) (AL s) (AU s) (BL s) (BU s) (s .search .i) (c .before .loop .j) (c .before .loop .at) (omega arith) (c .loop-test .taken)
 
 -- after the innermost loop the sums are the whole entry
 pub whole-entry : (c : tie.After-loop2 Inv-loop2 μ-loop2 Inv-loop μ-loop Inv-search μ-search) →
