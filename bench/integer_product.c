@@ -10,8 +10,8 @@
 
 /* Factors of a cell of A and of one of B: |m|, method 3's r' or r, |m| + r, the
    part p, and -|p| or |p|. */
-static uint32_t abs_a[MAX_CELLS], part_a[MAX_CELLS], minus_a[MAX_CELLS];
-static uint32_t inner_b[MAX_CELLS], outer_b[MAX_CELLS], part_b[MAX_CELLS], abs_part_b[MAX_CELLS];
+static uint32_t abs_a[CELLS], part_a[CELLS], minus_a[CELLS];
+static uint32_t inner_b[CELLS], outer_b[CELLS], part_b[CELLS], abs_part_b[CELLS];
 
 /* Grows with the number that the pattern stands for. */
 static inline int32_t order(uint32_t p)

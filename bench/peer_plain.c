@@ -1,0 +1,74 @@
+/* Benchmarks, not proved: plain C as peers, over 64-bit integers and on the
+   machine's floats. Cells lie ready, and neither reads nor writes sheets. */
+#include "bits.h"
+#include "integer_product.h"
+#include "peer.h"
+#include "plain_product.h"
+
+static size_t m, k, n;
+
+static void load_sizes(const struct matrices *x)
+{
+    m = x->m;
+    k = x->k;
+    n = x->n;
+}
+
+/* ---- integers */
+
+static struct patterns patterns;
+
+static void load_integers(const struct matrices *x)
+{
+    load_sizes(x);
+    memcpy(patterns.al, x->al, sizeof x->al);
+    memcpy(patterns.au, x->au, sizeof x->au);
+    memcpy(patterns.bl, x->bl, sizeof x->bl);
+    memcpy(patterns.bu, x->bu, sizeof x->bu);
+}
+
+static bool run_integers(int method)
+{
+    return integer_product(method, m, k, n, &patterns);
+}
+
+static void integers_result(uint32_t *lower, uint32_t *upper)
+{
+    memcpy(lower, patterns.lo, m * n * sizeof *lower);
+    memcpy(upper, patterns.up, m * n * sizeof *upper);
+}
+
+const struct peer peer_integers = {"plain C, 64-bit integers", false, load_integers, run_integers, integers_result};
+
+/* ---- the machine's floats */
+
+static struct floats floats;
+
+static void load_floats(size_t cells, const uint32_t *patterns, float *values)
+{
+    memcpy(values, patterns, cells * sizeof *values);
+}
+
+static void load_machine(const struct matrices *x)
+{
+    load_sizes(x);
+    load_floats(m * k, x->al, floats.al);
+    load_floats(m * k, x->au, floats.au);
+    load_floats(k * n, x->bl, floats.bl);
+    load_floats(k * n, x->bu, floats.bu);
+}
+
+static bool run_machine(int method)
+{
+    return plain_product(method, m, k, n, &floats);
+}
+
+static void machine_result(uint32_t *lower, uint32_t *upper)
+{
+    for (size_t c = 0; c < m * n; c++) {
+        lower[c] = result_pattern(floats.lo[c]);
+        upper[c] = result_pattern(floats.up[c]);
+    }
+}
+
+const struct peer peer_machine = {"hardware floats, fesetround", false, load_machine, run_machine, machine_result};
