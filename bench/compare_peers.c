@@ -11,6 +11,7 @@ static const struct peer *const peers[] = {
     [OURS] = &peer_job,
     &peer_product,
     [INTEGERS] = &peer_integers,
+    &peer_classical,
     &peer_machine,
 #ifdef HAVE_MPFR
     &peer_mpfr,

@@ -1,5 +1,5 @@
 /* The products in plain C over 64-bit integers, not proved: what the benchmark
-   compares with. Numbers are patterns, rounded by the operations of plain.h. */
+   compares with. Numbers are patterns, rounded by the operations of plain_number.h. */
 #ifndef INTEGER_PRODUCT_H
 #define INTEGER_PRODUCT_H
 
@@ -16,5 +16,8 @@ struct patterns {
    cells that are numbers in order, which is not checked. Whether all entries
    are finite. */
 bool integer_product(int method, size_t m, size_t k, size_t n, struct patterns *p);
+
+/* The same by method 1 alone, where each exact corner product is worked out once. */
+bool integer_classical(size_t m, size_t k, size_t n, struct patterns *p);
 
 #endif

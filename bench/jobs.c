@@ -25,7 +25,7 @@ static void print_missing(void)
 int main(int argc, char **argv)
 {
     int rounds = rounds_given(argc, argv);
-    printf("\n## Sheet jobs\n\nLeast of %d rounds, in turns. A ratio is the time of our sheet job over the peer's: below 1, ours is faster.\n",
+    printf("\n## Sheet jobs\n\nLeast of %d rounds, of ten times as many up to 1,024 steps over l, in turns. A ratio is the time of our sheet job over the peer's: below 1, ours is faster.\n",
            rounds);
     print_missing();
     printf("\n");

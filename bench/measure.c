@@ -8,7 +8,8 @@
 #include <stdio.h>
 #include <string.h>
 
-#define STEPS 256 /* steps over l that a turn has at least */
+#define STEPS 256  /* steps over l that a turn has at least */
+#define SHORT 1024 /* with up to as many, there are ten times as many rounds */
 
 const int methods[METHODS] = {1, 3, 4, 7};
 
@@ -70,6 +71,8 @@ bool measure(const struct matrices *x, const struct peer *const *peers, size_t c
         for (size_t p = 0; p < count; p++)
             times->least[p][method] = LONGEST;
     }
+    if (x->m * x->k * x->n <= SHORT)
+        rounds *= 10;
     for (int round = 0; round < rounds; round++)
         if (!round_of_turns(x, peers, count, times))
             return false;

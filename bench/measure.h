@@ -5,7 +5,7 @@
 #include "peer.h"
 
 #define METHODS 4
-#define MOST_PEERS 8
+#define MOST_PEERS 9
 
 extern const int methods[METHODS];
 
@@ -17,9 +17,9 @@ struct times {
 /* Whether a peer has the method with this index in methods. */
 bool has_method(const struct peer *peer, int method);
 
-/* Times the peers in turns, by each method that they have. The first peer's
-   answers are what the answer of each timed call must be, bit for bit: prints the
-   peer and returns false where one differs. */
+/* Times the peers in turns, by each method that they have; small products have ten
+   times as many rounds. The first peer's answers are what the answer of each timed
+   call must be, bit for bit: prints the peer and returns false where one differs. */
 bool measure(const struct matrices *x, const struct peer *const *peers, size_t count, int rounds, struct times *times);
 
 #endif

@@ -22,8 +22,8 @@ struct peer {
     void (*result)(uint32_t *lower, uint32_t *upper);
 };
 
-extern const struct peer peer_job, peer_product;      /* the library */
-extern const struct peer peer_integers, peer_machine; /* plain C */
+extern const struct peer peer_job, peer_product;
+extern const struct peer peer_integers, peer_classical, peer_machine;
 extern const struct peer peer_mpfr, peer_mpfi, peer_boost, peer_boost_hoisted;
 
 #ifdef __cplusplus

@@ -16,29 +16,33 @@ static void load_sizes(const struct matrices *x)
 
 /* ---- integers */
 
-static struct patterns patterns;
+static struct patterns all, classical;
 
-static void load_integers(const struct matrices *x)
+static void load_patterns(const struct matrices *x, struct patterns *p)
 {
     load_sizes(x);
-    memcpy(patterns.al, x->al, sizeof x->al);
-    memcpy(patterns.au, x->au, sizeof x->au);
-    memcpy(patterns.bl, x->bl, sizeof x->bl);
-    memcpy(patterns.bu, x->bu, sizeof x->bu);
+    memcpy(p->al, x->al, sizeof x->al);
+    memcpy(p->au, x->au, sizeof x->au);
+    memcpy(p->bl, x->bl, sizeof x->bl);
+    memcpy(p->bu, x->bu, sizeof x->bu);
 }
 
-static bool run_integers(int method)
+static void patterns_result(const struct patterns *p, uint32_t *lower, uint32_t *upper)
 {
-    return integer_product(method, m, k, n, &patterns);
+    memcpy(lower, p->lo, m * n * sizeof *lower);
+    memcpy(upper, p->up, m * n * sizeof *upper);
 }
 
-static void integers_result(uint32_t *lower, uint32_t *upper)
-{
-    memcpy(lower, patterns.lo, m * n * sizeof *lower);
-    memcpy(upper, patterns.up, m * n * sizeof *upper);
-}
+static void load_all(const struct matrices *x) { load_patterns(x, &all); }
+static bool run_all(int method) { return integer_product(method, m, k, n, &all); }
+static void all_result(uint32_t *lower, uint32_t *upper) { patterns_result(&all, lower, upper); }
 
-const struct peer peer_integers = {"plain C, 64-bit integers", false, load_integers, run_integers, integers_result};
+static void load_classical(const struct matrices *x) { load_patterns(x, &classical); }
+static bool run_classical(int method) { return method == 1 && integer_classical(m, k, n, &classical); }
+static void classical_result(uint32_t *lower, uint32_t *upper) { patterns_result(&classical, lower, upper); }
+
+const struct peer peer_integers = {"plain C, 64-bit integers", false, load_all, run_all, all_result};
+const struct peer peer_classical = {"plain C, each corner product once", true, load_classical, run_classical, classical_result};
 
 /* ---- the machine's floats */
 
