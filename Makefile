@@ -30,19 +30,8 @@ test: ## all tests, from nothing: ends in 'N passed, 0 failed'
 check: ## prove what changed since the last check
 	@rt check
 
-bench: ## time operations, products and sheets, beside plain C and the machine's own
-	@rt staticlib face
-	@rt staticlib products_face
-	@rt staticlib sheet_face
-	@mkdir -p target/bench
-	@gcc -std=c11 -O2 -frounding-math -Wall -Wextra -Werror -o target/bench/numbers \
-		bench/numbers.c bench/plain.c target/staticlib/libface.a -lm
-	@gcc -std=c11 -O2 -frounding-math -Wall -Wextra -Werror -o target/bench/products \
-		bench/products.c bench/integer_product.c bench/plain_product.c target/staticlib/libproducts_face.a -lm
-	@gcc -std=c11 -O2 -Wall -Wextra -Werror -o target/bench/sheets bench/sheets.c target/staticlib/libsheet_face.a
-	@target/bench/numbers
-	@target/bench/products
-	@target/bench/sheets
+bench: $(patsubst %,target/staticlib/lib%.a,face sheet_face products_face coupling) ## time operations, sheets and sheet jobs beside their peers; ROUNDS=N sets the rounds
+	@$(MAKE) --no-print-directory -C bench $(if $(ROUNDS),ROUNDS=$(ROUNDS))
 
 install: $(archive) ## install archive, headers and coupling.pc under PREFIX, /usr/local unless given
 	@install -d $(DESTDIR)$(PREFIX)/include $(DESTDIR)$(PREFIX)/lib/pkgconfig
@@ -54,8 +43,8 @@ uninstall: ## remove what install put under PREFIX
 	@rm -f $(DESTDIR)$(PREFIX)/include/coupling.h $(DESTDIR)$(PREFIX)/include/coupling_sentences.h
 	@rm -f $(DESTDIR)$(PREFIX)/lib/libcoupling.a $(DESTDIR)$(PREFIX)/lib/pkgconfig/coupling.pc
 
-$(archive): $(wildcard crates/*/src/*.rt)
-	@rt staticlib coupling
+target/staticlib/lib%.a: $(wildcard crates/*/src/*.rt)
+	@rt staticlib $*
 
 fmt: ## format the Rattle sources
 	@rt fmt

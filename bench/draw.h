@@ -1,4 +1,5 @@
-/* Random bits for the benchmarks, the same in each run: the splitmix64 generator. */
+/* Benchmarks, not proved: random bits by the splitmix64 generator, the same in
+   each run, and numbers made of them. */
 #ifndef DRAW_H
 #define DRAW_H
 
@@ -11,6 +12,14 @@ static inline uint64_t draw(void)
     z = (z ^ (z >> 30)) * 0xBF58476D1CE4E5B9u;
     z = (z ^ (z >> 27)) * 0x94D049BB133111EBu;
     return z ^ (z >> 31);
+}
+
+/* Any sign and fraction, and an exponent field from least to greatest. */
+static inline uint32_t draw_number(uint32_t least, uint32_t greatest)
+{
+    uint64_t bits = draw();
+    uint32_t field = least + (uint32_t)(bits >> 32) % (greatest - least + 1);
+    return ((uint32_t)bits & 0x807FFFFF) | field << 23;
 }
 
 #endif

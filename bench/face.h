@@ -1,6 +1,6 @@
-/* The functions of crate face, for C. Each takes two binary32 patterns and
-   returns the pattern of the result, or 0x7F800003 where an operand has
-   exponent field 255, or 0x7F800005 where no finite number is right. */
+/* The functions of crate face, for C; this header is not proved. Each takes two
+   binary32 patterns and returns the pattern of the result, or 0x7F800003 where an
+   operand has exponent field 255, or 0x7F800005 where no finite number is right. */
 #ifndef FACE_H
 #define FACE_H
 

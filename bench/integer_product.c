@@ -1,39 +1,22 @@
-/* The products in plain C over 64-bit integers, not proved. The operations are
-   included, so that the compiler can put them in place of calls. What belongs
-   to a cell alone is worked out once a cell. */
+/* The products in plain C over 64-bit integers, not proved. What belongs to a cell
+   alone is worked out once a cell. */
 #include "integer_product.h"
 
-#include "plain.c"
+#include "plain_number.h"
+#include "plain_order.h"
 
-#define SIGN 0x80000000u
 #define TINY 0x01000000u /* 2^-125 */
 
 /* Factors of a cell of A and of one of B: |m|, method 3's r' or r, |m| + r, the
    part p, and -|p| or |p|. */
-static uint32_t abs_a[MAX_CELLS], part_a[MAX_CELLS], minus_a[MAX_CELLS];
-static uint32_t inner_b[MAX_CELLS], outer_b[MAX_CELLS], part_b[MAX_CELLS], abs_part_b[MAX_CELLS];
-
-/* Grows with the number that the pattern stands for. */
-static inline int32_t order(uint32_t p)
-{
-    return p & SIGN ? -(int32_t)(p & ~SIGN) : (int32_t)p;
-}
-
-static inline uint32_t least(uint32_t p, uint32_t q)
-{
-    return order(p) <= order(q) ? p : q;
-}
-
-static inline uint32_t greatest(uint32_t p, uint32_t q)
-{
-    return order(p) <= order(q) ? q : p;
-}
+static uint32_t abs_a[CELLS], part_a[CELLS], minus_a[CELLS];
+static uint32_t inner_b[CELLS], outer_b[CELLS], part_b[CELLS], abs_part_b[CELLS];
 
 static void convert(size_t count, const uint32_t *lower, const uint32_t *upper, uint32_t *m, uint32_t *r)
 {
     for (size_t c = 0; c < count; c++) {
-        m[c] = plain_midpoint_up(lower[c], upper[c]);
-        r[c] = plain_sub_up(m[c], lower[c]);
+        m[c] = midpoint_up(lower[c], upper[c]);
+        r[c] = sub_up(m[c], lower[c]);
     }
 }
 
@@ -48,7 +31,7 @@ static uint32_t raised(size_t k)
 {
     uint32_t total = 0;
     for (size_t i = 0; i < k + 2; i++)
-        total = plain_add_near(total, 0x33800000);
+        total = add_near(total, 0x33800000);
     return total;
 }
 
@@ -62,8 +45,8 @@ static void derive(int method, size_t k, size_t a, size_t b, const struct patter
     }
     for (size_t c = 0; c < b; c++) {
         uint32_t m = p->mb[c] & ~SIGN;
-        inner_b[c] = method == 3 ? plain_add_up(plain_mul_up(factor, m), p->rb[c]) : p->rb[c];
-        outer_b[c] = plain_add_up(m, p->rb[c]);
+        inner_b[c] = method == 3 ? add_up(mul_up(factor, m), p->rb[c]) : p->rb[c];
+        outer_b[c] = add_up(m, p->rb[c]);
         part_b[c] = part(p->mb[c], p->rb[c]);
         abs_part_b[c] = part_b[c] & ~SIGN;
     }
@@ -72,21 +55,21 @@ static void derive(int method, size_t k, size_t a, size_t b, const struct patter
 static uint32_t dot_up(size_t k, size_t n, const uint32_t *x, const uint32_t *y, uint32_t s)
 {
     for (size_t l = 0; l < k; l++)
-        s = plain_add_up(s, plain_mul_up(x[l], y[l * n]));
+        s = add_up(s, mul_up(x[l], y[l * n]));
     return s;
 }
 
 static uint32_t dot_down(size_t k, size_t n, const uint32_t *x, const uint32_t *y, uint32_t s)
 {
     for (size_t l = 0; l < k; l++)
-        s = plain_add_down(s, plain_mul_down(x[l], y[l * n]));
+        s = add_down(s, mul_down(x[l], y[l * n]));
     return s;
 }
 
 static uint32_t dot_near(size_t k, size_t n, const uint32_t *x, const uint32_t *y, uint32_t s)
 {
     for (size_t l = 0; l < k; l++)
-        s = plain_add_near(s, plain_mul_near(x[l], y[l * n]));
+        s = add_near(s, mul_near(x[l], y[l * n]));
     return s;
 }
 
@@ -95,10 +78,10 @@ static void classical(size_t k, size_t n, size_t row, size_t j, const struct pat
     *lo = *up = 0;
     for (size_t l = 0; l < k; l++) {
         uint32_t al = p->al[row + l], au = p->au[row + l], bl = p->bl[l * n + j], bu = p->bu[l * n + j];
-        *lo = plain_add_down(*lo, least(least(plain_mul_down(al, bl), plain_mul_down(al, bu)),
-                                        least(plain_mul_down(au, bl), plain_mul_down(au, bu))));
-        *up = plain_add_up(*up, greatest(greatest(plain_mul_up(al, bl), plain_mul_up(al, bu)),
-                                         greatest(plain_mul_up(au, bl), plain_mul_up(au, bu))));
+        *lo = add_down(*lo, least(least(mul_down(al, bl), mul_down(al, bu)),
+                                        least(mul_down(au, bl), mul_down(au, bu))));
+        *up = add_up(*up, greatest(greatest(mul_up(al, bl), mul_up(al, bu)),
+                                         greatest(mul_up(au, bl), mul_up(au, bu))));
     }
 }
 
@@ -106,7 +89,7 @@ static void centred(int method, size_t k, size_t n, size_t row, size_t j, const 
 {
     uint32_t radius = dot_up(k, n, abs_a + row, inner_b + j, 0), low, high;
     if (method == 3)
-        radius = plain_add_up(radius, TINY);
+        radius = add_up(radius, TINY);
     radius = dot_up(k, n, p->ra + row, outer_b + j, radius);
     if (method == 3) {
         low = high = dot_near(k, n, p->ma + row, p->mb + j, 0);
@@ -119,8 +102,8 @@ static void centred(int method, size_t k, size_t n, size_t row, size_t j, const 
         low = dot_down(k, n, part_a + row, part_b + j, low);
         high = dot_up(k, n, part_a + row, part_b + j, high);
     }
-    *lo = plain_sub_down(low, radius);
-    *up = plain_add_up(high, radius);
+    *lo = sub_down(low, radius);
+    *up = add_up(high, radius);
 }
 
 bool integer_product(int method, size_t m, size_t k, size_t n, struct patterns *p)

@@ -1,37 +1,27 @@
-/* Times the twelve operations on numbers, not proved: the library's beside
-   the same algorithm in plain C and the machine's own, on the same pairs and
-   in turns. Calls are independent of each other and go through a pointer; the
-   least of many rounds counts. Stops with status 1 where two answers differ. */
-#define _POSIX_C_SOURCE 200809L /* clock_gettime */
-#include <fenv.h>
-#include <stdio.h>
-#include <string.h>
-#include <time.h>
+/* Benchmarks, not proved: times the twelve operations on numbers, the library's
+   beside the same algorithm in plain C and the machine's own, on the same pairs and
+   in turns. Calls are independent of each other and go through a pointer.
 
+   numbers [rounds]
+
+   The least of ten times as many rounds counts, since they are short. Stops with
+   status 1 where two answers differ. */
+#include "timing.h"
+
+#include <fenv.h>
+#include <stdbool.h>
+
+#include "bits.h"
 #include "draw.h"
 #include "face.h"
 #include "plain.h"
+#include "table.h"
 
 #define PAIRS 4096
-#define ROUNDS 1000
 
 typedef uint32_t operation(uint32_t a, uint32_t b);
 
 static uint32_t left[PAIRS], right[PAIRS];
-
-static float value_of(uint32_t pattern)
-{
-    float value;
-    memcpy(&value, &pattern, sizeof value);
-    return value;
-}
-
-static uint32_t pattern_of(float value)
-{
-    uint32_t pattern;
-    memcpy(&pattern, &value, sizeof pattern);
-    return pattern;
-}
 
 /* The machine's operations, in the rounding mode that is set. A midpoint is
    narrowed from binary64: a sum that is not exact there lies far from every
@@ -77,22 +67,6 @@ static const struct row {
 
 #define ROWS (sizeof rows / sizeof rows[0])
 
-/* Any sign and fraction, and an exponent field from least to greatest. */
-static uint32_t number(uint32_t least, uint32_t greatest)
-{
-    uint64_t bits = draw();
-    uint32_t field = least + (uint32_t)(bits >> 32) % (greatest - least + 1);
-    return ((uint32_t)bits & 0x807FFFFF) | field << 23;
-}
-
-static void draw_pairs(uint32_t least, uint32_t greatest)
-{
-    for (int i = 0; i < PAIRS; i++) {
-        left[i] = number(least, greatest);
-        right[i] = number(least, greatest);
-    }
-}
-
 /* The machine's answer in the library's form. */
 static uint32_t coded(uint32_t pattern)
 {
@@ -114,17 +88,10 @@ static int differences(const struct row *row)
     return count;
 }
 
-static double now(void)
-{
-    struct timespec t;
-    clock_gettime(CLOCK_MONOTONIC, &t);
-    return (double)t.tv_sec * 1e9 + (double)t.tv_nsec;
-}
-
 static volatile uint32_t sink;
 
-/* Nanoseconds a call over all pairs, if that is less than before. */
-static void time_calls(operation *call, double *least)
+/* Nanoseconds a call over all pairs. */
+static double time_calls(operation *call)
 {
     uint32_t sum = 0;
     double start = now();
@@ -132,46 +99,62 @@ static void time_calls(operation *call, double *least)
         sum += call(left[i], right[i]);
     double took = (now() - start) / PAIRS;
     sink = sum;
-    if (took < *least)
-        *least = took;
+    return took;
 }
 
-static void time_rows(const char *title)
+struct times {
+    double ours, plain, machine;
+};
+
+static void time_row(const struct row *row, struct times *least)
 {
-    double ours[ROWS], plain[ROWS], machine[ROWS];
-    for (size_t i = 0; i < ROWS; i++)
-        ours[i] = plain[i] = machine[i] = 1e9;
-    for (int round = 0; round < ROUNDS; round++)
-        for (size_t i = 0; i < ROWS; i++) {
-            time_calls(rows[i].ours, &ours[i]);
-            time_calls(rows[i].plain, &plain[i]);
-            fesetround(rows[i].mode);
-            time_calls(rows[i].machine, &machine[i]);
-            fesetround(FE_TONEAREST);
-        }
-    printf("%s\n  operation       ours  plain C  machine  ours/plain\n", title);
-    for (size_t i = 0; i < ROWS; i++)
-        printf("  %-13s %6.1f %8.1f %8.1f %11.2f\n", rows[i].name,
-               ours[i], plain[i], machine[i], ours[i] / plain[i]);
+    keep_least(&least->ours, time_calls(row->ours));
+    keep_least(&least->plain, time_calls(row->plain));
+    fesetround(row->mode);
+    keep_least(&least->machine, time_calls(row->machine));
+    fesetround(FE_TONEAREST);
 }
 
-static int compare(uint32_t least, uint32_t greatest, const char *title)
+static void print_row(const struct row *row, const struct times *least)
 {
-    draw_pairs(least, greatest);
+    printf("| %-13s |", row->name);
+    print_number(least->ours);
+    print_number(least->plain);
+    print_number(least->machine);
+    print_ratio(least->ours, least->plain);
+    print_ratio(least->ours, least->machine);
+    printf("\n");
+}
+
+static bool compare(uint32_t least_field, uint32_t greatest_field, const char *title, int rounds)
+{
+    struct times least[ROWS];
+    for (int i = 0; i < PAIRS; i++) {
+        left[i] = draw_number(least_field, greatest_field);
+        right[i] = draw_number(least_field, greatest_field);
+    }
     for (size_t i = 0; i < ROWS; i++) {
+        least[i] = (struct times){LONGEST, LONGEST, LONGEST};
         int count = differences(&rows[i]);
         if (count != 0) {
             printf("%s: %d of %d answers differ\n", rows[i].name, count, PAIRS);
-            return 1;
+            return false;
         }
     }
-    time_rows(title);
-    return 0;
+    for (int round = 0; round < rounds; round++)
+        for (size_t i = 0; i < ROWS; i++)
+            time_row(&rows[i], &least[i]);
+    printf("\n%s\n\n| nanoseconds   |   ours | plain C | machine | ours / plain C | ours / machine |\n", title);
+    print_rule(5);
+    for (size_t i = 0; i < ROWS; i++)
+        print_row(&rows[i], &least[i]);
+    return true;
 }
 
-int main(void)
+int main(int argc, char **argv)
 {
-    printf("nanoseconds a call, least of %d rounds over %d pairs\n", ROUNDS, PAIRS);
-    return compare(122, 132, "numbers of like size, 2^-5 to 2^6:")
-        || compare(0, 254, "any finite patterns:");
+    int rounds = 10 * rounds_given(argc, argv);
+    printf("\n## Operations\n\nNanoseconds a call, least of %d rounds over %d pairs, in turns.\n", rounds, PAIRS);
+    return compare(122, 132, "numbers of like size, 2^-5 to 2^6", rounds)
+        && compare(0, 254, "any finite patterns", rounds) ? 0 : 1;
 }

@@ -1,129 +1,19 @@
-/* The operations in plain C, not proved: the library's algorithm, with a sign
-   and a magnitude in place of a signed significand. An exact value, or one
-   that no rounding tells from it, is rounded once. No branch goes by a sign,
-   which no processor can foretell. */
-#include <stdbool.h>
-
+/* The operations in plain C as functions to call, not proved. */
 #include "plain.h"
 
-#define NOT_FINITE 0x7F800003u
-#define OVERFLOW   0x7F800005u
+#include "plain_number.h"
 
-enum direction { DOWN, UP, NEAR };
+#define FUNCTION(name) uint32_t plain_##name(uint32_t a, uint32_t b) { return name(a, b); }
 
-/* sig * 2^exp units of 2^-149. */
-struct number {
-    bool negative;
-    uint64_t sig;
-    uint32_t exp;
-};
-
-static inline bool is_finite(uint32_t p)
-{
-    return (p & 0x7FFFFFFF) < 0x7F800000;
-}
-
-static inline struct number decode(uint32_t p)
-{
-    uint32_t field = p >> 23 & 0xFF, fraction = p & 0x7FFFFF;
-    bool negative = p >> 31;
-    if (field == 0)
-        return (struct number){negative, fraction, 0};
-    return (struct number){negative, fraction + 0x800000, field - 1};
-}
-
-static inline struct number product(struct number x, struct number y)
-{
-    return (struct number){x.negative != y.negative, x.sig * y.sig, x.exp + y.exp};
-}
-
-/* m, or -m, which is m with all bits turned over and 1 more. */
-static inline int64_t with_sign(bool negative, int64_t m)
-{
-    int64_t ones = -(int64_t)negative;
-    return (m ^ ones) - ones;
-}
-
-static inline int64_t shifted(struct number x, uint32_t n)
-{
-    return with_sign(x.negative, (int64_t)(x.sig << n));
-}
-
-/* x + y. Where one is more than 36 places below the other, a unit 36 places
-   below stands for it: no rounding tells the two apart. */
-static inline struct number sum(struct number x, struct number y)
-{
-    uint32_t low = x.exp < y.exp ? x.exp : y.exp;
-    uint32_t high = x.exp < y.exp ? y.exp : x.exp;
-    if (high - low > 36) {
-        struct number *smaller = x.exp < y.exp ? &x : &y;
-        low = high - 36;
-        smaller->sig = smaller->sig != 0;
-        smaller->exp = low;
-    }
-    int64_t total = shifted(x, x.exp - low) + shifted(y, y.exp - low);
-    bool negative = total < 0;
-    return (struct number){negative, (uint64_t)with_sign(negative, total), low};
-}
-
-/* Down and up: whether a value between two numbers goes away from 0. */
-static inline bool away(bool negative, enum direction direction)
-{
-    return negative == (direction == DOWN);
-}
-
-/* The pattern of x * 2^(lift - 149) units, rounded: all but 24 digits are cut
-   off, or all below one unit. The digits of x, 61 at most, are first moved up
-   to 61, so that n places are always cut, 62 standing for any more. */
-static inline uint32_t rounded(struct number x, uint32_t lift, enum direction direction)
-{
-    if (x.sig == 0)
-        return 0;
-    uint32_t zeros = (uint32_t)__builtin_clzll(x.sig);
-    uint32_t top = 64 - zeros + x.exp + lift;
-    uint32_t kept = top < 173 ? top : 173;
-    uint32_t n = 210 - kept < 62 ? 210 - kept : 62;
-    uint64_t w = x.sig << (zeros - 3);
-    uint64_t c = w >> n, lost = w - (c << n);
-    if (direction == NEAR)
-        c += (UINT64_C(1) << n) < 2 * lost + c % 2;
-    else
-        c += (lost != 0) & away(x.negative, direction);
-    uint32_t magnitude = (top - kept) * 0x800000 + (uint32_t)c;
-    uint32_t sign = (uint32_t)x.negative << 31;
-    if (magnitude == 0)
-        return 0;
-    if (magnitude < 0x7F800000)
-        return sign | magnitude;
-    return direction == NEAR || away(x.negative, direction) ? OVERFLOW : sign | 0x7F7FFFFF;
-}
-
-static inline uint32_t add(uint32_t a, uint32_t b, uint32_t lift, enum direction direction)
-{
-    if (!is_finite(a) || !is_finite(b))
-        return NOT_FINITE;
-    return rounded(sum(decode(a), decode(b)), lift, direction);
-}
-
-static inline uint32_t mul(uint32_t a, uint32_t b, enum direction direction)
-{
-    if (!is_finite(a) || !is_finite(b))
-        return NOT_FINITE;
-    return rounded(product(decode(a), decode(b)), 0, direction);
-}
-
-uint32_t plain_add_down(uint32_t a, uint32_t b) { return add(a, b, 149, DOWN); }
-uint32_t plain_add_up(uint32_t a, uint32_t b) { return add(a, b, 149, UP); }
-uint32_t plain_add_near(uint32_t a, uint32_t b) { return add(a, b, 149, NEAR); }
-
-uint32_t plain_sub_down(uint32_t a, uint32_t b) { return add(a, b ^ 0x80000000, 149, DOWN); }
-uint32_t plain_sub_up(uint32_t a, uint32_t b) { return add(a, b ^ 0x80000000, 149, UP); }
-uint32_t plain_sub_near(uint32_t a, uint32_t b) { return add(a, b ^ 0x80000000, 149, NEAR); }
-
-uint32_t plain_mul_down(uint32_t a, uint32_t b) { return mul(a, b, DOWN); }
-uint32_t plain_mul_up(uint32_t a, uint32_t b) { return mul(a, b, UP); }
-uint32_t plain_mul_near(uint32_t a, uint32_t b) { return mul(a, b, NEAR); }
-
-uint32_t plain_midpoint_down(uint32_t a, uint32_t b) { return add(a, b, 148, DOWN); }
-uint32_t plain_midpoint_up(uint32_t a, uint32_t b) { return add(a, b, 148, UP); }
-uint32_t plain_midpoint_near(uint32_t a, uint32_t b) { return add(a, b, 148, NEAR); }
+FUNCTION(add_down)
+FUNCTION(add_up)
+FUNCTION(add_near)
+FUNCTION(sub_down)
+FUNCTION(sub_up)
+FUNCTION(sub_near)
+FUNCTION(mul_down)
+FUNCTION(mul_up)
+FUNCTION(mul_near)
+FUNCTION(midpoint_down)
+FUNCTION(midpoint_up)
+FUNCTION(midpoint_near)

@@ -16,7 +16,6 @@
 static float radius[CELLS], wide[CELLS], inner[CELLS], pa[CELLS], pb[CELLS];
 
 static float least(float x, float y) { return x < y ? x : y; }
-static float greatest(float x, float y) { return x > y ? x : y; }
 
 /* start, and then x[0] * y[0], x[1] * y[n], .. one after the other. */
 static inline float dot(size_t k, size_t n, const float *x, const float *y, float start)
@@ -31,35 +30,6 @@ static inline float dot_magnitudes(size_t k, size_t n, const float *x, const flo
     for (size_t l = 0; l < k; l++)
         start += fabsf(x[l]) * y[l * n];
     return start;
-}
-
-/* Method 1, with the mode down and up. */
-PASS lowers(size_t m, size_t k, size_t n, struct floats *f)
-{
-    for (size_t i = 0; i < m; i++)
-        for (size_t j = 0; j < n; j++) {
-            float sum = 0;
-            for (size_t l = 0; l < k; l++) {
-                size_t a = i * k + l, b = l * n + j;
-                sum += least(least(f->al[a] * f->bl[b], f->al[a] * f->bu[b]),
-                             least(f->au[a] * f->bl[b], f->au[a] * f->bu[b]));
-            }
-            f->lo[i * n + j] = sum;
-        }
-}
-
-PASS uppers(size_t m, size_t k, size_t n, struct floats *f)
-{
-    for (size_t i = 0; i < m; i++)
-        for (size_t j = 0; j < n; j++) {
-            float sum = 0;
-            for (size_t l = 0; l < k; l++) {
-                size_t a = i * k + l, b = l * n + j;
-                sum += greatest(greatest(f->al[a] * f->bl[b], f->al[a] * f->bu[b]),
-                                greatest(f->au[a] * f->bl[b], f->au[a] * f->bu[b]));
-            }
-            f->up[i * n + j] = sum;
-        }
 }
 
 /* Mode up. The sum of two floats in binary64, rounded up, then halved and
@@ -160,9 +130,9 @@ bool plain_product(int method, size_t m, size_t k, size_t n, struct floats *f)
 {
     fesetround(FE_UPWARD);
     if (method == 1) {
-        uppers(m, k, n, f);
+        plain_uppers(m, k, n, f);
         fesetround(FE_DOWNWARD);
-        lowers(m, k, n, f);
+        plain_lowers(m, k, n, f);
     } else {
         convert(m * k, f->al, f->au, f->ma, f->ra);
         convert(k * n, f->bl, f->bu, f->mb, f->rb);

@@ -3,10 +3,7 @@
 #ifndef PLAIN_PRODUCT_H
 #define PLAIN_PRODUCT_H
 
-#include <stdbool.h>
-#include <stddef.h>
-
-#define CELLS 1024
+#include "matrices.h"
 
 /* Bounds of A, B and the result C, and what A and B are converted to. */
 struct floats {
@@ -19,5 +16,9 @@ struct floats {
    cells that are numbers in order, which is not checked. Whether all entries
    are finite; a zero in the result or in a midpoint may have either sign. */
 bool plain_product(int method, size_t m, size_t k, size_t n, struct floats *f);
+
+/* Method 1's lower bounds, with the mode down, and its upper ones, with it up. */
+void plain_lowers(size_t m, size_t k, size_t n, struct floats *f);
+void plain_uppers(size_t m, size_t k, size_t n, struct floats *f);
 
 #endif

@@ -1,6 +1,6 @@
-/* The function of crate products_face, for C. A slice is a pointer and a
-   length; a length of zero is legal, also with a null pointer. The slices that
-   are written must not overlap any other. Cells stand by rows.
+/* The function of crate products_face, for C; this header is not proved. A slice
+   is a pointer and a length; a length of zero is legal, also with a null pointer.
+   The slices that are written must not overlap any other. Cells stand by rows.
 
    al, au: the bounds of A; bl, bu: of B; ma, ra, mb, rb: work slices, which
    take midpoints and radii; lo, up: the bounds of the result. Returns 0, or

@@ -1,59 +1,92 @@
-/* Times reading and writing a full coupling sheet of 1,024 cells, not proved:
-   the least of many rounds counts. Stops with status 1 where what is read back
-   is not the matrix that was written. */
-#define _POSIX_C_SOURCE 200809L /* clock_gettime */
-#include <stdint.h>
-#include <stdio.h>
+/* Benchmarks, not proved: times reading and writing a full coupling sheet of 1,024
+   cells, beside plain C (plain_sheet.c), in turns.
+
+   sheets [rounds]
+
+   The least of ten times as many rounds counts, since they are short. Stops with
+   status 1 where the two answers differ in a word or a byte. */
+#include "timing.h"
+
 #include <string.h>
-#include <time.h>
 
-#define SIZE 32
-#define CELLS (SIZE * SIZE)
+#include "../tests/oracle/oracle.h"
+#include "../tests/sheets/sheet.h"
+#include "matrices.h"
+#include "sheet_face.h"
+#include "table.h"
+
 #define BYTES (16 * (CELLS + 1))
-#define ROUNDS 2000
 
-/* crates/sheet_face: a slice is a pointer followed by its length. */
-uint32_t fody_read(const uint8_t *s, size_t s_len, uint32_t *lowers, size_t lowers_len, uint32_t *uppers, size_t uppers_len);
-uint32_t fody_put(size_t rows, size_t columns, const uint32_t *lowers, size_t lowers_len,
-                  const uint32_t *uppers, size_t uppers_len, uint8_t *out, size_t out_len);
+struct cells {
+    uint32_t lowers[CELLS], uppers[CELLS];
+};
 
-static uint32_t lowers[CELLS], uppers[CELLS], read_lowers[CELLS], read_uppers[CELLS];
-static uint8_t sheet[BYTES];
+struct pair {
+    double ours, plain;
+};
 
-static double now(void)
+static uint8_t given[BYTES], our_sheet[BYTES], plain_sheet[BYTES];
+static struct cells our_cells, plain_cells;
+
+/* All classes in turn, or class 0 alone. */
+static void put_given(bool classes)
 {
-    struct timespec t;
-    clock_gettime(CLOCK_MONOTONIC, &t);
-    return (double)t.tv_sec * 1e9 + (double)t.tv_nsec;
+    put_full(given);
+    for (size_t c = 1; !classes && c <= CELLS; c++)
+        given[16 * c + 12] = 0;
 }
 
-static double least(double a, double b)
+static bool time_read(struct pair *least)
 {
-    return a < b ? a : b;
+    size_t rows, columns;
+    double start = now();
+    uint32_t sizes = fody_read(given, BYTES, our_cells.lowers, CELLS, our_cells.uppers, CELLS);
+    double between = now();
+    struct refusal refusal = oracle_read(given, BYTES, plain_cells.lowers, CELLS, plain_cells.uppers, CELLS, &rows, &columns);
+    keep_least(&least->plain, now() - between);
+    keep_least(&least->ours, between - start);
+    return sizes == 100 * SIZE + SIZE && refusal.number == 0
+        && memcmp(&our_cells, &plain_cells, sizeof our_cells) == 0;
 }
 
-int main(void)
+/* Writes what was read last. */
+static bool time_write(struct pair *least)
 {
-    for (uint32_t c = 0; c < CELLS; c++) {
-        lowers[c] = 0x3F800000u + 977 * c;  /* 1 and more */
-        uppers[c] = 0x40000000u + 1009 * c; /* 2 and more */
-    }
-    double writing = 1e18, reading = 1e18;
-    for (int round = 0; round < ROUNDS; round++) {
-        double start = now();
-        uint32_t length = fody_put(SIZE, SIZE, lowers, CELLS, uppers, CELLS, sheet, BYTES);
-        double written = now();
-        uint32_t sizes = fody_read(sheet, BYTES, read_lowers, CELLS, read_uppers, CELLS);
-        double done = now();
-        if (length != BYTES || sizes != 100 * SIZE + SIZE || memcmp(lowers, read_lowers, sizeof lowers) != 0
-            || memcmp(uppers, read_uppers, sizeof uppers) != 0) {
-            puts("what is read back differs");
-            return 1;
+    size_t written;
+    double start = now();
+    uint32_t length = fody_put(SIZE, SIZE, our_cells.lowers, CELLS, our_cells.uppers, CELLS, our_sheet, BYTES);
+    double between = now();
+    oracle_write(SIZE, SIZE, plain_cells.lowers, CELLS, plain_cells.uppers, CELLS, plain_sheet, BYTES, &written);
+    keep_least(&least->plain, now() - between);
+    keep_least(&least->ours, between - start);
+    return length == BYTES && written == BYTES && memcmp(our_sheet, plain_sheet, BYTES) == 0;
+}
+
+static bool print_row(const char *name, bool (*time)(struct pair *), int rounds)
+{
+    struct pair least = {LONGEST, LONGEST};
+    for (int round = 0; round < rounds; round++)
+        if (!time(&least)) {
+            printf("%s: the answers differ\n", name);
+            return false;
         }
-        writing = least(writing, written - start);
-        reading = least(reading, done - written);
-    }
-    printf("nanoseconds a cell, a sheet of %d cells, least of %d rounds\n", CELLS, ROUNDS);
-    printf("  read  %6.1f\n  write %6.1f\n", reading / CELLS, writing / CELLS);
-    return 0;
+    printf("| %-27s |", name);
+    print_number(least.ours / CELLS);
+    print_number(least.plain / CELLS);
+    print_ratio(least.ours, least.plain);
+    printf("\n");
+    return true;
+}
+
+int main(int argc, char **argv)
+{
+    int rounds = 10 * rounds_given(argc, argv);
+    printf("\n## Sheets\n\nA sheet of %d cells, least of %d rounds, in turns.\n\n", CELLS, rounds);
+    printf("| nanoseconds a cell          |   ours | plain C | ours / plain C |\n");
+    print_rule(3);
+    put_given(false);
+    if (!print_row("read, class 0", time_read, rounds))
+        return 1;
+    put_given(true);
+    return print_row("read, classes 0 to 7", time_read, rounds) && print_row("write", time_write, rounds) ? 0 : 1;
 }

@@ -1,0 +1,45 @@
+/* The classical product in plain C over 64-bit integers, not proved, by the library's
+   way: bounds are taken apart once a step, and each of the four exact corner
+   products is rounded down and up. */
+#include "integer_product.h"
+
+#include "plain_number.h"
+#include "plain_order.h"
+
+struct both {
+    uint32_t down, up;
+};
+
+static inline struct both rounded_both(struct number x)
+{
+    if (x.sig == 0)
+        return (struct both){0, 0};
+    struct cut c = cut(x, 0);
+    uint32_t near = c.magnitude, far = near + (c.lost != 0);
+    return (struct both){packed(x.negative, x.negative ? far : near, DOWN), packed(x.negative, x.negative ? near : far, UP)};
+}
+
+static inline struct both step(struct both sums, struct number al, struct number au, struct number bl, struct number bu)
+{
+    struct both p = rounded_both(product(al, bl)), q = rounded_both(product(al, bu));
+    struct both r = rounded_both(product(au, bl)), s = rounded_both(product(au, bu));
+    return (struct both){add_down(sums.down, least(least(p.down, q.down), least(r.down, s.down))),
+                         add_up(sums.up, greatest(greatest(p.up, q.up), greatest(r.up, s.up)))};
+}
+
+bool integer_classical(size_t m, size_t k, size_t n, struct patterns *p)
+{
+    bool finite = true;
+    for (size_t i = 0; i < m; i++)
+        for (size_t j = 0; j < n; j++) {
+            struct both sums = {0, 0};
+            for (size_t l = 0; l < k; l++) {
+                size_t a = i * k + l, b = l * n + j;
+                sums = step(sums, decode(p->al[a]), decode(p->au[a]), decode(p->bl[b]), decode(p->bu[b]));
+            }
+            p->lo[i * n + j] = sums.down;
+            p->up[i * n + j] = sums.up;
+            finite &= is_finite(sums.down) && is_finite(sums.up);
+        }
+    return finite;
+}

@@ -1,0 +1,23 @@
+/* The order of patterns by the numbers that they stand for, in plain C, not proved. */
+#ifndef PLAIN_ORDER_H
+#define PLAIN_ORDER_H
+
+#include "plain_number.h"
+
+/* Grows with the number that the pattern stands for. */
+static inline int32_t order(uint32_t p)
+{
+    return p & SIGN ? -(int32_t)(p & ~SIGN) : (int32_t)p;
+}
+
+static inline uint32_t least(uint32_t p, uint32_t q)
+{
+    return order(p) <= order(q) ? p : q;
+}
+
+static inline uint32_t greatest(uint32_t p, uint32_t q)
+{
+    return order(p) <= order(q) ? q : p;
+}
+
+#endif

@@ -1,0 +1,32 @@
+/* Benchmarks, not proved: tables are printed as Markdown, cell by cell. */
+#ifndef TABLE_H
+#define TABLE_H
+
+#include <stdio.h>
+
+/* The line under a table's head: names to the left, numbers to the right. */
+static inline void print_rule(int numbers)
+{
+    printf("|---|");
+    for (int i = 0; i < numbers; i++)
+        printf("---:|");
+    printf("\n");
+}
+
+static inline void print_empty(void)
+{
+    printf(" %6s |", "");
+}
+
+/* Three digits or more. */
+static inline void print_number(double x)
+{
+    printf(" %6.*f |", x >= 100 ? 0 : x >= 10 ? 1 : x >= 1 ? 2 : 3, x);
+}
+
+static inline void print_ratio(double x, double y)
+{
+    printf(" %6.*f |", x >= 10 * y ? 1 : 2, x / y);
+}
+
+#endif
