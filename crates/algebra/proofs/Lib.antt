@@ -17,3 +17,4 @@ pub mod Sum
 pub mod ListSum
 pub mod Corner
 pub mod Examples
+pub mod Table

@@ -21,11 +21,10 @@ use Rattle.rounding.proofs.Bracket.{ceil-split}
 use Rattle.rounding.proofs.Floor.{floor-mono, ceil-mono}
 use Rattle.rounding.proofs.Sign.{natAbs-neg}
 use Rattle.binary32.specs.declared.parts.Parts.{Parts}
-use Rattle.binary32.specs.declared.partial.Both.{Both}
 use Rattle.binary32.specs.Number.{holdDown, holdUp}
 use Rattle.binary32.specs.Order.{all₄}
-use Rattle.binary32.specs.Place.{valueAt, patternAt, Found, Placed, Between}
-use Rattle.binary32.specs.Steps.{of, exact, ProductIs, CornersOf}
+use Rattle.binary32.specs.Place.{valueAt, patternAt, Found, Placed}
+use Rattle.binary32.specs.Steps.{of, exact, ProductIs}
 use Rattle.binary32.proofs.CornerLaws.{least-either, greatest-either}
 use Rattle.binary32.proofs.Placing.{value-order, pattern-of}
 

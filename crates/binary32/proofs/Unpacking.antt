@@ -1,28 +1,26 @@
 -- Numbers taken apart on their way into a sum: a significand that was found holds the number of its pattern, and a sum has the roundings of its summands.
-use mathlib.Core.Path.{_≡_, refl, sym, ap, ap₂, _∙_, subst}
-use mathlib.Core.Bool.{true, false}
+use mathlib.Core.Path.{_≡_, refl, sym, ap, _∙_, subst}
+use mathlib.Core.Bool.{false}
 use mathlib.Core.Logic.{_⊎_, inl, inr}
-use mathlib.Core.Option.{Option, none, some, bind}
+use mathlib.Core.Option.{Option, some, bind}
 use Prim.Native.Nat.{ℕ, zero, suc, _+_, _*_, _^_, _≤_, _<_}
 use native.Mathlib.Omega.{arith}
-use lib.IntN.{ℤ, pos, negsuc, negℤ, natAbs, _+ℤ_, _*ℤ_}
+use lib.IntN.{ℤ, pos, negsuc, negℤ, natAbs, _*ℤ_}
 use mir.Syntax.{w64}
 use mir.Val.{ofZ, toZ}
 use borrow.Author.Tests.{lt-ltb}
 use Rattle.rounding.specs.Format.{binary32}
-use Rattle.rounding.specs.Pattern.{val}
-use Rattle.rounding.specs.Rounding.{up, down, near}
 use Rattle.rounding.proofs.Pattern.{val-pattern}
 use Rattle.rounding.proofs.Sign.{neg-mul}
 use Rattle.binary32.specs.declared.parts.Parts.{Parts}
 use Rattle.binary32.specs.declared.unpacked.Held.{Held}
 use Rattle.binary32.specs.declared.unpacked.Held.the-variants.{Number}
-use Rattle.binary32.specs.Number.{valueOf, finite, held, hold}
+use Rattle.binary32.specs.Number.{finite, held, hold}
 use Rattle.binary32.specs.Operations.{Way, add, with₂, plusOf}
-use Rattle.binary32.specs.Steps.{of, Decoded, Small, packed, exact, exactly, SumIs}
+use Rattle.binary32.specs.Steps.{of, Small, packed, exact}
 use Rattle.binary32.specs.Unpacked.{Apart, Gives}
 use Rattle.binary32.proofs.Ints.{read-small}
-use Rattle.binary32.proofs.Held.{Fits, is-finite, held-finite, held-none, held-hold, value-low, value-high}
+use Rattle.binary32.proofs.Held.{Fits, is-finite, held-finite, held-hold, value-low, value-high}
 
 -- ---- a significand and its shift
 full-or-low : (c : ℤ) (j : ℕ) → Apart c j → (j ≡ 0) ⊎ (2 ^ 23 ≤ natAbs c)

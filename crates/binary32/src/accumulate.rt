@@ -1,7 +1,7 @@
 // A sum, a pattern, with a term more: the product of two words, or a corner product of four; the term rounded, then the sum, both in one direction.
 ghost use mathlib.Core.Path.{_≡_};
 ghost use Rattle.rounding.specs.Rounding.{up, down, near};
-ghost use Rattle.binary32.specs.Number.{holdDown, holdUp, holdNear};
+ghost use Rattle.binary32.specs.Number.{holdUp, holdNear};
 ghost use Rattle.binary32.specs.Operations.{mul, on₂, plusOf};
 ghost use Rattle.binary32.specs.Order.{leastCorner, greatestCorner};
 ghost use Rattle.binary32.specs.Steps.{Rounds, BothOf};
@@ -23,7 +23,6 @@ use crate::parts::decode;
 use crate::parts::is_finite;
 use crate::unpacked::Held;
 use crate::unpacked::keep;
-use crate::unpacked::keep_down;
 use crate::unpacked::keep_near;
 use crate::unpacked::keep_up;
 
@@ -41,13 +40,6 @@ fn sum(s: u32, y: Held) -> Exact
         }
         Held::Nothing => Exact::Unknown,
     }
-}
-
-// s + a × b, rounded down.
-pub fn add_product_down(s: u32, a: u64, b: u64) -> u32
-    ensures { λ r. ⌜ r ≡ holdDown (plusOf down s (on₂ (mul down) (heldIn a) (heldIn b))) ⌝ }
-{
-    down_of(sum(s, keep_down(product_in(a, b))))
 }
 
 // s + a × b, rounded up.

@@ -2,13 +2,11 @@
 ghost use mathlib.Core.Path.{_≡_};
 ghost use Rattle.rounding.specs.Rounding.{up, down, near};
 ghost use Rattle.binary32.specs.Number.{holdDown, holdUp, holdNear};
-ghost use Rattle.binary32.specs.Steps.{exactly, BothOf, Safe};
+ghost use Rattle.binary32.specs.Steps.{exactly, Safe};
 use crate::exact::Exact;
-use crate::funnel::round_both;
 use crate::funnel::round_down;
 use crate::funnel::round_near;
 use crate::funnel::round_up;
-use crate::partial::Both;
 
 // Rounded down: minus infinity where there is no number.
 pub fn down_of(x: Exact) -> u32
@@ -40,19 +38,5 @@ pub fn near_of(x: Exact) -> u32
     match x {
         Exact::Value(p) => round_near(p),
         Exact::Unknown => 0x7F80_0000,
-    }
-}
-
-// Rounded down and rounded up.
-pub fn both_of(x: Exact) -> Both
-    requires { ⌜ Safe x ⌝ }
-    ensures { λ r. ⌜ BothOf (exactly down x) (exactly up x) r ⌝ }
-{
-    match x {
-        Exact::Value(p) => round_both(p),
-        Exact::Unknown => Both {
-            down: 0xFF80_0000,
-            up: 0x7F80_0000,
-        },
     }
 }

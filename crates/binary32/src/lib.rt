@@ -4,7 +4,7 @@ ghost use mathlib.Core.Path.{_≡_};
 ghost use Rattle.binary32.specs.Operations.{addDown, addUp, addNear, subDown, subUp, subNear, mulDown, mulUp, mulNear, midpointDown, midpointUp, midpointNear, checkedOf};
 
 pub mod accumulate;
-pub mod corners;
+mod corners;
 mod exact;
 mod funnel;
 mod hold;

@@ -5,11 +5,9 @@ ghost use mathlib.Core.Path.{_≡_};
 ghost use Rattle.rounding.specs.Rounding.{up, down, near};
 ghost use Rattle.binary32.specs.Number.{holdDown, holdUp, holdNear};
 ghost use Rattle.binary32.specs.Operations.{add, sub, mul, midpoint, with₂};
-ghost use Rattle.binary32.specs.Steps.{BothOf};
 use crate::Binary32;
 use crate::exact::product;
 use crate::exact::total;
-use crate::hold::both_of;
 use crate::hold::down_of;
 use crate::hold::near_of;
 use crate::hold::up_of;
@@ -82,20 +80,6 @@ pub fn midpoint_near(a: u32, b: u32) -> u32
     ensures { λ r. ⌜ r ≡ holdNear (with₂ (midpoint near) a b) ⌝ }
 {
     near_of(total(a, b, Binary32::SMALLEST_EXPONENT - 1))
-}
-
-// a × b, rounded down and rounded up.
-pub fn mul_both(a: u32, b: u32) -> Both
-    ensures { λ r. ⌜ BothOf (with₂ (mul down) a b) (with₂ (mul up) a b) r ⌝ }
-{
-    both_of(product(a, b))
-}
-
-// a + b, rounded down and rounded up.
-pub fn add_both(a: u32, b: u32) -> Both
-    ensures { λ r. ⌜ BothOf (with₂ (add down) a b) (with₂ (add up) a b) r ⌝ }
-{
-    both_of(total(a, b, Binary32::SMALLEST_EXPONENT))
 }
 
 // a - b, rounded down.

@@ -1,9 +1,8 @@
 // The number that an operation gives, taken apart, so that it goes on into a sum without being packed first.
-ghost use Rattle.rounding.specs.Rounding.{up, down, near};
+ghost use Rattle.rounding.specs.Rounding.{up, near};
 ghost use Rattle.binary32.specs.Number.{held};
 ghost use Rattle.binary32.specs.Steps.{packed, exactly, Safe};
 ghost use Rattle.binary32.specs.Unpacked.{Apart, Gives};
-use crate::Binary32;
 use crate::exact::Exact;
 use crate::funnel::cut;
 use crate::funnel::pack;
@@ -36,20 +35,6 @@ pub fn keep(c: i64, shift: u32, below: u32, above: u32) -> Held
         return Held::Number(Parts { sig: c, exp: shift });
     }
     unpack(pack(c, shift, below, above))
-}
-
-// Rounded down.
-pub fn keep_down(x: Exact) -> Held
-    requires { ⌜ Safe x ⌝ }
-    ensures { λ r. ⌜ Gives (exactly down x) r ⌝ }
-{
-    match x {
-        Exact::Value(p) => {
-            let c = cut(p.sig, p.exp);
-            keep(c.down, c.shift, 0xFF80_0000, Binary32::LARGEST)
-        }
-        Exact::Unknown => Held::Nothing,
-    }
 }
 
 // Rounded up.

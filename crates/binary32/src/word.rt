@@ -1,7 +1,6 @@
 // A number, or none, in a word of 64 bits, as factors are kept that are multiplied many times: a word is taken apart in fewer steps than a pattern.
 ghost use mathlib.Core.Path.{_≡_};
-ghost use Prim.Native.Nat.{_*_, _^_};
-ghost use lib.Dec.{ltb};
+ghost use Prim.Native.Nat.{_*_};
 ghost use Rattle.binary32.specs.Number.{held};
 ghost use Rattle.binary32.specs.Word.{heldIn};
 use crate::parts::decode;

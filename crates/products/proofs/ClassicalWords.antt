@@ -10,14 +10,13 @@ use Rattle.rounding.specs.Format.{binary32}
 use Rattle.rounding.specs.Rounding.{up, down}
 use Rattle.enclosure.specs.Arithmetic.{of}
 use Rattle.enclosure.specs.Methods.{classical, leastTerm, greatestTerm, total, entry₁, entry}
-use Rattle.binary32.specs.Number.{valueOf, finites, held}
+use Rattle.binary32.specs.Number.{valueOf, finites}
 use Rattle.binary32.specs.Order.{leastCorner, greatestCorner}
 use Rattle.binary32.specs.Word.{heldIn}
 use Rattle.binary32.proofs.Held.{finites-first, finites-second, held-finite}
 use Rattle.intervals.proofs.Faults.{fine-tells}
-use Rattle.intervals.specs.declared.Fault.the-variants.{Fine}
 use Rattle.products.specs.Running.{nextOf}
-use Rattle.products.specs.Matrix.{Matrix, AllFine, lowerAt, upperAt, cellAt, faultAt}
+use Rattle.products.specs.Matrix.{Matrix, AllFine, lowerAt, upperAt, cellAt}
 use Rattle.products.specs.Classical.{WordsOf, leastAt, greatestAt, lowerTo, upperTo, sumTo, entryIn}
 use Rattle.products.specs.Entries.{entryOf, entryAt}
 use Rattle.products.proofs.Nexts.{patterns-both}

@@ -9,7 +9,6 @@ pub mod BothDots
 pub mod Patterns
 pub mod Derivations
 pub mod Stores
-pub mod Table
 pub mod Raised
 pub mod Ends
 pub mod CheckLaws

@@ -10,7 +10,7 @@ use Rattle.algebra.proofs.Order.{≼-antisym}
 use Rattle.binary32.specs.Number.{valueOf, finite, held}
 use Rattle.binary32.proofs.Held.{held-finite}
 use Rattle.products.specs.Derived.{raisedOf}
-use Rattle.products.proofs.Table.{both, both-left, both-right}
+use Rattle.algebra.proofs.Table.{both, both-left, both-right}
 
 abbrev pub factor : ℕ → ℤ
 factor k = pos ((k + 2) * 2 ^ 125)

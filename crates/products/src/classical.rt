@@ -1,8 +1,8 @@
 // Method 1: the cells are put into words once, then each entry's sums are carried along its row and column, and the first overflow leaves all three loops.
+ghost use Rattle.products.specs.Matrix.{Matrix};
 ghost use lib.ListN.{length};
 ghost use Rattle.enclosure.specs.Methods.{classical};
 ghost use Rattle.products.specs.Classical.{Rooms, entryIn};
-ghost use Rattle.products.specs.Matrix.{Matrix};
 ghost use Rattle.products.specs.Entries.{Sizes, entryAt, Written};
 use crate::cells::words;
 use crate::sums::Next;

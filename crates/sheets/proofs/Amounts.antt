@@ -11,7 +11,7 @@ use Rattle.rounding.specs.Pattern.{val, place}
 use Rattle.rounding.specs.Format.{expo}
 use Rattle.binary32.specs.Number.{valueOf}
 use Rattle.sheets.specs.Wear.{unitsOf, amountOf}
-use Rattle.sheets.proofs.Table.{both, both-left, both-right, at}
+use Rattle.algebra.proofs.Table.{both, both-left, both-right, at}
 
 abbrev pub amounts : List ℕ
 amounts = 0 ∷ 0x3A800000 ∷ 0x3B000000 ∷ 0x3B800000 ∷ 0x3C000000 ∷ 0x3C800000 ∷ 0x3D000000 ∷ 0x3D800000 ∷ []

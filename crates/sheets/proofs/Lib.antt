@@ -1,7 +1,6 @@
 pub mod Bytes
 pub mod Frames
 pub mod Fits
-pub mod Table
 pub mod Amounts
 pub mod Bounding
 pub mod Judging

@@ -1,13 +1,11 @@
 -- `binary32::accumulate::add_product_both` meets its contract: the two roundings of one product are kept and added, or a factor is none and both sums are.
-use mathlib.Core.Path.{_≡_, refl, sym, ap, subst, _∙_}
+use mathlib.Core.Path.{refl, sym, ap, subst, _∙_}
 use mathlib.Core.Logic.{inr}
 use mathlib.Core.Option.{none}
-use Prim.Native.Nat.{ℕ, _^_}
-use lib.IntN.{ℤ}
+use Prim.Native.Nat.{_^_}
 use lib.Pow.{pow-pos}
 use Rattle.rounding.specs.Rounding.{up, down}
 use Rattle.binary32.specs.declared.parts.Parts.{Parts}
-use Rattle.binary32.specs.declared.exact.Exact.the-variants.{Unknown}
 use Rattle.binary32.specs.Number.{held, holdDown, holdUp}
 use Rattle.binary32.specs.Operations.{add, plusOf}
 use Rattle.binary32.specs.Steps.{Small, Safe, exactly}

@@ -11,7 +11,6 @@ use Rattle.rounding.specs.Quotient.{ceilS}
 use Rattle.binary32.specs.Place.{patternAt}
 use Rattle.binary32.proofs.Ints.{read-small}
 use Rattle.binary32.proofs.CornerPlaces.{floor-low, ceil-low}
-use borrow.Author.Needs.{needs}
 use Rattle.binary32.proofs.corners.between.Statement.{statement}
 use Rattle.binary32.proofs.corners.between.Tie as tie
 

@@ -1,5 +1,5 @@
 -- `binary32::corners::of_parts` meets its contract: by the four places where there are four (`lower-is`, `upper-is`), else by patterns.
-use mathlib.Core.Path.{_≡_, sym, ap, ap₂, subst, subst₂, _∙_}
+use mathlib.Core.Path.{_≡_, sym, ap, ap₂, subst, _∙_}
 use mathlib.Core.Bool.{true}
 use Prim.Native.Nat.{_*_, _^_, _≤_}
 use lib.IntN.{ℤ, pos, natAbs, _*ℤ_}

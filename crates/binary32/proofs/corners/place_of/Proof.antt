@@ -1,5 +1,5 @@
 -- `binary32::corners::place_of` meets its contract: the exact product's place (`placed-product`).
-use mathlib.Core.Path.{sym, ap, subst, _∙_}
+use mathlib.Core.Path.{sym, subst}
 use Prim.Native.Nat.{_^_}
 use native.Mathlib.Omega.{arith}
 use lib.IntN.{pos, _*ℤ_}

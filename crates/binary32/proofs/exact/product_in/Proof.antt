@@ -1,6 +1,5 @@
 -- `binary32::exact::product_in` meets its contract: both words hold numbers, and their product is exact, or one holds none.
-use mathlib.Core.Path.{_≡_, sym, ap, subst, _∙_}
-use mathlib.Core.Bool.{true, false, cond}
+use mathlib.Core.Path.{sym, ap, subst, _∙_}
 use mathlib.Core.Option.{some}
 use Prim.Native.Nat.{_*_, _^_, _<_}
 use lib.IntN.{_*ℤ_}

@@ -7,7 +7,6 @@ use mir.Syntax.{w64}
 use mir.Val.{SFits, ofZ, toZ}
 use mir.ValLaws.{toZ-ofZ}
 use Rattle.algebra.proofs.Machine.{fits-natAbs}
-use Rattle.binary32.specs.declared.parts.Parts.{Parts}
 use Rattle.binary32.proofs.Ints.{read-small}
 use Rattle.binary32.proofs.Words.{sig-few}
 use borrow.Author.Needs.{needs}

@@ -7,7 +7,7 @@ use lib.Count.{leadingZeros}
 use lib.IntN.{ℤ, pos, natAbs, _*ℤ_}
 use lib.Signed.{ltZ}
 use mir.Syntax.{w64}
-use mir.Val.{ofZ, toZ}
+use mir.Val.{toZ}
 use mir.ValLaws.{toZ-ofZ}
 use Rattle.binary32.specs.Number.{signedBy}
 use Rattle.binary32.specs.Place.{Found}

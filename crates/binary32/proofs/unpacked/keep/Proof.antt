@@ -1,16 +1,14 @@
 -- `binary32::unpacked::keep` meets its contract: c and its shift are the number itself (`kept`), or its pattern is made and taken apart.
-use mathlib.Core.Path.{_≡_, sym, ap, _∙_, subst}
-use mathlib.Core.Option.{some}
-use Prim.Native.Nat.{_^_}
+use mathlib.Core.Path.{_≡_, ap, _∙_, subst}
 use native.Mathlib.Omega.{arith}
-use lib.IntN.{ℤ, pos, _*ℤ_}
+use lib.IntN.{ℤ}
 use mir.Syntax.{w64}
 use mir.Val.{ofZ, toZ}
 use Rattle.binary32.specs.Number.{held}
-use Rattle.binary32.specs.Steps.{packed, of}
-use Rattle.binary32.specs.Unpacked.{Apart, Gives}
+use Rattle.binary32.specs.Steps.{packed}
+use Rattle.binary32.specs.Unpacked.{Gives}
 use Rattle.binary32.proofs.Ints.{read-small}
-use Rattle.binary32.proofs.Unpacking.{kept, kept-gives}
+use Rattle.binary32.proofs.Unpacking.{kept-gives}
 use borrow.Author.Needs.{needs}
 use Rattle.binary32.proofs.unpacked.keep.Statement.{statement}
 use Rattle.binary32.proofs.unpacked.keep.Tie as tie

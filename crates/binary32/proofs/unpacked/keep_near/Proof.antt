@@ -1,5 +1,5 @@
 -- `binary32::unpacked::keep_near` meets its contract: `keep` holds the number of the significand that `cut` found (`cut-gives`).
-use mathlib.Core.Path.{refl, sym, ap, subst}
+use mathlib.Core.Path.{refl, sym, subst}
 use Prim.Native.Nat.{_^_}
 use lib.Pow.{pow-pos}
 use Rattle.rounding.specs.Rounding.{near}

@@ -5,7 +5,7 @@ use lib.ListN.{getD}
 use borrow.Author.Needs.{needs}
 use Rattle.binary32.specs.Number.{valueOf}
 use Rattle.rounding.specs.Pattern.{val}
-use Rattle.products.proofs.Table.{at}
+use Rattle.algebra.proofs.Table.{at}
 use Rattle.products.proofs.Raised.{right, right-held}
 use Rattle.products.proofs.derived.raised.Statement.{statement}
 use Rattle.products.proofs.derived.raised.Tie as tie
