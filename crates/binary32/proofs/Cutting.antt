@@ -189,7 +189,18 @@ none-cut = record { down = pos 0; up = pos 0; near = pos 0; shift = 0 }
 
 zero-is : IsCut (pos 0) none-cut
 unfolding packed place down up near lo hi nr ceil expo size MAX
-zero-is = record { downs = refl; ups = refl; nears = refl; down-few = omega arith; up-few = omega arith; near-few = omega arith; down-full = λ l. absurd (omega arith); up-full = λ l. absurd (omega arith); near-full = λ l. absurd (omega arith); low = omega arith }
+zero-is = record {
+  downs = refl;
+  ups = refl;
+  nears = refl;
+  down-few = omega arith;
+  up-few = omega arith;
+  near-few = omega arith;
+  down-full = λ l. absurd (omega arith);
+  up-full = λ l. absurd (omega arith);
+  near-full = λ l. absurd (omega arith);
+  low = omega arith;
+}
 
 pub cut-zero : (s : ℤ) (e : ℕ) → s ≡ pos 0 → IsCut (s *ℤ pos (2 ^ e)) none-cut
 cut-zero s e z = subst (λ x. IsCut x none-cut) (sym (ap (λ x. x *ℤ pos (2 ^ e)) z ∙ ap pos (zero-mul (2 ^ e)))) zero-is

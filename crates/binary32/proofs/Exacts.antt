@@ -1,4 +1,4 @@
--- The exact value of an operation on two patterns, from the exact value of their parts; and the answer with its refusals.
+-- The exact value of an operation on two partial results, from the exact value of their parts; and the answer with its refusals.
 use mathlib.Core.Path.{_≡_, refl, sym, ap, ap₂, _∙_}
 use mathlib.Core.Bool.{Bool, true, false, cond}
 use mathlib.Core.Logic.{_⊎_, inl, inr}

@@ -72,7 +72,8 @@ module _ (j n : ℕ) (few : n < 2 ^ 51) where
     above-is : up binary32 (2 ^ K) (pos (n * 2 ^ e)) ≡ some (pos (val binary32 (ceil (j * 2 ^ 50 + n) (2 ^ 27))))
     above-is =
         up-above binary32 K e 27 j n h ej et
-        ∙ ap (λ t. cond t (some (pos (val binary32 (j * 2 ^ 23 + ceil n (2 ^ 27))))) none) (lt-ltb (j * 2 ^ 23 + ceil n (2 ^ 27)) (limit binary32) (omega (arith, ceil-short binary32 K e 27 j n h ej et)))
+        ∙ ap (λ t. cond t (some (pos (val binary32 (j * 2 ^ 23 + ceil n (2 ^ 27))))) none)
+        (lt-ltb (j * 2 ^ 23 + ceil n (2 ^ 27)) (limit binary32) (omega (arith, ceil-short binary32 K e 27 j n h ej et)))
         ∙ ap (λ q. some (pos (val binary32 q))) (sym whole-ceil)
 
     below-is : up binary32 (2 ^ K) (negℤ (pos (n * 2 ^ e))) ≡ some (negℤ (pos (val binary32 ((j * 2 ^ 50 + n) / 2 ^ 27))))

@@ -1,8 +1,8 @@
--- Numbers taken apart on their way into a sum: a significand that was found holds the number of its pattern, and a sum has the roundings of its summands.
+-- Numbers taken apart on their way into a sum: a significand that was found is, with its shift, the number of its pattern.
 use mathlib.Core.Path.{_≡_, refl, sym, ap, _∙_, subst}
 use mathlib.Core.Bool.{false}
 use mathlib.Core.Logic.{_⊎_, inl, inr}
-use mathlib.Core.Option.{Option, some, bind}
+use mathlib.Core.Option.{some}
 use Prim.Native.Nat.{ℕ, zero, suc, _+_, _*_, _^_, _≤_, _<_}
 use native.Mathlib.Omega.{arith}
 use lib.IntN.{ℤ, pos, negsuc, negℤ, natAbs, _*ℤ_}
@@ -16,7 +16,7 @@ use Rattle.binary32.specs.declared.parts.Parts.{Parts}
 use Rattle.binary32.specs.declared.unpacked.Held.{Held}
 use Rattle.binary32.specs.declared.unpacked.Held.the-variants.{Number}
 use Rattle.binary32.specs.Number.{finite, held, hold}
-use Rattle.binary32.specs.Operations.{Way, add, with₂, plusOf}
+use Rattle.binary32.specs.Operations.{Way}
 use Rattle.binary32.specs.Steps.{of, Small, packed, exact}
 use Rattle.binary32.specs.Unpacked.{Apart, Gives}
 use Rattle.binary32.proofs.Ints.{read-small}
@@ -69,8 +69,3 @@ module _ (z : ℕ) (t : finite z ≡ false) (x : Parts) (small : Small (x .sig) 
       is =
           ap (λ v. packed v j below above) (read-small c (omega arith)) ∙ h
           ∙ ap (λ v. hold z (way binary32 (2 ^ 149) (v *ℤ pos (2 ^ (x .exp))))) (read-small (x .sig) (omega (arith, small .short)))
-
--- ---- a sum with a term that a pattern holds
-pub plus-held : (way : Way) (s p z : ℕ) (t : Option ℤ) → finite z ≡ false → Fits t → p ≡ hold z t → with₂ (add way) s p ≡ plusOf way s t
-unfolding with₂
-plus-held way s p z t f h e = ap (λ m. bind (held s) λ x. bind m λ y. add way x y) (ap held e ∙ held-hold z f t h)

@@ -17,14 +17,13 @@ use crate::hold::down_of;
 use crate::hold::near_of;
 use crate::hold::up_of;
 use crate::partial::Both;
-use crate::partial::add_down;
-use crate::partial::add_up;
 use crate::parts::decode;
 use crate::parts::is_finite;
 use crate::unpacked::Held;
 use crate::unpacked::keep;
 use crate::unpacked::keep_near;
 use crate::unpacked::keep_up;
+use crate::unpacked::unpack;
 
 // s + y, where both are numbers.
 fn sum(s: u32, y: Held) -> Exact
@@ -83,7 +82,7 @@ pub fn add_corners(lower: u32, upper: u32, al: u64, au: u64, bl: u64, bu: u64) -
 {
     let c = corners(al, au, bl, bu);
     Both {
-        down: add_down(lower, c.down),
-        up: add_up(upper, c.up),
+        down: down_of(sum(lower, unpack(c.down))),
+        up: up_of(sum(upper, unpack(c.up))),
     }
 }

@@ -17,7 +17,7 @@ pub enum Held {
 }
 
 // What a pattern holds.
-fn unpack(p: u32) -> Held
+pub fn unpack(p: u32) -> Held
     ensures { λ r. ⌜ Gives (held p) r ⌝ }
 {
     if is_finite(p) {

@@ -52,8 +52,10 @@ module _ (m k n : ℕ) (A B : Matrix) (inner : k ≤ 32) (fine-a : AllFine A (m 
         let s = place-inside m k n c inner h in
         let p = in-row k i l (m * k) (s .row) t in
         let q = in-column k n j l (k * n) (s .column) (s .rows) t in
-        sym (ap₂ (λ u v. f u v (heldIn (getD bl (l * n + j) 0)) (heldIn (getD bu (l * n + j) 0))) (lower-in A (m * k) fine-a al au AL AU (i * k + l) p) (upper-in A (m * k) fine-a al au AL AU (i * k + l) p)
-        ∙ ap₂ (f (some (valueOf (lowerAt A (i * k + l)))) (some (valueOf (upperAt A (i * k + l))))) (lower-in B (k * n) fine-b bl bu BL BU (l * n + j) q) (upper-in B (k * n) fine-b bl bu BL BU (l * n + j) q))
+        sym (ap₂ (λ u v. f u v (heldIn (getD bl (l * n + j) 0)) (heldIn (getD bu (l * n + j) 0)))
+        (lower-in A (m * k) fine-a al au AL AU (i * k + l) p) (upper-in A (m * k) fine-a al au AL AU (i * k + l) p)
+        ∙ ap₂ (f (some (valueOf (lowerAt A (i * k + l)))) (some (valueOf (upperAt A (i * k + l)))))
+        (lower-in B (k * n) fine-b bl bu BL BU (l * n + j) q) (upper-in B (k * n) fine-b bl bu BL BU (l * n + j) q))
 
     least-is : (l : ℕ) → l < k → leastTerm (of binary32) (cellAt A (i * k + l)) (cellAt B (l * n + j)) ≡ leastAt k n al au bl bu i j l
     unfolding leastTerm cellAt leastCorner bind

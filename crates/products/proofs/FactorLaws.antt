@@ -60,7 +60,8 @@ inner-radius _ k is-three x = refl
 inner-radius _ k is-four x = refl
 inner-radius _ k is-seven x = refl
 
-pub inner-three : (method k m r p x : ℕ) → method ≡ 3 → held x ≡ raisedOf k → heldIn p ≡ derivedOf (Raised x) (valueOf m) (valueOf r) → heldIn p ≡ innerOf method k (valueOf m) (valueOf r)
+pub inner-three : (method k m r p x : ℕ) → method ≡ 3 → held x ≡ raisedOf k → heldIn p ≡ derivedOf (Raised x) (valueOf m) (valueOf r)
+    → heldIn p ≡ innerOf method k (valueOf m) (valueOf r)
 unfolding innerOf derivedOf raisedOf bind
 inner-three method k m r p x e f d =
     subst (λ z. heldIn p ≡ innerOf z k (valueOf m) (valueOf r)) (sym e)

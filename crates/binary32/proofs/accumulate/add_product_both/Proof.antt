@@ -80,8 +80,12 @@ returns-2 c =
     let x = c .before .before in
     let s = x .before .args in
     record {
-      lower = ap holdDown (rounds-none add (held (s .lower)) none (inr refl) .downs ∙ ap (plusOf down (s .lower)) (sym (ap (exactly down) (c .enum-told .given .1)) ∙ x .product-in .ensures .downs));
-      upper = ap holdUp (rounds-none add (held (s .upper)) none (inr refl) .ups ∙ ap (plusOf up (s .upper)) (sym (ap (exactly up) (c .enum-told .given .1)) ∙ x .product-in .ensures .ups));
+      lower =
+          ap holdDown (rounds-none add (held (s .lower)) none (inr refl) .downs
+          ∙ ap (plusOf down (s .lower)) (sym (ap (exactly down) (c .enum-told .given .1)) ∙ x .product-in .ensures .downs));
+      upper =
+          ap holdUp (rounds-none add (held (s .upper)) none (inr refl) .ups
+          ∙ ap (plusOf up (s .upper)) (sym (ap (exactly up) (c .enum-told .given .1)) ∙ x .product-in .ensures .ups));
     }
 
 pub add-product-both-spec : {M : Type 1} → statement M

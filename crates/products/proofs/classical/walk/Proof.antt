@@ -13,7 +13,9 @@ use Rattle.products.proofs.Running.{sum-none, sum-more, sum-stops}
 use Rattle.products.proofs.Writing.{stop-none, stop-more, lower-is, upper-is, written-all, written-at}
 use Rattle.products.proofs.classical.walk.Statement.{statement}
 use Rattle.products.proofs.classical.walk.Tie as tie
-use Rattle.products.proofs.classical.walk.Proof.Loops.{Inv-loop2, μ-loop2, Inv-loop, μ-loop, Inv-search, μ-search, In2, In1, Head, M, N, E, place-out, entry-place, whole-entry, mul-step, add-step, mul-step-2, mul-step-3, add-step-2, mul-step-4, mul-step-5, add-step-3, mul-step-6, mul-step-7, add-step-4, mul-step-8, shared-slice-read-step, shared-slice-read-step-2, shared-slice-read-step-3, shared-slice-read-step-4}
+use Rattle.products.proofs.classical.walk.Proof.Loops.{Inv-loop2, μ-loop2, Inv-loop, μ-loop, Inv-search, μ-search, In2, In1, Head, M, N, E, place-out, entry-place, whole-entry}
+use Rattle.products.proofs.classical.walk.Proof.Loops.{mul-step, add-step, mul-step-2, mul-step-3, add-step-2, mul-step-4, mul-step-5, add-step-3, mul-step-6, mul-step-7, add-step-4, mul-step-8}
+use Rattle.products.proofs.classical.walk.Proof.Loops.{shared-slice-read-step, shared-slice-read-step-2, shared-slice-read-step-3, shared-slice-read-step-4}
 
 search-holds : tie.Need-search-holds Inv-loop2 μ-loop2 Inv-loop μ-loop Inv-search μ-search
 search-holds c = (omega arith, sym (zero-mul _), refl, stop-none _, filled-none _ _, filled-none _ _)
@@ -125,7 +127,8 @@ returns-2 c =
     let o = sym (c .before .before .step .ensures) ∙ c .enum-told .given .1 in
     let e = entry-place h ∙ sum-stops _ _ _ _ _ _ _ _ _ _ _ (turn .before .loop2 .inv .2) o (turn .loop2-test .taken) in
     written-at (E s) (M s) (N s) (s .search .i) (h .before .loop .j) (h .before .loop .at) _ _ _ _ (omega arith) (h .loop-test .taken) (place-out h .0) (h .before .loop .inv .3) e
-    (filled-from (s .search .at) _ _ _ _ _ (omega arith) (s .search .inv .4) (h .before .loop .inv .4)) (filled-from (s .search .at) _ _ _ _ _ (omega arith) (s .search .inv .5) (h .before .loop .inv .5))
+    (filled-from (s .search .at) _ _ _ _ _ (omega arith) (s .search .inv .4) (h .before .loop .inv .4))
+    (filled-from (s .search .at) _ _ _ _ _ (omega arith) (s .search .inv .5) (h .before .loop .inv .5))
 
 pub walk-spec : {M : Type 1} → statement M
 walk-spec =

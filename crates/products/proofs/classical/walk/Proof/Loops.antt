@@ -21,13 +21,17 @@ abbrev pub μ-loop2 : tie.MeasureT-loop2
 μ-loop2 m k n al au bl bu lo up place₀ at i j s₀ l₀ place s l = k - l
 
 abbrev pub Inv-loop : tie.InvT-loop
-Inv-loop m k n al au bl bu lo₀ up₀ place₀ at₀ i j₀ lo up place at j = (j ≤ n) × (at ≡ at₀ + j) × (place ≡ Nowhere) × (stopOf (entryIn k n al au bl bu) at ≡ at) × Filled at (lowersOf (entryIn k n al au bl bu)) lo₀ lo × Filled at (uppersOf (entryIn k n al au bl bu)) up₀ up
+Inv-loop m k n al au bl bu lo₀ up₀ place₀ at₀ i j₀ lo up place at j =
+    (j ≤ n) × (at ≡ at₀ + j) × (place ≡ Nowhere) × (stopOf (entryIn k n al au bl bu) at ≡ at)
+    × Filled at (lowersOf (entryIn k n al au bl bu)) lo₀ lo × Filled at (uppersOf (entryIn k n al au bl bu)) up₀ up
 
 abbrev pub μ-loop : tie.MeasureT-loop
 μ-loop m k n al au bl bu lo₀ up₀ place₀ at₀ i j₀ lo up place at j = n - j
 
 abbrev pub Inv-search : tie.InvT-search
-Inv-search m k n al au bl bu lo₀ up₀ place₀ at₀ i₀ lo up place at i = (i ≤ m) × (at ≡ i * n) × (place ≡ Nowhere) × (stopOf (entryIn k n al au bl bu) at ≡ at) × Filled at (lowersOf (entryIn k n al au bl bu)) lo₀ lo × Filled at (uppersOf (entryIn k n al au bl bu)) up₀ up
+Inv-search m k n al au bl bu lo₀ up₀ place₀ at₀ i₀ lo up place at i =
+    (i ≤ m) × (at ≡ i * n) × (place ≡ Nowhere) × (stopOf (entryIn k n al au bl bu) at ≡ at)
+    × Filled at (lowersOf (entryIn k n al au bl bu)) lo₀ lo × Filled at (uppersOf (entryIn k n al au bl bu)) up₀ up
 
 abbrev pub μ-search : tie.MeasureT-search
 μ-search m k n al au bl bu lo₀ up₀ place₀ at₀ i₀ lo up place at i = m - i
