@@ -2,70 +2,28 @@
 use mathlib.Core.Path.{_≡_, refl, sym, ap, ap₂, _∙_, subst}
 use mathlib.Core.List.{[], _∷_}
 use mathlib.Core.Logic.{inr}
-use Prim.Native.Nat.{ℕ, suc, _+_, _-_, _*_, _/_, _%_, _^_, _≤_, _<_, min}
-use native.Mathlib.Omega.{arith, min-cases, by-contra}
-use native.Mathlib.Nat.{mul-pos, zero-mul, div-eq-of-lt, mod-eq-of-lt, lt-of-lt-of-le, lt-of-le-of-lt, not-le-of-lt}
+use Prim.Native.Nat.{ℕ, suc, _+_, _-_, _*_, _^_, _≤_, _<_, min}
+use native.Mathlib.Omega.{arith, by-contra}
+use native.Mathlib.Nat.{mul-pos, zero-mul, lt-of-lt-of-le, lt-of-le-of-lt, not-le-of-lt}
 use lib.Pow.{pow-pos, pow-add, pow-mono}
 use lib.Count.{leadingZeros, leading-top}
-use lib.IntN.{ℤ, pos, negsuc, negℤ, natAbs, _*ℤ_}
-use lib.Signed.{shrZ}
+use lib.IntN.{ℤ, pos, natAbs, _*ℤ_}
 use lib.Ieee.{size}
 use lib.Ieee.Digits.{size-lt}
-use lib.Ieee.Nearest.{closest}
 use Rattle.algebra.proofs.Absolute.{natAbs-mul}
 use Rattle.algebra.proofs.Reading.{by-ring}
 use Rattle.algebra.proofs.Linear.{reading}
 use Rattle.rounding.specs.Format.{binary32, MAX, expo}
-use Rattle.rounding.specs.Rounding.{signed, sticky, ceil, lo, hi, nr, up, down, near}
+use Rattle.rounding.specs.Rounding.{ceil, lo, hi, nr, up, down, near}
 use Rattle.rounding.specs.Pattern.{place}
-use Rattle.rounding.specs.Quotient.{ceilS}
-use Rattle.rounding.proofs.Closest.{closest-split}
 use Rattle.rounding.proofs.DirectedLaws.{up-scale, down-scale}
 use Rattle.rounding.proofs.NearestLaws.{near-scale}
 use Rattle.rounding.proofs.Shift.{size-only, size-shl}
 use Rattle.binary32.specs.declared.funnel.Ways.{Ways}
 use Rattle.binary32.specs.Number.{holdDown, holdUp, holdNear}
 use Rattle.binary32.specs.Steps.{packed, Split, IsCut}
+use Rattle.binary32.proofs.LongShifts.{near-split}
 use Rattle.binary32.proofs.Signs.{Place, sign-up, sign-near, sign-down, few-up, few-near, few-down, full-up, full-near, full-down}
-
--- ---- a shift past all digits and one more is as good as one by 62: down 0 or -1, up 0 or 1, nearest 0
-lower : (n m : ℕ) → 2 * n < m → n < m
-lower n m h = omega arith
-
-module _ (n m m′ : ℕ) (h : 2 * n < m) (h′ : 2 * n < m′) where
-  far-div : n / m ≡ n / m′
-  far-div = div-eq-of-lt (lower n m h) ∙ sym (div-eq-of-lt (lower n m′ h′))
-
-  far-ceil : ceil n m ≡ ceil n m′
-  unfolding ceil
-  far-ceil = ap₂ (λ q r. q + sticky r) far-div (mod-eq-of-lt (lower n m h) ∙ sym (mod-eq-of-lt (lower n m′ h′)))
-
-far-zero : (n m : ℕ) → 2 * n < m → closest n m ≡ 0
-far-zero n m h =
-    let q : n / m ≡ 0 = div-eq-of-lt (lower n m h) in
-    let r : n % m ≡ n = mod-eq-of-lt (lower n m h) in
-    closest-split n m (λ l e. e ∙ q) (λ l e. absurd (omega (arith, ap (λ x. x % 2) q)))
-
-far-shr : (w : ℤ) (m m′ : ℕ) → 2 * natAbs w < m → 2 * natAbs w < m′ → shrZ w m ≡ shrZ w m′
-far-shr (pos n) m m′ h h′ = ap pos (far-div n m m′ h h′)
-far-shr (negsuc k) m m′ h h′ = ap negsuc (far-div k m m′ (omega arith) (omega arith))
-
-far-up : (w : ℤ) (m m′ : ℕ) → 2 * natAbs w < m → 2 * natAbs w < m′ → ceilS w m ≡ ceilS w m′
-far-up (pos n) m m′ h h′ = ap pos (far-ceil n m m′ h h′)
-far-up (negsuc k) m m′ h h′ = ap (λ x. negℤ (pos x)) (far-div (suc k) m m′ h h′)
-
-far-split : (w : ℤ) (m m′ shift : ℕ) (r : Ways) → 2 * natAbs w < m → 2 * natAbs w < m′ → Split w m shift r → Split w m′ shift r
-far-split w m m′ shift r h h′ s = record {
-  downs = s .downs ∙ far-shr w m m′ h h′;
-  ups = s .ups ∙ far-up w m m′ h h′;
-  nears = s .nears ∙ ap (signed w) (far-zero (natAbs w) m h ∙ sym (far-zero (natAbs w) m′ h′));
-  shifts = s .shifts;
-}
-
-near-split : (w : ℤ) (t shift : ℕ) (r : Ways) → natAbs w < 2 ^ 61 → Split w (2 ^ min t 62) shift r → Split w (2 ^ t) shift r
-near-split w t shift r h s = min-cases t 62 (Split w (2 ^ t) shift r)
-    (λ l e. subst (λ x. Split w (2 ^ x) shift r) e s)
-    (λ l e. far-split w (2 ^ 62) (2 ^ t) shift r (omega arith) (omega (arith, pow-mono l)) (subst (λ x. Split w (2 ^ x) shift r) e s))
 
 -- ---- s * 2 ^ e, its significand shifted up by z places
 module _ (s : ℤ) (e z K : ℕ) where

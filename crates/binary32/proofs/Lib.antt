@@ -6,6 +6,7 @@ pub mod Places
 pub mod Shifted
 pub mod Signs
 pub mod Rests
+pub mod LongShifts
 pub mod Cutting
 pub mod Packing
 -- exact values: products, sums, sums of numbers far apart

@@ -71,8 +71,7 @@ pub fn split(w: i64, n: u32, shift: u32) -> Ways
     }
 }
 
-// s × 2^e × 2^-149 units, rounded three ways. First s is shifted up to 61 digits, so that the shift down is never negative: from 2^24 units on (173 is 149 + 24) it is by
-// 61 - 24 = 37 places, below that it leaves whole units (210 is 149 + 61).
+// s × 2^e × 2^-149 units, rounded three ways: s in 61 digits, shifted down by 61 - 24 = 37 places from 2^24 units on (173 is 149 + 24), below that to whole units (210 is 149 + 61).
 pub fn cut(s: i64, e: u32) -> Ways
     requires { ⌜ Small s e ⌝ }
     ensures { λ r. ⌜ IsCut (s *ℤ pos (2 ^ e)) r ⌝ }
