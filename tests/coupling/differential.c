@@ -5,7 +5,8 @@
    differential [jobs] [seed]
 
    Each job is compared in the number returned and in every byte of the out
-   buffer, surplus and the guard behind it included. Prints how often each
+   buffer, surplus included. All three buffers have guards on both sides, which
+   must be as they were, and so must the two sheets. Prints how often each
    refusal was met; fails on a difference, or where one was never met. */
 #include <stdio.h>
 #include <stdlib.h>
@@ -17,8 +18,13 @@
 
 struct sheet_bytes { uint8_t bytes[BUFFER]; size_t length; };
 
+#define GUARD 64
+
+/* A buffer between two guards. */
+typedef uint8_t guarded[GUARD + BUFFER + GUARD];
+
 static struct sheet_bytes a, b;
-static uint8_t ours[BUFFER], theirs[BUFFER];
+static guarded ours, theirs, lent_a, lent_b;
 static unsigned long met[12], differences;
 
 /* A number of moderate size, or any. */
@@ -78,18 +84,40 @@ static uint32_t draw_method(void)
     return chance(20) ? below(10) : methods[below(4)];
 }
 
+static void fill(guarded buffer)
+{
+    for (size_t i = 0; i < sizeof(guarded); i++)
+        buffer[i] = (uint8_t)(i ^ 0xA5);
+}
+
+static const uint8_t *lend(guarded buffer, const struct sheet_bytes *s)
+{
+    fill(buffer);
+    memcpy(buffer + GUARD, s->bytes, s->length);
+    return buffer + GUARD;
+}
+
+static int unchanged(const guarded buffer, const struct sheet_bytes *s)
+{
+    static guarded again;
+    lend(again, s);
+    return memcmp(buffer, again, sizeof again) == 0;
+}
+
 static void compare(unsigned long job)
 {
     draw_sheets();
     uint32_t method = draw_method();
-    size_t out_len = chance(10) ? below(400) : BUFFER - 64;
-    for (size_t i = 0; i < BUFFER; i++)
-        ours[i] = theirs[i] = (uint8_t)(i ^ 0xA5);
-    uint32_t their = oracle_job(method, a.bytes, a.length, b.bytes, b.length, theirs, out_len);
-    uint32_t our = coupling_multiply(method, a.bytes, a.length, b.bytes, b.length, ours, out_len);
+    size_t out_len = chance(10) ? below(400) : BUFFER;
+    const uint8_t *sheet_a = lend(lent_a, &a), *sheet_b = lend(lent_b, &b);
+    fill(ours);
+    fill(theirs);
+    uint32_t their = oracle_job(method, a.bytes, a.length, b.bytes, b.length, theirs + GUARD, out_len);
+    uint32_t our = coupling_multiply(method, sheet_a, a.length, sheet_b, b.length, ours + GUARD, out_len);
     met[their / 1000000]++;
-    if ((our != their || memcmp(ours, theirs, BUFFER) != 0) && differences++ < 10)
-        printf("job %lu, method %u: %u, not %u, or the buffer differs\n", job, method, our, their);
+    int same = our == their && memcmp(ours, theirs, sizeof ours) == 0 && unchanged(lent_a, &a) && unchanged(lent_b, &b);
+    if (!same && differences++ < 10)
+        printf("job %lu, method %u: %u, not %u, or a buffer differs\n", job, method, our, their);
 }
 
 int main(int argc, char **argv)
