@@ -1,15 +1,19 @@
 -- The rule of the wear amounts, shown over the whole table: each is the pattern of 0, or of 2^(c-11) for its class c. Assumes nothing.
-use mathlib.Core.Path.{_≡_, ap}
-use mathlib.Core.Bool.{Bool, false}
+use mathlib.Core.Path.{_≡_, ap, sym, _∙_}
+use mathlib.Core.Bool.{Bool, true, false}
 use mathlib.Core.List.{List, [], _∷_}
-use Prim.Native.Nat.{ℕ, _<_}
-use lib.Dec.{T, eqb, eqb→eq}
+use Prim.Native.Nat.{ℕ, _+_, _^_, _≤_, _<_}
+use native.Mathlib.Omega.{arith}
+use lib.Dec.{T, eqb, eqb→eq, ltb→lt}
 use lib.Ieee.{size}
 use lib.IntN.{ℤ, pos, negsuc}
 use lib.ListN.{getD}
+use lib.Pow.{pow-pos, pow-mono}
+use borrow.Author.Tests.{ne-eqb}
 use Rattle.rounding.specs.Pattern.{val, place}
 use Rattle.rounding.specs.Format.{expo}
-use Rattle.binary32.specs.Number.{valueOf}
+use Rattle.binary32.specs.Number.{valueOf, finite}
+use Rattle.binary32.proofs.Held.{is-finite}
 use Rattle.sheets.specs.Wear.{unitsOf, amountOf}
 use Rattle.algebra.proofs.Table.{both, both-left, both-right, at}
 
@@ -35,3 +39,19 @@ amount-right c h =
       eqb→eq x (amountOf c) (both-left (eqb x (amountOf c)) (isUnits (valueOf x) (unitsOf c)) t),
       is-units (valueOf x) (unitsOf c) (both-right (eqb x (amountOf c)) (isUnits (valueOf x) (unitsOf c)) t),
     )
+
+-- ---- each is a number, and above class 0 from 1 to 2^253 units
+
+pub amount-value : (c : ℕ) → c < 8 → valueOf (amountOf c) ≡ pos (unitsOf c)
+amount-value c h = ap valueOf (sym (amount-right c h .0)) ∙ amount-right c h .1
+
+pub amount-finite : (c : ℕ) → c < 8 → finite (amountOf c) ≡ true
+amount-finite c h = ap finite (sym (amount-right c h .0)) ∙ is-finite (getD amounts c 0) (ltb→lt _ _ (at (λ i x. finite x) amounts tt c h))
+
+pub units-some : (c : ℕ) → 0 < c → 0 < unitsOf c
+unfolding unitsOf
+units-some c z = rw (ne-eqb c 0 (omega arith)) (pow-pos (138 + c))
+
+pub units-few : (c : ℕ) → 0 < c → c < 8 → unitsOf c ≤ 2 ^ 253
+unfolding unitsOf
+units-few c z h = rw (ne-eqb c 0 (omega arith)) (pow-mono {i = 138 + c} {j = 253} (omega arith))

@@ -70,6 +70,10 @@ done-tells s l u r c e = go (framed s) (fitOf (rowsOf s) (columnsOf s) l u) (cha
     go true F.Short v p q t h = absurd (no _ h)
     go false f v p q t h = absurd (no _ h)
 
+pub accepted-passes : (s : List ℕ) (l u r c i : ℕ) → Accepted s l u r c → i ≡ firstOf s → walk s r c (r * c + 1) i 0 .verdict ≡ V′.Passed
+unfolding chainOf
+accepted-passes s l u r c i a n = rw (← a .rows, ← a .columns, n) (a .passed)
+
 -- ---- what is left
 
 -- the slice d, cleared, then filled with the chain's cells

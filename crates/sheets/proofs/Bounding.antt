@@ -1,6 +1,6 @@
--- Laws of one cell's bounds: one for each way out of `canonical`, `checked`, `moved` and `widen`. Assumes nothing.
+-- Laws of one cell's bounds: one for each way out of `canonical`, `checked` and `moved`, and 3, 4 and 5 of a cell that is read. Assumes nothing.
 use mathlib.Core.Path.{_≡_, refl, sym, ap, ap₂, _∙_}
-use mathlib.Core.Bool.{Bool, true, false}
+use mathlib.Core.Bool.{Bool, true, false, cond}
 use Prim.Native.Nat.{ℕ, zero, suc, _+_, _%_, _^_, _<_}
 use native.Mathlib.Omega.{arith}
 use native.Mathlib.Nat.{mod-eq-of-lt}
@@ -94,6 +94,17 @@ module _ (a b : ℕ) where
   pub widened-both : (w : ℕ) (r : Widened) → finites a b ≡ true → atMost a b ≡ true → r ≡ bothOf (subDown a w) (addUp b w) → r ≡ widenedOf a b w
   unfolding widenedOf
   widened-both w r f o e = rw (f, o) e
+
+  -- what a cell that passes tells
+  pub widened-tells : (w x y : ℕ) → widenedOf a b w ≡ W.Cell x y → (finites a b ≡ true) × (atMost a b ≡ true) × (bothOf (subDown a w) (addUp b w) ≡ W.Cell x y)
+  unfolding widenedOf
+  widened-tells w x y e = go (finites a b) (atMost a b) refl refl e
+    where
+      go : (f o : Bool) → finites a b ≡ f → atMost a b ≡ o → cond f (cond o (bothOf (subDown a w) (addUp b w)) W.Crossed) W.NotFinite ≡ W.Cell x y
+          → (finites a b ≡ true) × (atMost a b ≡ true) × (bothOf (subDown a w) (addUp b w) ≡ W.Cell x y)
+      go true true p q h = (p, q, h)
+      go true false p q h = let z : _≡_ {A = ℕ} 0 1 = cc in absurd (omega arith)
+      go false o p q h = let z : _≡_ {A = ℕ} 0 1 = cc in absurd (omega arith)
 
 -- the two results l and u, from what the calls ensure and the arms of the match
 pub both-first : (l u m v : Rounded) → m ≡ l → m ≡ v → bothOf v u ≡ bothOf l u

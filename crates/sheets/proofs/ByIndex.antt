@@ -1,6 +1,6 @@
 -- What a read gives, cell by cell: at the place of a cell of the chain its record's bounds, widened; [0, 0] at every other place. Assumes nothing.
 use mathlib.Core.Path.{_≡_, refl, sym, ap, subst, _∙_}
-use mathlib.Core.Bool.{Bool, true, false, cond}
+use mathlib.Core.Bool.{Bool, true, false}
 use mathlib.Core.List.{List, [], _∷_}
 use mathlib.Core.Logic.{_⊎_, inl, inr, ⊎-elim}
 use Prim.Native.Nat.{ℕ, zero, suc, _+_, _*_, _≤_, _<_}
@@ -11,18 +11,17 @@ use lib.Seq.{getD-set-same, getD-set-other}
 use borrow.Author.Tests.{ltb-true, ltb-false}
 use Rattle.binary32.specs.declared.Rounded.{Rounded}
 use Rattle.binary32.specs.declared.Rounded.the-variants as N
-use Rattle.binary32.specs.Number.{finites}
 use Rattle.binary32.specs.Operations.{subDown, addUp}
-use Rattle.binary32.specs.Order.{atMost}
 use Rattle.sheets.specs.declared.cell.Widened.{Widened}
 use Rattle.sheets.specs.declared.cell.Widened.the-variants as W
 use Rattle.sheets.specs.declared.chain.Cell.{Cell}
 use Rattle.sheets.specs.declared.chain.Step.the-variants as S
 use Rattle.sheets.specs.Layout.{recordOf, countOf, rowsOf, columnsOf, firstOf}
 use Rattle.sheets.specs.Wear.{amountOf}
-use Rattle.sheets.specs.Cell.{bothOf, widenedOf}
+use Rattle.sheets.specs.Cell.{bothOf}
 use Rattle.sheets.specs.Chain.{judgeOf, walk, chainOf}
 use Rattle.sheets.specs.Reading.{lowerOf, upperOf, putIn, matrixOf}
+use Rattle.sheets.proofs.Bounding.{widened-tells}
 use Rattle.sheets.proofs.Judging.{Passed, judge-passed}
 use Rattle.sheets.proofs.Walking.{visit-tells, visit-place, turn}
 
@@ -88,15 +87,6 @@ both-tells (N.Number a) N.Overflow x y e = let z : _≡_ {A = ℕ} 0 1 = cc in a
 both-tells N.NotFinite u x y e = let z : _≡_ {A = ℕ} 0 1 = cc in absurd (omega arith)
 both-tells N.Overflow u x y e = let z : _≡_ {A = ℕ} 0 1 = cc in absurd (omega arith)
 
-widened-tells : (a b w x y : ℕ) → widenedOf a b w ≡ W.Cell x y → (subDown a w ≡ N.Number x) × (addUp b w ≡ N.Number y)
-unfolding widenedOf
-widened-tells a b w x y e = go (finites a b) (atMost a b) e
-  where
-    go : (f o : Bool) → cond f (cond o (bothOf (subDown a w) (addUp b w)) W.Crossed) W.NotFinite ≡ W.Cell x y → (subDown a w ≡ N.Number x) × (addUp b w ≡ N.Number y)
-    go true true h = both-tells (subDown a w) (addUp b w) x y h
-    go true false h = let z : _≡_ {A = ℕ} 0 1 = cc in absurd (omega arith)
-    go false o h = let z : _≡_ {A = ℕ} 0 1 = cc in absurd (omega arith)
-
 module _ (s : List ℕ) (rows columns : ℕ) where
   pub walk-rises : (t i l : ℕ) → Rising (rows * columns) l (walk s rows columns t i l .cells)
   unfolding walk
@@ -117,7 +107,7 @@ module _ (s : List ℕ) (rows columns : ℕ) where
       widens : (i l : ℕ) (c : Cell) → (i ≡ 0 → ⊥) → (i < countOf s) × (judgeOf rows columns l (recordOf s i) ≡ S.Cell c) → Widens s rows columns i c
       widens i l c z h =
           let p : Passed rows columns l (recordOf s i) c = judge-passed rows columns l (recordOf s i) c (h .1) in
-          let w = widened-tells _ _ _ _ _ (p .widened) in
+          let w = both-tells _ _ _ _ (widened-tells _ _ _ _ _ (p .widened) .2) in
           record { linked = (z, h .0); inside = (p .row, p .column); place = sym (p .place); class = p .class; lower = w .0; upper = w .1 }
 
 -- ---- the matrix of any sheet

@@ -79,7 +79,10 @@ module _ (p : ℕ) (h : finite p ≡ true) where
       ap (λ t. cond t (answerOf (up binary32 1 (valueOf p +ℤ valueOf 0))) N.NotFinite) both-finite
       ∙ ap answerOf (ap (up binary32 1) plus-none ∙ up-exact binary32 1 (lit< tt) number)
 
--- ---- a cell in order, read with class 0
+-- ---- a cell read with class 0
+
+pub both-none : (a b : ℕ) → finites a b ≡ true → bothOf (subDown a (amountOf 0)) (addUp b (amountOf 0)) ≡ W.Cell (canonicalOf a) (canonicalOf b)
+both-none a b f = ap (λ w. bothOf (subDown a w) (addUp b w)) amount-none ∙ ap₂ bothOf (sub-none a (finites-first a b f)) (add-none b (finites-second a b f))
 
 pub widened-none : (a b : ℕ) → finites a b ≡ true → atMost a b ≡ true
     → widenedOf (canonicalOf a) (canonicalOf b) (amountOf 0) ≡ W.Cell (canonicalOf a) (canonicalOf b)
@@ -89,7 +92,5 @@ widened-none a b f o =
     let fb : finite b ≡ true = finites-second a b f in
     let g : finites (canonicalOf a) (canonicalOf b) ≡ true = ap₂ (λ s t. cond s t false) (canonical-finite a fa) (canonical-finite b fb) in
     let m : atMost (canonicalOf a) (canonicalOf b) ≡ true = ap₂ leZ (canonical-value a fa) (canonical-value b fb) ∙ o in
-    let l : subDown (canonicalOf a) 0 ≡ N.Number (canonicalOf a) = sub-none (canonicalOf a) (canonical-finite a fa) ∙ ap N.Number (canonical-twice a fa) in
-    let u : addUp (canonicalOf b) 0 ≡ N.Number (canonicalOf b) = add-none (canonicalOf b) (canonical-finite b fb) ∙ ap N.Number (canonical-twice b fb) in
     ap₂ (λ s t. cond s (cond t (bothOf (subDown (canonicalOf a) (amountOf 0)) (addUp (canonicalOf b) (amountOf 0))) W.Crossed) W.NotFinite) g m
-    ∙ ap (λ w. bothOf (subDown (canonicalOf a) w) (addUp (canonicalOf b) w)) amount-none ∙ ap₂ bothOf l u
+    ∙ both-none (canonicalOf a) (canonicalOf b) g ∙ ap₂ W.Cell (canonical-twice a fa) (canonical-twice b fb)

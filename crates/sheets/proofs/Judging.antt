@@ -40,11 +40,11 @@ module _ (rows columns least : ℕ) (r : Record) where
   unfolding judgeOf
   judge-class h k l m n = rw (lt-leb rows (r .row) h, lt-leb columns (r .column) k, le-ltb (placeOf columns r) least l, m, lt-ltb 7 (r .wear) n)
 
-  pub judge-cell : (w v : Widened) → r .row < rows → r .column < columns → least ≤ placeOf columns r → r .spare ≡ true → r .wear ≤ 7
-      → w ≡ widenedOf (r .lower) (r .upper) (amountOf (r .wear)) → w ≡ v → cellOf columns r v ≡ judgeOf rows columns least r
+  pub judge-cell : (v : Widened) → r .row < rows → r .column < columns → least ≤ placeOf columns r → r .spare ≡ true → r .wear ≤ 7
+      → v ≡ widenedOf (r .lower) (r .upper) (amountOf (r .wear)) → cellOf columns r v ≡ judgeOf rows columns least r
   unfolding judgeOf
-  judge-cell w v h k l m n e f =
-      rw (lt-leb rows (r .row) h, lt-leb columns (r .column) k, le-ltb (placeOf columns r) least l, m, le-ltb 7 (r .wear) n, ← e, f)
+  judge-cell v h k l m n e =
+      rw (lt-leb rows (r .row) h, lt-leb columns (r .column) k, le-ltb (placeOf columns r) least l, m, le-ltb 7 (r .wear) n, ← e)
 
 -- the cell c that a record r passes as
 pub record Passed (rows columns least : ℕ) (r : Record) (c : Cell) : Type 0 where
@@ -55,6 +55,11 @@ pub record Passed (rows columns least : ℕ) (r : Record) (c : Cell) : Type 0 wh
   pub class : r .wear ≤ 7
   pub widened : widenedOf (r .lower) (r .upper) (amountOf (r .wear)) ≡ W.Cell (c .lower) (c .upper)
   pub place : placeOf columns r ≡ c .place
+  pub next : r .next ≡ c .next
+
+nextIn : Step → ℕ
+nextIn (S.Cell d) = d .next
+nextIn (S.Refused d) = 0
 
 placeIn : Step → ℕ
 placeIn (S.Cell d) = d .place
@@ -69,7 +74,7 @@ upperIn (S.Cell d) = d .upper
 upperIn (S.Refused d) = 0
 
 pub judge-passed : (rows columns least : ℕ) (r : Record) (c : Cell) → judgeOf rows columns least r ≡ S.Cell c → Passed rows columns least r c
-unfolding judgeOf placeIn lowerIn upperIn
+unfolding judgeOf nextIn placeIn lowerIn upperIn
 judge-passed rows columns least r c e =
     go (leb rows (r .row)) (leb columns (r .column)) (ltb (placeOf columns r) least) (r .spare) (ltb 7 (r .wear)) (widenedOf (r .lower) (r .upper) (amountOf (r .wear))) refl refl refl refl refl refl e
   where
@@ -97,6 +102,7 @@ judge-passed rows columns least r c e =
       class = ltb-false _ _ u;
       widened = v ∙ ap₂ W.Cell (ap lowerIn h) (ap upperIn h);
       place = ap placeIn h;
+      next = ap nextIn h;
     }
 
 -- its place is free, and in the matrix

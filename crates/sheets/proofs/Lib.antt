@@ -14,6 +14,7 @@ pub mod CellBytes
 pub mod Counting
 pub mod Outs
 pub mod Exact
+pub mod Largest
 pub mod CellBack
 pub mod RecordBack
 pub mod WalkBack

@@ -16,8 +16,6 @@ use Rattle.sheets.specs.declared.chain.Verdict.the-variants as V′
 use Rattle.sheets.specs.declared.Outcome.the-variants as O
 use Rattle.sheets.specs.Layout.{blank, framed, firstOf, countOf}
 use Rattle.sheets.specs.Sizes.{fitOf}
-use Rattle.sheets.specs.Wear.{amountOf}
-use Rattle.sheets.specs.Cell.{widenedOf}
 use Rattle.sheets.specs.Chain.{judgeOf, visitOf, Walk, more, walk, chainOf}
 use Rattle.sheets.specs.Reading.{readOf}
 use Rattle.sheets.specs.Sheet.{cellAt, tally, countTo, nextOf, sheetOf}
@@ -81,7 +79,7 @@ module _ (rows columns : ℕ) (lo up : List ℕ) (z : Sized rows columns (length
       let cell : Cell = record { next = n; place = p; lower = x; upper = w } in
       let j : S.Cell cell ≡ judgeOf rows columns l (fieldsOf n (p / columns) (p % columns) x w) =
       ap (λ (v : ℕ). S.Cell (record { next = n; place = v; lower = x; upper = w })) (sym place)
-      ∙ judge-cell rows columns l (fieldsOf n (p / columns) (p % columns) x w) (widenedOf x w (amountOf 0)) (W.Cell x w) row col (omega arith) refl (omega arith) refl (cell-back (getD lo p 0) (getD up p 0) x w e .read) in
+      ∙ judge-cell rows columns l (fieldsOf n (p / columns) (p % columns) x w) (W.Cell x w) row col (omega arith) refl (omega arith) (sym (cell-back (getD lo p 0) (getD up p 0) x w e .read)) in
       let v : visitOf s rows columns (countTo lo up p + 1) l ≡ S.Cell cell =
       sym (visit-judged s rows columns (countTo lo up p + 1) l (fieldsOf n (p / columns) (p % columns) x w) (S.Cell cell) (omega (arith, count-back rows columns lo up few)) (sym (record-at-place rows columns lo up few p x w g e)) j) in
       let r : walk s rows columns (t - 1) n (p + 1) ≡ passed (cellsFrom total lo up y (p + 1)) = rw c at (ih (p + 1) (t - 1) (omega arith) (omega arith)) in

@@ -1,5 +1,6 @@
 -- The two bounds of one cell. Definitions only (01, "The coupling sheet" and "When a call is turned down").
-use mathlib.Core.Bool.{Bool, false, cond}
+use mathlib.Core.Path.{_≡_}
+use mathlib.Core.Bool.{Bool, true, false, cond}
 use Prim.Native.Nat.{ℕ}
 use lib.Dec.{eqb}
 use Rattle.binary32.specs.declared.Rounded.{Rounded}
@@ -37,3 +38,8 @@ bothOf N.Overflow r = W.Overflow
 -- a cell that is read: 3, then 4; then lower less w, down, and upper plus w, up, or 5 where one of them has no finite number
 unfoldable pub widenedOf : ℕ → ℕ → ℕ → Widened
 widenedOf a b w = cond (finites a b) (cond (atMost a b) (bothOf (op.subDown a w) (op.addUp b w)) W.Crossed) W.NotFinite
+
+-- whether it is 5, of a cell by its widened bounds
+abbrev pub OverflowOf : Widened → Bool → Type 0
+OverflowOf v true = v ≡ W.Overflow
+OverflowOf v false = (a b : ℕ) × (v ≡ W.Cell a b)

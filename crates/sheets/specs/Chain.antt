@@ -41,6 +41,11 @@ judgeOf rows columns least r =
     (cellOf columns r (widenedOf (r .lower) (r .upper) (amountOf (r .wear)))))
     (S.Refused (R.Layout 0)))))
 
+-- how it is judged
+abbrev pub verdictOf : Step → Verdict
+verdictOf (S.Cell c) = V′.Passed
+verdictOf (S.Refused r) = V′.Refused r
+
 -- ---- the chain
 
 -- a walk along the chain: the cells that it passed, and how it ended

@@ -1,9 +1,12 @@
 // The two bounds of one cell: as they are handed in to be written, and as they are widened when they are read.
 ghost use mathlib.Core.Path.{_≡_};
+ghost use mathlib.Core.Bool.{true};
 ghost use Prim.Native.Nat.{_<_};
 ghost use Rattle.binary32.specs.Number.{Finite, finite, finites};
 ghost use Rattle.binary32.specs.Operations.{subDown, addUp};
-ghost use Rattle.sheets.specs.Cell.{canonicalOf, zeros, boundsOf, bothOf, widenedOf};
+ghost use Rattle.sheets.specs.Wear.{amountOf};
+ghost use Rattle.sheets.specs.Cell.{canonicalOf, zeros, boundsOf, bothOf, OverflowOf};
+use binary32::Binary32;
 use binary32::Rounded;
 
 // A cell that is handed in: [0, 0], or its bounds with minus zero as 0; 3; 4.
@@ -28,7 +31,7 @@ fn is_finite(p: u32) -> bool
     p % 0x8000_0000 < 0x7F80_0000
 }
 
-fn are_finite(a: u32, b: u32) -> bool
+pub fn are_finite(a: u32, b: u32) -> bool
     ensures { λ r. ⌜ r ≡ finites a b ⌝ }
 {
     if !is_finite(a) {
@@ -87,14 +90,27 @@ fn moved(lower: u32, upper: u32, amount: u32) -> Widened
     }
 }
 
-pub fn widen(lower: u32, upper: u32, amount: u32) -> Widened
-    ensures { λ r. ⌜ r ≡ widenedOf lower upper amount ⌝ }
+// A cell that 3 and 4 pass, moved outward by its class. Class 0 leaves the numbers as they are.
+pub fn widen(lower: u32, upper: u32, class: usize) -> Widened
+    requires { ⌜ («class» < 8) × (finites lower upper ≡ true) ⌝ }
+    ensures { λ r. ⌜ r ≡ bothOf (subDown lower (amountOf «class»)) (addUp upper (amountOf «class»)) ⌝ }
 {
-    if !are_finite(lower, upper) {
-        return Widened::NotFinite;
+    if class == 0 {
+        return Widened::Cell(canonical(lower), canonical(upper));
     }
-    if !binary32::order::at_most(lower, upper) {
-        return Widened::Crossed;
+    moved(lower, upper, crate::wear::amount(class))
+}
+
+// 5: whether `widen` finds no number. An amount is so small that it moves none but the largest number past all.
+pub fn overflows(lower: u32, upper: u32, class: usize) -> bool
+    requires { ⌜ («class» < 8) × (finites lower upper ≡ true) ⌝ }
+    ensures { λ r. ⌜ OverflowOf (bothOf (subDown lower (amountOf «class»)) (addUp upper (amountOf «class»))) r ⌝ }
+{
+    if class == 0 {
+        return false;
     }
-    moved(lower, upper, amount)
+    if binary32::order::negate(lower) == Binary32::LARGEST {
+        return true;
+    }
+    upper == Binary32::LARGEST
 }

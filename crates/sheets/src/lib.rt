@@ -8,6 +8,7 @@ ghost use Rattle.sheets.specs.Trip.{TripOf};
 mod cell;
 mod chain;
 mod layout;
+mod matrix;
 mod records;
 mod sizes;
 mod tally;
@@ -58,9 +59,9 @@ pub fn read(s: &[u8], lowers: &mut [u32], uppers: &mut [u32]) -> Outcome
     match check_read(s, lowers.len(), uppers.len()) {
         Outcome::Done(rows, columns) => {
             let cells = rows * columns;
-            chain::clear(lowers, cells);
-            chain::clear(uppers, cells);
-            chain::fill(s, rows, columns, layout::u16_at(s, 0), lowers, uppers);
+            matrix::clear(lowers, cells);
+            matrix::clear(uppers, cells);
+            matrix::fill(s, rows, columns, layout::u16_at(s, 0), lowers, uppers);
             Outcome::Done(rows, columns)
         }
         Outcome::Refused(r) => Outcome::Refused(r),

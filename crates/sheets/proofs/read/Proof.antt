@@ -6,7 +6,7 @@ use borrow.Author.Needs.{needs}
 use Rattle.sheets.specs.Reading.{lowerOf, upperOf}
 use Rattle.sheets.proofs.Fits.{small, Sized}
 use Rattle.sheets.proofs.Frames.{framed-tells}
-use Rattle.sheets.proofs.Answers.{Accepted, done-tells, slice-done, slice-refused}
+use Rattle.sheets.proofs.Answers.{Accepted, accepted-passes, done-tells, slice-done, slice-refused}
 use Rattle.sheets.proofs.read.Statement.{statement}
 use Rattle.sheets.proofs.read.Tie as tie
 
@@ -40,7 +40,7 @@ fill-requires : tie.Need-fill-requires
 fill-requires c κs =
     let a = accepted (c .before .before .before .before .before .before .before .before .before .before .before) in
     let z = a .sized in
-    (z .rows, z .columns, framed-tells _ (a .frame) .1, omega arith, omega arith)
+    (z .rows, z .columns, framed-tells _ (a .frame) .1, omega arith, omega arith, accepted-passes _ _ _ _ _ _ a (c .before .before .u16-at .ensures .0))
 
 enum-known-r : tie.Need-enum-known-r
 enum-known-r c = search needs

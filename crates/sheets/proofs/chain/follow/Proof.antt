@@ -2,10 +2,11 @@
 use mathlib.Core.Path.{_≡_, refl, sym, ap, _∙_}
 use Prim.Native.Nat.{ℕ, _+_, _-_, _*_, _≤_, _<_}
 use native.Mathlib.Omega.{arith}
+use lib.Arith.{digits-lt}
 use borrow.Author.Needs.{needs}
-use Rattle.sheets.specs.Chain.{Walk, more, walk}
+use Rattle.sheets.specs.Chain.{placeOf, Walk, walk}
 use Rattle.sheets.proofs.Fits.{small}
-use Rattle.sheets.proofs.Walking.{visited, visit-place, walk-end, walk-refused, walk-cell}
+use Rattle.sheets.proofs.Walking.{walk-end, walk-refused, visit-past, turn-refused, turn-passed}
 use Rattle.sheets.proofs.chain.follow.Statement.{statement}
 use Rattle.sheets.proofs.chain.follow.Tie as tie
 
@@ -19,49 +20,68 @@ abbrev μ-loop : tie.MeasureT-loop
 loop-holds : tie.Need-loop-holds Inv-loop μ-loop
 loop-holds c = (c .before .args .rows * c .before .args .columns + 1, omega arith, omega arith, refl)
 
-visit-requires : tie.Need-visit-requires Inv-loop μ-loop
-visit-requires c κs = search needs
+returns : tie.Need-returns Inv-loop μ-loop
+returns c =
+    let h = c .before .before .loop in
+    sym (h .inv .3 ∙ ap (λ (w : Walk). w .verdict)
+    (walk-refused _ _ _ (h .inv .0) (h .inv .0 - 1) _ _ _ (omega arith) (omega arith) (sym (visit-past _ _ _ (h .index) (h .least) (omega arith)))))
 
-enum-known-c : tie.Need-enum-known-c Inv-loop μ-loop
-enum-known-c c = search needs
+record-at-requires : tie.Need-record-at-requires Inv-loop μ-loop
+record-at-requires c κs = omega arith
 
--- a turn that passes the cell x
-turned : (c : tie.After-known-told Inv-loop μ-loop) →
-    let h = c .before .before .before .before .before in
+judge-requires : tie.Need-judge-requires Inv-loop μ-loop
+judge-requires c κs = search needs
+
+enum-told : tie.Need-enum-told Inv-loop μ-loop
+enum-told c = search needs
+
+-- a turn that passes the record r
+turned : (c : tie.After-enum-told Inv-loop μ-loop) →
+    let k = c .before .before .before in
+    let h = k .before .before .before in
     let a = h .before .before .args in
-    let x = c .before .c .given .0 .0 in
-    (h .loop .least ≤ x .place) × (x .place < a .rows * a .columns) × (a .rows * a .columns ≤ 1024)
-    × (walk (a .s .now) (a .rows) (a .columns) (h .loop .inv .0) (h .loop .index) (h .loop .least) ≡ more x (walk (a .s .now) (a .rows) (a .columns) (h .loop .inv .0 - 1) (x .next) (x .place + 1)))
+    let r = k .record-at .result in
+    (h .loop .least ≤ placeOf (a .columns) r) × (placeOf (a .columns) r < a .rows * a .columns) × (a .rows * a .columns ≤ 1024)
+    × (walk (a .s .now) (a .rows) (a .columns) (h .loop .inv .0) (h .loop .index) (h .loop .least) .verdict ≡ walk (a .s .now) (a .rows) (a .columns) (h .loop .inv .0 - 1) (r .next) (placeOf (a .columns) r + 1) .verdict)
 turned c =
-    let h = c .before .before .before .before .before in
+    let k = c .before .before .before in
+    let h = k .before .before .before in
     let a = h .before .before .args in
-    let e = visited (a .s .now) (a .rows) (a .columns) (h .loop .index) (h .loop .least) _ _ (c .before .before .before .visit .ensures) (c .before .c .given .1) in
-    let j = visit-place (a .s .now) (a .rows) (a .columns) (h .loop .index) (h .loop .least) _ e in
-    (j .0, j .1, small (a .rows) (a .columns) (omega arith) (omega arith), walk-cell _ _ _ (h .loop .inv .0) (h .loop .inv .0 - 1) _ _ _ (omega arith) (omega arith) e)
+    let j = turn-passed (a .s .now) (a .rows) (a .columns) (h .loop .inv .0) (h .loop .inv .0 - 1) (h .loop .index) (h .loop .least) (k .record-at .result) _ (omega arith) (omega arith) (omega arith) (k .record-at .ensures) (c .before .before .judge .ensures) (c .enum-told .given .1) in
+    (j .1 .free, digits-lt (j .1 .row) (j .1 .column), small (a .rows) (a .columns) (omega arith) (omega arith), j .2)
+
+mul-least : tie.Need-mul-least Inv-loop μ-loop
+mul-least c = let j = turned (c .before) in omega arith
 
 add-least : tie.Need-add-least Inv-loop μ-loop
-add-least c = let j = turned (c .before) in omega arith
+add-least c = let j = turned (c .before .before) in omega arith
+
+add-least-2 : tie.Need-add-least-2 Inv-loop μ-loop
+add-least-2 c = let j = turned (c .before .before) in omega arith
 
 loop-less : tie.Need-loop-less Inv-loop μ-loop
-loop-less c = let j = turned (c .before) in omega arith
+loop-less c = let j = turned (c .before .before) in omega arith
 
 loop-again : tie.Need-loop-again Inv-loop μ-loop
 loop-again c =
-    let h = c .before .before .before .before .before .before .loop in
-    let j = turned (c .before) in
-    (h .inv .0 - 1, omega arith, omega arith, h .inv .3 ∙ ap (λ (w : Walk). w .verdict) (j .3))
+    let t = c .before .before in
+    let h = t .before .before .before .before .before .before .loop in
+    let j = turned t in
+    (h .inv .0 - 1, omega arith, omega arith, h .inv .3 ∙ j .3)
 
-enum-known-r : tie.Need-enum-known-r Inv-loop μ-loop
-enum-known-r c = search needs
-
-returns : tie.Need-returns Inv-loop μ-loop
-returns c =
-    let h = c .before .before .before .before .before .loop in
-    sym (h .inv .3 ∙ ap (λ (w : Walk). w .verdict)
-    (walk-refused _ _ _ (h .inv .0) (h .inv .0 - 1) _ _ _ (omega arith) (omega arith) (visited _ _ _ _ _ _ _ (c .before .before .before .visit .ensures) (c .before .r .given .1))))
+enum-known-x : tie.Need-enum-known-x Inv-loop μ-loop
+enum-known-x c = search needs
 
 returns-2 : tie.Need-returns-2 Inv-loop μ-loop
-returns-2 c = sym (c .before .loop .inv .3 ∙ ap (λ (w : Walk). w .verdict) (walk-end _ _ _ _ _ _ (omega arith)))
+returns-2 c =
+    let k = c .before .before .before .before in
+    let h = k .before .before .before .loop in
+    sym
+    (h .inv .3
+    ∙ turn-refused _ _ _ (h .inv .0) (h .inv .0 - 1) (h .index) (h .least) (k .record-at .result) _ (omega arith) (omega arith) (omega arith) (k .record-at .ensures) (c .before .before .before .judge .ensures) _ (c .before .x .given .1))
+
+returns-3 : tie.Need-returns-3 Inv-loop μ-loop
+returns-3 c = sym (c .before .loop .inv .3 ∙ ap (λ (w : Walk). w .verdict) (walk-end _ _ _ _ _ _ (omega arith)))
 
 pub follow-spec : {M : Type 1} → statement M
 follow-spec =
@@ -70,11 +90,15 @@ follow-spec =
     Inv-loop
     μ-loop
     loop-holds
-    visit-requires
-    enum-known-c
+    returns
+    record-at-requires
+    judge-requires
+    enum-told
+    mul-least
     add-least
+    add-least-2
     loop-less
     loop-again
-    enum-known-r
-    returns
-    returns-2)
+    enum-known-x
+    returns-2
+    returns-3)

@@ -1,20 +1,23 @@
--- `chain::fill` meets its contract: the cells left from here, put into what is there, give the whole walk's cells put in at the start.
-use mathlib.Core.Path.{_≡_, refl, sym, _∙_}
+-- `matrix::fill` meets its contract: the cells left from here, put into what is there, give the whole walk's cells put in at the start.
+use mathlib.Core.Path.{_≡_, refl, sym, ap, _∙_}
 use Prim.Native.Nat.{ℕ, _+_, _-_, _*_, _≤_, _<_}
 use native.Mathlib.Omega.{arith}
 use lib.ListN.{length, length-set}
 use borrow.Author.Needs.{needs}
-use Rattle.sheets.specs.Chain.{more, walk}
+use Rattle.sheets.specs.declared.chain.Step.{Step}
+use Rattle.sheets.specs.declared.chain.Verdict.the-variants as V′
+use Rattle.sheets.specs.Chain.{Walk, visitOf, more, walk}
 use Rattle.sheets.specs.Reading.{putIn, lowerOf, upperOf}
 use Rattle.sheets.proofs.Fits.{small}
-use Rattle.sheets.proofs.Walking.{visited, visit-place, walk-end, walk-refused, walk-cell}
+use Rattle.sheets.proofs.Walking.{Passing, walk-passing, visit-passing, visit-place, walk-end, walk-refused, walk-cell}
 use Rattle.sheets.proofs.Placing.{put-none, put-more}
-use Rattle.sheets.proofs.chain.fill.Statement.{statement}
-use Rattle.sheets.proofs.chain.fill.Tie as tie
+use Rattle.sheets.proofs.matrix.fill.Statement.{statement}
+use Rattle.sheets.proofs.matrix.fill.Tie as tie
 
 abbrev Inv-loop : tie.InvT-loop
 Inv-loop s rows columns first lowers₀ uppers₀ index₀ least₀ lowers uppers index least =
     (t : ℕ) × (rows * columns < t + least) × (least ≤ rows * columns) × (length lowers ≡ length lowers₀) × (length uppers ≡ length uppers₀)
+    × (walk s rows columns t index least .verdict ≡ V′.Passed)
     × (putIn lowerOf lowers (walk s rows columns t index least .cells) ≡ putIn lowerOf lowers₀ (walk s rows columns (rows * columns + 1) first 0 .cells))
     × (putIn upperOf uppers (walk s rows columns t index least .cells) ≡ putIn upperOf uppers₀ (walk s rows columns (rows * columns + 1) first 0 .cells))
 
@@ -23,26 +26,47 @@ abbrev μ-loop : tie.MeasureT-loop
 
 loop-holds : tie.Need-loop-holds Inv-loop μ-loop
 loop-holds c =
-    let a = c .before .before .before .args in
-    (a .rows * a .columns + 1, omega arith, omega arith, refl, refl, refl, refl)
+    let b = c .before .before .before in
+    (b .args .rows * b .args .columns + 1, omega arith, omega arith, refl, refl, b .pre .5, refl, refl)
 
-visit-requires : tie.Need-visit-requires Inv-loop μ-loop
-visit-requires c κs = search needs
+-- the record at the index passes
+passing : (c : tie.In-loop Inv-loop μ-loop) →
+    let h = c .before in
+    let a = h .before .before .before .before .args in
+    Passing (a .s .now) (a .rows) (a .columns) (h .loop .index) (h .loop .least)
+passing c =
+    let h = c .before .loop in
+    walk-passing _ _ _ (h .inv .0) (h .inv .0 - 1) (h .index) (h .least) (omega arith) (omega arith) (h .inv .5)
+
+record-at-requires : tie.Need-record-at-requires Inv-loop μ-loop
+record-at-requires c κs = omega (arith, passing c .index)
+
+passed-requires : tie.Need-passed-requires Inv-loop μ-loop
+passed-requires c κs =
+    let p = passing (c .before) in
+    rw (c .record-at .ensures) (omega arith, omega (arith, p .row), omega (arith, p .column), omega (arith, p .class), p .finite, p .ordered)
 
 enum-known-c : tie.Need-enum-known-c Inv-loop μ-loop
 enum-known-c c = search needs
 
+-- what is visited there
+visited : (c : tie.After-passed Inv-loop μ-loop) (v : Step) → c .passed .result ≡ v →
+    let h = c .before .before .before in
+    let a = h .before .before .before .before .args in
+    visitOf (a .s .now) (a .rows) (a .columns) (h .loop .index) (h .loop .least) ≡ v
+visited c v e = visit-passing _ _ _ _ _ _ _ _ (passing (c .before .before)) (c .before .record-at .ensures) (c .passed .ensures) e
+
 -- a turn that passes the cell x
 turned : (c : tie.After-known-told Inv-loop μ-loop) →
-    let h = c .before .before .before .before .before in
+    let h = c .before .before .before .before .before .before in
     let a = h .before .before .before .before .args in
     let x = c .before .c .given .0 .0 in
     (h .loop .least ≤ x .place) × (x .place < a .rows * a .columns) × (a .rows * a .columns ≤ 1024)
     × (walk (a .s .now) (a .rows) (a .columns) (h .loop .inv .0) (h .loop .index) (h .loop .least) ≡ more x (walk (a .s .now) (a .rows) (a .columns) (h .loop .inv .0 - 1) (x .next) (x .place + 1)))
 turned c =
-    let h = c .before .before .before .before .before in
+    let h = c .before .before .before .before .before .before in
     let a = h .before .before .before .before .args in
-    let e = visited (a .s .now) (a .rows) (a .columns) (h .loop .index) (h .loop .least) _ _ (c .before .before .before .visit .ensures) (c .before .c .given .1) in
+    let e = visited (c .before .before .before) _ (c .before .c .given .1) in
     let j = visit-place (a .s .now) (a .rows) (a .columns) (h .loop .index) (h .loop .least) _ e in
     (j .0, j .1, small (a .rows) (a .columns) (omega arith) (omega arith), walk-cell _ _ _ (h .loop .inv .0) (h .loop .inv .0 - 1) _ _ _ (omega arith) (omega arith) e)
 
@@ -66,9 +90,17 @@ loop-less c = let j = turned c in omega arith
 
 loop-again : tie.Need-loop-again Inv-loop μ-loop
 loop-again c =
-    let h = c .before .before .before .before .before .loop in
-    let j = turned c in
-    (h .inv .0 - 1, omega arith, omega arith, simp length-set (h .inv .3), simp length-set (h .inv .4), put-more lowerOf _ _ _ _ (j .3) ∙ h .inv .5, put-more upperOf _ _ _ _ (j .3) ∙ h .inv .6)
+    let h = c .before .before .before .before .before .before .loop in
+    let j = turned c in (
+      h .inv .0 - 1,
+      omega arith,
+      omega arith,
+      simp length-set (h .inv .3),
+      simp length-set (h .inv .4),
+      sym (ap (λ (w : Walk). w .verdict) (j .3)) ∙ h .inv .5,
+      put-more lowerOf _ _ _ _ (j .3) ∙ h .inv .6,
+      put-more upperOf _ _ _ _ (j .3) ∙ h .inv .7,
+    )
 
 enum-told : tie.Need-enum-told Inv-loop μ-loop
 enum-told c = search needs
@@ -81,9 +113,9 @@ same-length-2 c = search needs
 
 returns : tie.Need-returns Inv-loop μ-loop
 returns c =
-    let h = c .before .before .before .before .loop in
-    let w = walk-refused _ _ _ (h .inv .0) (h .inv .0 - 1) _ _ _ (omega arith) (omega arith) (visited _ _ _ _ _ _ _ (c .before .before .visit .ensures) (c .enum-told .given .1)) in
-    (sym (put-none lowerOf _ _ _ w) ∙ h .inv .5, sym (put-none upperOf _ _ _ w) ∙ h .inv .6)
+    let h = c .before .before .before .before .before .loop in
+    let w = walk-refused _ _ _ (h .inv .0) (h .inv .0 - 1) _ _ _ (omega arith) (omega arith) (visited (c .before .before) _ (c .enum-told .given .1)) in
+    (sym (put-none lowerOf _ _ _ w) ∙ h .inv .6, sym (put-none upperOf _ _ _ w) ∙ h .inv .7)
 
 same-length-3 : tie.Need-same-length-3 Inv-loop μ-loop
 same-length-3 c = search needs
@@ -95,7 +127,7 @@ returns-2 : tie.Need-returns-2 Inv-loop μ-loop
 returns-2 c =
     let h = c .before .loop in
     let w = walk-end _ _ _ (h .inv .0) (h .index) (h .least) (omega arith) in
-    (sym (put-none lowerOf _ _ _ w) ∙ h .inv .5, sym (put-none upperOf _ _ _ w) ∙ h .inv .6)
+    (sym (put-none lowerOf _ _ _ w) ∙ h .inv .6, sym (put-none upperOf _ _ _ w) ∙ h .inv .7)
 
 pub fill-spec : {M : Type 1} → statement M
 fill-spec =
@@ -104,7 +136,8 @@ fill-spec =
     Inv-loop
     μ-loop
     loop-holds
-    visit-requires
+    record-at-requires
+    passed-requires
     enum-known-c
     mul-lowers
     slice-write-lowers

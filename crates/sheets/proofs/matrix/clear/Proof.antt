@@ -1,4 +1,4 @@
--- `chain::clear` meets its contract: the first i cells are zero.
+-- `matrix::clear` meets its contract: the first i cells are zero.
 use mathlib.Core.Path.{_≡_, refl}
 use mathlib.Core.List.{_++_}
 use Prim.Native.Nat.{_≤_, _-_}
@@ -6,8 +6,8 @@ use native.Mathlib.Omega.{arith}
 use lib.ListN.{length, drop, replicate, length-set}
 use borrow.Author.Fill.{fill-more}
 use borrow.Author.Needs.{needs}
-use Rattle.sheets.proofs.chain.clear.Statement.{statement}
-use Rattle.sheets.proofs.chain.clear.Tie as tie
+use Rattle.sheets.proofs.matrix.clear.Statement.{statement}
+use Rattle.sheets.proofs.matrix.clear.Tie as tie
 
 abbrev Inv-loop : tie.InvT-loop
 Inv-loop out₀ count i₀ out i = (i ≤ count) × (length out ≡ length out₀) × (out ≡ replicate i 0 ++ drop i out₀)
