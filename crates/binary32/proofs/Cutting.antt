@@ -23,7 +23,7 @@ use Rattle.binary32.specs.declared.funnel.Ways.{Ways}
 use Rattle.binary32.specs.Number.{holdDown, holdUp, holdNear}
 use Rattle.binary32.specs.Steps.{packed, Split, IsCut}
 use Rattle.binary32.proofs.LongShifts.{near-split}
-use Rattle.binary32.proofs.Signs.{Place, sign-up, sign-near, sign-down, few-up, few-near, few-down, full-up, full-near, full-down}
+use Rattle.binary32.proofs.Signs.{Place, sign-up, sign-near, sign-down, few-up, few-near, few-down}
 
 -- ---- s * 2 ^ e, its significand shifted up by z places
 module _ (s : ℤ) (e z K : ℕ) where
@@ -116,9 +116,6 @@ module _ (s : ℤ) (e zeros : ℕ) (p : 0 < natAbs s) (o : Zeros (natAbs s) zero
         down-few = subst (λ c. natAbs c ≤ 2 ^ 24) (sym (h .downs)) (few-down K e (210 - kept) (top - kept) wide wide-place);
         up-few = subst (λ c. natAbs c ≤ 2 ^ 24) (sym (h .ups)) (few-up K e (210 - kept) (top - kept) wide wide-place);
         near-few = subst (λ c. natAbs c ≤ 2 ^ 24) (sym (h .nears)) (few-near K e (210 - kept) (top - kept) wide wide-place);
-        down-full = λ l. subst (λ c. 2 ^ 23 ≤ natAbs c) (sym (h .downs)) (full-down K e (210 - kept) (top - kept) wide wide-place (omega (arith, h .shifts)));
-        up-full = λ l. subst (λ c. 2 ^ 23 ≤ natAbs c) (sym (h .ups)) (full-up K e (210 - kept) (top - kept) wide wide-place (omega (arith, h .shifts)));
-        near-full = λ l. subst (λ c. 2 ^ 23 ≤ natAbs c) (sym (h .nears)) (full-near K e (210 - kept) (top - kept) wide wide-place (omega (arith, h .shifts)));
         low = omega (arith, h .shifts);
       }
 
@@ -154,9 +151,6 @@ zero-is = record {
   down-few = omega arith;
   up-few = omega arith;
   near-few = omega arith;
-  down-full = λ l. absurd (omega arith);
-  up-full = λ l. absurd (omega arith);
-  near-full = λ l. absurd (omega arith);
   low = omega arith;
 }
 

@@ -13,7 +13,7 @@ use Rattle.binary32.specs.declared.Rounded.the-variants.{Number, NotFini
 use Rattle.binary32.specs.Number.{valueOf, held, negated}
 use Rattle.binary32.specs.Operations.{with₂, answerOf, answer, refusalOf, addDown, addUp, addNear, subDown, subUp}
 use Rattle.binary32.specs.Operations.{mulDown, mulUp, mulNear, midpointUp}
-use Rattle.binary32.specs.Order.{magnitudeOf, leastOf, greatestOf, leastCorner, greatestCorner}
+use Rattle.binary32.specs.Order.{magnitudeOf, leastOf, greatestOf}
 
 pub record Case : Type 0 where
   pub found : Rounded
@@ -76,14 +76,6 @@ cases =
     ∷ gives (mulUp minusZero one) 0
     ∷ refused (mulNear 0x7F800000 0) 3
     ∷ refused (addUp max 0xFFC00000) 3
-    -- the corner products of [1, 2] × [-1, 3]: from -2 to 6. Of [0, 2] × [0, 2]: from 0 to 4
-    ∷ gives (answerOf (leastCorner (held one) (held 0x40000000) (held 0xBF800000) (held 0x40400000))) 0xC0000000
-    ∷ gives (answerOf (greatestCorner (held one) (held 0x40000000) (held 0xBF800000) (held 0x40400000))) 0x40C00000
-    ∷ gives (answerOf (leastCorner (held 0) (held 0x40000000) (held 0) (held 0x40000000))) 0
-    ∷ gives (answerOf (greatestCorner (held 0) (held 0x40000000) (held 0) (held 0x40000000))) 0x40800000
-    -- of [1, MAX] × [1, 2]: the least is 1, rounded down; the greatest is above MAX, rounded up
-    ∷ gives (answerOf (leastCorner (held one) (held max) (held one) (held 0x40000000))) one
-    ∷ refused (answerOf (greatestCorner (held one) (held max) (held one) (held 0x40000000))) 5
     -- of -2 and 1 the lesser and the greater; minus zero equals zero, so the first is the lesser and the second the greater, either way
     ∷ gives (Number (leastOf one 0xC0000000)) 0xC0000000
     ∷ gives (Number (greatestOf one 0xC0000000)) one
@@ -103,5 +95,5 @@ abbrev pub said : Case → ℕ × ℕ
 said c = (c .refusal, c .pattern)
 
 pub worked : map got cases ≡ map said cases
-unfolding cases answer with₂ held bind leastCorner greatestCorner minℤ maxℤ leastOf greatestOf negated valueOf place val up down near lo hi nr ceil expo size MAX
+unfolding cases answer leastOf greatestOf negated valueOf place val up down near lo hi nr ceil expo size MAX
 worked = refl

@@ -13,16 +13,11 @@ pub mod Packing
 pub mod Products
 pub mod Far
 pub mod Sums
-pub mod Unpacking
-pub mod Words
-pub mod Placing
 -- what a pattern holds, and the answer of an operation; for other crates: Held, Numbers, Negation
 pub mod Held
 pub mod Numbers
 pub mod Negation
 pub mod Exacts
--- order and corner products
+-- order
 pub mod Orders
-pub mod CornerLaws
-pub mod CornerPlaces
 pub mod Examples

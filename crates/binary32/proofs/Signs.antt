@@ -26,10 +26,6 @@ pub record Place (K e t j : ℕ) (w : ℤ) : Type 0 where
   pub digits : size (natAbs w) + e - K - 24 ≡ j
   pub dropped : t + e ≡ j + K
 
-long : {j c : ℕ} → 0 < j → (j ≡ 0) ⊎ (2 ^ 23 ≤ c) → 2 ^ 23 ≤ c
-long h (inl z) = absurd (omega arith)
-long h (inr l) = l
-
 module _ (K e t j : ℕ) where
   -- ---- up
   pub sign-up : (w : ℤ) → Place K e t j w → packed (ceilS w (2 ^ t)) j 0xFF7FFFFF 0x7F800000 ≡ holdUp (up binary32 (2 ^ K) (w *ℤ pos (2 ^ e)))
@@ -81,21 +77,3 @@ module _ (K e t j : ℕ) where
       let c : natAbs (shrZ (negsuc k) (2 ^ t)) ≡ ceil (suc k) (2 ^ t) =
       ap natAbs (down-floor (negsuc k) (2 ^ t) (pow-pos t)) ∙ natAbs-neg (pos (ceil (suc k) (2 ^ t))) in
       omega (arith, c, ceil-short binary32 K e t j (suc k) (p .some-digit) (p .digits) (p .dropped))
-
-  -- ---- and all 24 of them where j is not 0
-  pub full-up : (w : ℤ) → Place K e t j w → 0 < j → 2 ^ 23 ≤ natAbs (ceilS w (2 ^ t))
-  full-up (pos n) p h = long h (ceil-long binary32 K e t j n (p .some-digit) (p .digits) (p .dropped))
-  full-up (negsuc k) p h =
-      omega (arith, natAbs-neg (pos (suc k / 2 ^ t)), long h (floor-long binary32 K e t j (suc k) (p .some-digit) (p .digits) (p .dropped)))
-
-  pub full-near : (w : ℤ) → Place K e t j w → 0 < j → 2 ^ 23 ≤ natAbs (signed w (closest (natAbs w) (2 ^ t)))
-  full-near (pos n) p h = long h (closest-long binary32 K e t j n (p .some-digit) (p .digits) (p .dropped))
-  full-near (negsuc k) p h =
-      omega (arith, natAbs-neg (pos (closest (suc k) (2 ^ t))), long h (closest-long binary32 K e t j (suc k) (p .some-digit) (p .digits) (p .dropped)))
-
-  pub full-down : (w : ℤ) → Place K e t j w → 0 < j → 2 ^ 23 ≤ natAbs (shrZ w (2 ^ t))
-  full-down (pos n) p h = long h (floor-long binary32 K e t j n (p .some-digit) (p .digits) (p .dropped))
-  full-down (negsuc k) p h =
-      let c : natAbs (shrZ (negsuc k) (2 ^ t)) ≡ ceil (suc k) (2 ^ t) =
-      ap natAbs (down-floor (negsuc k) (2 ^ t) (pow-pos t)) ∙ natAbs-neg (pos (ceil (suc k) (2 ^ t))) in
-      omega (arith, c, long h (ceil-long binary32 K e t j (suc k) (p .some-digit) (p .digits) (p .dropped)))

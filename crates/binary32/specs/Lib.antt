@@ -2,6 +2,3 @@ pub mod Number
 pub mod Operations
 pub mod Order
 pub mod Steps
-pub mod Unpacked
-pub mod Place
-pub mod Word

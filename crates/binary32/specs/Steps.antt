@@ -1,4 +1,4 @@
--- What the inner steps of an operation give. Definitions only; but for `BothOf` they stand only in contracts of functions that no other crate sees.
+-- What the inner steps of an operation give. Definitions only; they stand only in contracts of functions that no other crate sees.
 use mathlib.Core.Path.{_≡_}
 use mathlib.Core.Bool.{Bool, true, false, cond}
 use mathlib.Core.Option.{Option, none}
@@ -7,18 +7,15 @@ use lib.Dec.{ltb}
 use lib.IntN.{ℤ, pos, negsuc, natAbs, _+ℤ_, _*ℤ_}
 use lib.Signed.{shrZ}
 use lib.Ieee.Nearest.{closest}
-use Rattle.algebra.specs.Extremes.{least₄, greatest₄}
 use Rattle.rounding.specs.Format.{binary32}
 use Rattle.rounding.specs.Rounding.{up, down, near, signed}
 use Rattle.rounding.specs.Quotient.{ceilS}
 use Rattle.binary32.specs.declared.parts.Parts.{Parts}
 use Rattle.binary32.specs.declared.funnel.Ways.{Ways}
-use Rattle.binary32.specs.declared.partial.Both.{Both}
 use Rattle.binary32.specs.declared.exact.Exact.{Exact}
 use Rattle.binary32.specs.declared.exact.Exact.the-variants.{Value, Unknown}
 use Rattle.binary32.specs.Number.{valueOf, holdDown, holdUp, holdNear}
 use Rattle.binary32.specs.Operations.{Way}
-use Rattle.binary32.specs.Order.{all₄}
 
 -- ---- a number taken apart
 
@@ -65,8 +62,7 @@ side (negsuc c) below above = below
 unfoldable pub packed : ℤ → ℕ → ℕ → ℕ → ℕ
 packed c j below above = cond (ltb (j * 2 ^ 23 + natAbs c) (255 * 2 ^ 23)) (put c (j * 2 ^ 23 + natAbs c)) (side c below above)
 
--- r has the significands of X / 2 ^ 149 units: packed, each is the pattern that its rounding holds, with the answer for values that are too large; where they are shifted
--- up, they have all 24 digits
+-- r has the significands of X / 2 ^ 149 units: packed, each is the pattern that its rounding holds, with the answer for values that are too large
 pub record IsCut (X : ℤ) (r : Ways) : Type 0 where
   pub downs : packed (r .down) (r .shift) 0xFF800000 0x7F7FFFFF ≡ holdDown (down binary32 (2 ^ 149) X)
   pub ups : packed (r .up) (r .shift) 0xFF7FFFFF 0x7F800000 ≡ holdUp (up binary32 (2 ^ 149) X)
@@ -74,23 +70,11 @@ pub record IsCut (X : ℤ) (r : Ways) : Type 0 where
   pub down-few : natAbs (r .down) ≤ 2 ^ 24
   pub up-few : natAbs (r .up) ≤ 2 ^ 24
   pub near-few : natAbs (r .near) ≤ 2 ^ 24
-  pub down-full : 0 < r .shift → 2 ^ 23 ≤ natAbs (r .down)
-  pub up-full : 0 < r .shift → 2 ^ 23 ≤ natAbs (r .up)
-  pub near-full : 0 < r .shift → 2 ^ 23 ≤ natAbs (r .near)
   pub low : r .shift ≤ 500
 
 -- x * 2 ^ -149 units, rounded
 unfoldable pub exact : Way → Parts → Option ℤ
 exact way x = way binary32 (2 ^ 149) (of x)
-
--- the product of two numbers taken apart, rounded
-abbrev pub exact₂ : Way → Parts → Parts → Option ℤ
-exact₂ way x y = way binary32 (2 ^ 149) (of x *ℤ of y)
-
--- r has the patterns of a result rounded down and of one rounded up, each a number or none
-pub record BothOf (low high : Option ℤ) (r : Both) : Type 0 where
-  pub lower : r .down ≡ holdDown low
-  pub upper : r .up ≡ holdUp high
 
 -- ---- exact values, up to what no rounding sees
 
@@ -101,18 +85,13 @@ pub record Same (D : ℕ) (X : ℤ) (x : Parts) : Type 0 where
   pub nears : exact near x ≡ near binary32 D X
   pub small : Small (x .sig) (x .exp)
 
--- two numbers to be multiplied, whether or not they have all their digits, and their product
-pub record Bounded (x : Parts) : Type 0 where
-  pub few : natAbs (x .sig) ≤ 2 ^ 25
-  pub low : x .exp ≤ 255
-
+-- two numbers to be multiplied, and their product
 pub record Factors (x y : Parts) : Type 0 where
-  pub first : Bounded x
-  pub second : Bounded y
+  pub first : Short x
+  pub second : Short y
 
-pub record ProductIs (x y r : Parts) : Type 0 where
-  pub same : Same (2 ^ 149) (of x *ℤ of y) r
-  pub few : natAbs (r .sig) < 2 ^ 51
+abbrev pub ProductIs : Parts → Parts → Parts → Type 0
+ProductIs x y r = Same (2 ^ 149) (of x *ℤ of y) r
 
 -- two numbers to be added, and their sum: 2 ^ (149 - lift) is 1 for a sum, 2 for a midpoint
 pub record Summands (x y : Parts) (lift : ℕ) : Type 0 where
@@ -146,11 +125,6 @@ pub record Rounds (m : Way → Option ℤ) (r : Exact) : Type 0 where
   pub ups : exactly up r ≡ m up
   pub nears : exactly near r ≡ m near
   pub safe : Safe r
-
--- ---- r has the patterns of the least of the four products of a, b and c, d, each rounded down, and of the greatest, each rounded up
-pub record CornersOf (a b c d : Parts) (r : Both) : Type 0 where
-  pub lower : r .down ≡ holdDown (all₄ least₄ (exact₂ down a c) (exact₂ down a d) (exact₂ down b c) (exact₂ down b d))
-  pub upper : r .up ≡ holdUp (all₄ greatest₄ (exact₂ up a c) (exact₂ up a d) (exact₂ up b c) (exact₂ up b d))
 
 -- ---- a sum: the sign of a number
 abbrev pub sgn : ℤ → ℤ

@@ -2,14 +2,11 @@
 ghost use mathlib.Core.Path.{_≡_};
 ghost use Prim.Native.Nat.{_-_, _^_, _≤_, _<_};
 ghost use lib.IntN.{pos, natAbs, _+ℤ_, _*ℤ_};
-ghost use Rattle.binary32.specs.Operations.{mul, lifted, with₂, on₂};
+ghost use Rattle.binary32.specs.Operations.{mul, lifted, with₂};
 ghost use Rattle.binary32.specs.Steps.{Factors, Summands, Larger, Same, ProductIs, SumIs, Rounds, sgn, earlier, later, of};
-ghost use Rattle.binary32.specs.Word.{heldIn};
 use crate::parts::Parts;
 use crate::parts::both_finite;
-use crate::parts::both_numbers;
 use crate::parts::decode;
-use crate::parts::of_word;
 use crate::parts::power;
 
 // An exact value, or one that has the same roundings; none where an operand holds no number.
@@ -102,16 +99,6 @@ pub fn product(a: u32, b: u32) -> Exact
 {
     if both_finite(a, b) {
         return Exact::Value(times(decode(a), decode(b)));
-    }
-    Exact::Unknown
-}
-
-// a × b, where both words hold numbers.
-pub fn product_in(a: u64, b: u64) -> Exact
-    ensures { λ r. ⌜ Rounds (λ way. on₂ (mul way) (heldIn a) (heldIn b)) r ⌝ }
-{
-    if both_numbers(a, b) {
-        return Exact::Value(times(of_word(a), of_word(b)));
     }
     Exact::Unknown
 }

@@ -13,9 +13,8 @@ ghost use lib.Signed.{shrZ};
 ghost use Rattle.rounding.specs.Rounding.{up, down, near};
 ghost use Rattle.rounding.specs.Quotient.{bit, rem};
 ghost use Rattle.binary32.specs.Number.{holdDown, holdUp, holdNear};
-ghost use Rattle.binary32.specs.Steps.{packed, Split, IsCut, Small, exact, BothOf};
+ghost use Rattle.binary32.specs.Steps.{packed, Split, IsCut, Small, exact};
 use crate::Binary32;
-use crate::partial::Both;
 use crate::parts::Parts;
 use crate::parts::magnitude;
 use crate::parts::power;
@@ -136,15 +135,4 @@ pub fn round_near(x: Parts) -> u32
 {
     let c = cut(x.sig, x.exp);
     pack(c.near, c.shift, 0x7F80_0000, 0x7F80_0000)
-}
-
-// x, rounded down and rounded up, from one shift.
-pub fn round_both(x: Parts) -> Both
-    requires { ⌜ Small (x .sig) (x .exp) ⌝ }
-    ensures { λ r. ⌜ BothOf (exact down x) (exact up x) r ⌝ }
-{
-    let c = cut(x.sig, x.exp);
-    let down = pack(c.down, c.shift, 0xFF80_0000, Binary32::LARGEST);
-    let up = pack(c.up, c.shift, 0xFF7F_FFFF, 0x7F80_0000);
-    Both { down: down, up: up }
 }

@@ -3,17 +3,12 @@
 ghost use mathlib.Core.Path.{_≡_};
 ghost use Rattle.binary32.specs.Operations.{addDown, addUp, addNear, subDown, subUp, subNear, mulDown, mulUp, mulNear, midpointDown, midpointUp, midpointNear, checkedOf};
 
-pub mod accumulate;
-mod corners;
 mod exact;
 mod funnel;
 mod hold;
 pub mod order;
 pub mod partial;
 mod parts;
-mod place;
-mod unpacked;
-pub mod word;
 
 // The format: precision, smallest exponent (one unit is 2^-149) and largest number.
 pub struct Binary32 {

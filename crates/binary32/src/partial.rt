@@ -13,12 +13,6 @@ use crate::hold::near_of;
 use crate::hold::up_of;
 use crate::order::negate;
 
-// Both directed roundings of one exact value, each a pattern that holds a number or none.
-pub struct Both {
-    pub down: u32,
-    pub up: u32,
-}
-
 // a × b, rounded down.
 pub fn mul_down(a: u32, b: u32) -> u32
     ensures { λ r. ⌜ r ≡ holdDown (with₂ (mul down) a b) ⌝ }

@@ -1,12 +1,9 @@
-// A pattern taken apart, a word taken apart, and small steps on the machine's numbers.
+// A pattern taken apart, and small steps on the machine's numbers.
 ghost use mathlib.Core.Path.{_≡_};
-ghost use mathlib.Core.Bool.{cond, false};
 ghost use Prim.Native.Nat.{_*_, _^_, _≤_, _<_, min};
-ghost use lib.Dec.{ltb};
 ghost use lib.IntN.{pos, natAbs};
 ghost use Rattle.binary32.specs.Number.{Finite, finite, finites, signedBy};
 ghost use Rattle.binary32.specs.Steps.{Decoded};
-ghost use Rattle.binary32.specs.Word.{partsIn};
 
 // sig × 2^exp: of a pattern's number in units of 2^-149, of an exact product or sum in 2^-149 of a unit.
 pub struct Parts {
@@ -29,27 +26,6 @@ pub fn both_finite(a: u32, b: u32) -> bool
         return false;
     }
     is_finite(b)
-}
-
-// Whether both words hold numbers.
-pub fn both_numbers(a: u64, b: u64) -> bool
-    ensures { λ r. ⌜ r ≡ cond (ltb a (254 * 2 ^ 26)) (ltb b (254 * 2 ^ 26)) false ⌝ }
-{
-    if 0x3_F800_0000 <= a {
-        return false;
-    }
-    b < 0x3_F800_0000
-}
-
-// The number in a word, taken apart.
-pub fn of_word(w: u64) -> Parts
-    requires { ⌜ w < 254 * 2 ^ 26 ⌝ }
-    ensures { λ r. ⌜ r ≡ partsIn w ⌝ }
-{
-    Parts {
-        sig: (w % 0x400_0000) as i64 - 0x200_0000,
-        exp: (w / 0x400_0000) as u32,
-    }
 }
 
 // The smaller of two.

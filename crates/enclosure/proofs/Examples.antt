@@ -18,7 +18,7 @@ use Rattle.enclosure.specs.Sums.{sum}
 use Rattle.enclosure.specs.Cell.{Cell, largest, leastCorner, greatestCorner}
 use Rattle.enclosure.specs.Conversion.{mid, rad, cellOf}
 use Rattle.enclosure.specs.Methods.{Method, classical, three, four, seven, Range, entry, entry₁, ends, radius₃, radius₄, radius₇, centre, centre₇, total}
-use Rattle.enclosure.specs.Methods.{leastTerm, greatestTerm, innerTerm, outerTerm, raisedTerm, sharedTerm, midTerm, partTerm, part}
+use Rattle.enclosure.specs.Methods.{leastTerm, greatestTerm, innerTerm, outerRadius, outerTerm, raisedRadius, raisedTerm, sharedTerm, midTerm, partTerm, part}
 use Rattle.enclosure.specs.Fraction.{In}
 use Rattle.enclosure.specs.Demand.{exactLower, exactUpper, S, T, WidthFour}
 
@@ -79,7 +79,7 @@ products =
     ∷ []
 
 pub products-worked : map (λ c. entry (of binary32) (c .method) 1 (λ l. c .a) (λ l. c .b)) products ≡ map (λ c. some (c .answer)) products
-unfolding products entry entry₁ ends radius₃ radius₄ radius₇ centre centre₇ total sum bind leastTerm greatestTerm innerTerm outerTerm raisedTerm sharedTerm
+unfolding products entry entry₁ ends radius₃ radius₄ radius₇ centre centre₇ total sum bind leastTerm greatestTerm innerTerm outerRadius outerTerm raisedRadius raisedTerm sharedTerm
     midTerm partTerm part minℤ maxℤ mid rad up down near lo hi nr ceil expo size MAX val
 products-worked = refl
 

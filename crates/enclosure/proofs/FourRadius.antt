@@ -14,7 +14,7 @@ use Rattle.algebra.proofs.Order.{nonneg, mul-nonneg}
 use Rattle.enclosure.specs.Arithmetic.{Arithmetic}
 use Rattle.enclosure.specs.NaturalSum.{Σℕ}
 use Rattle.enclosure.specs.Cell.{Cell}
-use Rattle.enclosure.specs.Methods.{radius₄, total, innerTerm, outerTerm}
+use Rattle.enclosure.specs.Methods.{radius₄, total, innerTerm, outerRadius, outerTerm}
 use Rattle.enclosure.proofs.Accepted.{bound}
 use Rattle.enclosure.proofs.NaturalSum.{Σℕ-ext, Σℕ-add}
 use Rattle.enclosure.proofs.Converted.{Converted, EachConverted}
@@ -51,7 +51,7 @@ module _ {A : Arithmetic} (L : Laws A) where
         go (some w) e = omega (arith, sum-size (up-nonneg L one reach-nonneg e .close), mul-le-mul-left (P + 1) (mag-add (abs (b .mid)) (b .rad)))
 
     pub outer-rounded : (a : Cell) → Converted P a → (t : ℤ) → outerTerm A a b ≡ some t → Rounded L units (a .rad *ℤ raisedReach b) t
-    unfolding raisedReach outerTerm
+    unfolding raisedReach outerTerm outerRadius
     outer-rounded a i t h =
         let c = bound (up 1 (abs (b .mid) +ℤ b .rad)) _ h in
         let w = up-nonneg L one reach-nonneg (c .first) in

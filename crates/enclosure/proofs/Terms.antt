@@ -11,7 +11,7 @@ use Rattle.algebra.proofs.Linear.{reading, le, lin-le}
 use Rattle.algebra.proofs.Order.{_⊠_}
 use Rattle.enclosure.specs.Arithmetic.{Arithmetic}
 use Rattle.enclosure.specs.Cell.{Cell}
-use Rattle.enclosure.specs.Methods.{part, innerTerm, outerTerm, sharedTerm, midTerm, partTerm}
+use Rattle.enclosure.specs.Methods.{part, innerTerm, outerRadius, outerTerm, sharedTerm, midTerm, partTerm}
 use Rattle.enclosure.proofs.Accepted.{bound}
 use Rattle.enclosure.proofs.Laws.{Laws, up-sum}
 
@@ -46,7 +46,7 @@ module _ {A : Arithmetic} (L : Laws A) (a b : ℕ → Cell) (l : ℕ) (t : ℤ) 
   inner-above h = up-above units-above h
 
   pub outer-above : pos 0 ≼ a l .rad → outerTerm A (a l) (b l) ≡ some t → outer a b l ≼ t *ℤ pos units
-  unfolding outerTerm
+  unfolding outerTerm outerRadius
   outer-above p h =
       let c = bound (up 1 (abs (b l .mid) +ℤ b l .rad)) _ h in
       scaled units (a l .rad) _ (c .value) t p (up-sum L (c .first)) (up-above units-above (c .then))

@@ -17,7 +17,7 @@ use Rattle.algebra.proofs.Absolute.{abs-mul}
 use Rattle.algebra.proofs.Sum.{Σ-add, Σ-scale, Σ-ext}
 use Rattle.enclosure.specs.Arithmetic.{Arithmetic}
 use Rattle.enclosure.specs.Cell.{Cell}
-use Rattle.enclosure.specs.Methods.{radius₃, total, raisedTerm, outerTerm}
+use Rattle.enclosure.specs.Methods.{radius₃, total, raisedRadius, raisedTerm, outerTerm}
 use Rattle.enclosure.proofs.Accepted.{bound}
 use Rattle.enclosure.proofs.NaturalSum.{Σ-pos}
 use Rattle.enclosure.proofs.Converted.{EachConverted}
@@ -71,12 +71,12 @@ module _ {A : Arithmetic} (L : Laws A) (k : ℕ) (a b : ℕ → Cell) (oka : Eac
   outer-exact l = pos (2 * P) *ℤ outer a b l
 
   raised-above : (l : ℕ) (t : ℤ) → raisedTerm A k (a l) (b l) ≡ some t → raised-exact l ≼ t *ℤ pos N
-  unfolding raisedTerm
+  unfolding raisedTerm raisedRadius
   raised-above l t h =
-      let c = bound (up units (pos ((k + 2) * eps) *ℤ abs (b l .mid))) _ h in
-      let d = bound (up 1 (c .value +ℤ b l .rad)) _ (c .then) in
+      let d = bound (raisedRadius A (pos ((k + 2) * eps)) (b l .mid) (b l .rad)) _ h in
+      let c = bound (up units (pos ((k + 2) * eps) *ℤ abs (b l .mid))) _ (d .first) in
       raised P units eps (k + 2) (abs (a l .mid)) (abs (b l .mid)) (b l .rad) (c .value) (d .value) t eps-is units-above (nonneg (natAbs (a l .mid)))
-      (up-above units-above (c .first)) (up-sum L (d .first)) (up-above units-above (d .then))
+      (up-above units-above (c .first)) (up-sum L (c .then)) (up-above units-above (d .then))
 
   stages-above : {r : ℤ} → radius₃ A k a b ≡ some r → Σ< k raised-exact +ℤ pos (tiny * N) +ℤ Σ< k outer-exact ≼ r *ℤ pos N
   unfolding radius₃ total

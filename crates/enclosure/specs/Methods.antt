@@ -43,13 +43,21 @@ module _ (A : Arithmetic) where
   unfoldable pub innerTerm : Cell → Cell → Option ℤ
   innerTerm a b = up units (abs (a .mid) *ℤ b .rad)
 
+  -- |m| + r of a cell
+  unfoldable pub outerRadius : ℤ → ℤ → Option ℤ
+  outerRadius m r = up 1 (abs m +ℤ r)
+
   -- rA × (|mB| + rB)
   unfoldable pub outerTerm : Cell → Cell → Option ℤ
-  outerTerm a b = bind (up 1 (abs (b .mid) +ℤ b .rad)) λ w. up units (a .rad *ℤ w)
+  outerTerm a b = bind (outerRadius (b .mid) (b .rad)) λ w. up units (a .rad *ℤ w)
 
-  -- |mA| × rB′, where rB′ is ((k + 2) × 2^-24 × |mB|) + rB
+  -- rB′ of a cell: (f × |m|) + r, for f = (k + 2) × 2^-24
+  unfoldable pub raisedRadius : ℤ → ℤ → ℤ → Option ℤ
+  raisedRadius f m r = bind (up units (f *ℤ abs m)) λ t. up 1 (t +ℤ r)
+
+  -- |mA| × rB′
   unfoldable pub raisedTerm : ℕ → Cell → Cell → Option ℤ
-  raisedTerm k a b = bind (up units (pos ((k + 2) * eps) *ℤ abs (b .mid))) λ t. bind (up 1 (t +ℤ b .rad)) λ r. up units (abs (a .mid) *ℤ r)
+  raisedTerm k a b = bind (raisedRadius (pos ((k + 2) * eps)) (b .mid) (b .rad)) λ r. up units (abs (a .mid) *ℤ r)
 
   -- -|pA| × |pB|
   unfoldable pub sharedTerm : Cell → Cell → Option ℤ

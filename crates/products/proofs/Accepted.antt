@@ -1,33 +1,20 @@
 -- What the entries' functions ask for holds where the checks accepted.
-use mathlib.Core.Path.{_≡_, refl, sym, ap, subst}
-use mathlib.Core.Bool.{Bool, true, false, cond}
+use mathlib.Core.Path.{_≡_, sym, ap, subst}
 use mathlib.Core.List.{List}
-use mathlib.Core.Option.{none, some}
+use mathlib.Core.Logic.{_⊎_}
 use Prim.Native.Nat.{ℕ, _*_, _≤_}
 use native.Mathlib.Omega.{arith}
-use lib.Dec.{eqb}
 use lib.ListN.{length}
-use borrow.Author.Tests.{eqb-true}
-use Rattle.enclosure.specs.Methods.{Method, classical, three, four, seven}
 use Rattle.products.specs.declared.Outcome.the-variants.{Done}
-use Rattle.products.specs.Matrix.{AllFine}
+use Rattle.products.specs.Lists.{front}
+use Rattle.products.specs.Matrix.{AllFine, midAt, radAt}
+use Rattle.products.specs.MidRad.{Sized}
 use Rattle.products.specs.Entries.{Sizes}
-use Rattle.products.specs.Checks.{Given, given, methodOf, checkOf}
-use Rattle.products.specs.Converted.{Numbered, is-three, is-four, is-seven, Ready}
+use Rattle.products.specs.Checks.{Given, chosen, checkOf}
 use Rattle.products.proofs.CheckTells.{Checked, checked-tells}
-
--- a known method other than 1
-numbered : (n : ℕ) (m : Method) → methodOf n ≡ some m → (n ≡ 1 → ⊥) → Numbered n
-unfolding methodOf
-numbered n m e not-1 = go (eqb n 1) (eqb n 3) (eqb n 4) (eqb n 7) (eqb-true n 1) (eqb-true n 3) (eqb-true n 4) (eqb-true n 7) e
-  where
-    go : (s t u v : Bool) → (s ≡ true → n ≡ 1) → (t ≡ true → n ≡ 3) → (u ≡ true → n ≡ 4) → (v ≡ true → n ≡ 7)
-        → cond s (some classical) (cond t (some three) (cond u (some four) (cond v (some seven) none))) ≡ some m → Numbered n
-    go true t u v a b c d e = absurd (not-1 (a refl))
-    go false true u v a b c d e = subst Numbered (sym (b refl)) is-three
-    go false false true v a b c d e = subst Numbered (sym (c refl)) is-four
-    go false false false true a b c d e = subst Numbered (sym (d refl)) is-seven
-    go false false false false a b c d e = let z : _≡_ {A = ℕ} 0 1 = cc in absurd (omega arith)
+use Rattle.products.proofs.EntryExt.{ByMidRad}
+use Rattle.products.proofs.Chosen.{numbered, by-mid-rad}
+use Rattle.products.proofs.MidRads.{Converted, converted-front, mid-rads}
 
 module _ (g : Given) (ok : checkOf g ≡ Done) where
   abbrev known : Checked g
@@ -59,18 +46,43 @@ module _ (g : Given) (ok : checkOf g ≡ Done) where
         b-fine = subst (AllFine (g .B)) (sym inner) (known .b-fine);
       }
 
-module _ (method ar ac br bc : ℕ) (al au bl bu ma ra mb rb lo up : List ℕ) where
-  abbrev g : Given
-  g = given method ar ac br bc al au bl bu (length ma) (length ra) (length mb) (length rb) (length lo) (length up)
+  -- ---- methods 3, 4 and 7
 
-  pub ready : checkOf g ≡ Done → (method ≡ 1 → ⊥) → Ready method ar ac bc (g .A) (g .B) ma ra mb rb lo up
-  ready ok not-1 =
-      let k = known g ok in
-      record {
-        numbered = numbered method (k .method .0) (k .method .1) not-1;
-        sizes = sizes g ok;
-        a-mids = k .lengths .a-work .0;
-        a-rads = k .lengths .a-work .1;
-        b-mids = within g ok _ (k .lengths .b-work .0);
-        b-rads = within g ok _ (k .lengths .b-work .1);
-      }
+  -- what the two conversions ask for
+  pub a-convertible :
+      let n = g .a-rows * g .a-columns in
+      (n ≤ length (g .A .lowers)) × (n ≤ length (g .A .uppers)) × (n ≤ g .a-mids) × (n ≤ g .a-rads) × AllFine (g .A) n
+  a-convertible = let l = known .lengths in (l .a-cells .0, l .a-cells .1, l .a-work .0, l .a-work .1, known .a-fine)
+
+  pub b-convertible :
+      let n = g .b-rows * g .b-columns in
+      (n ≤ length (g .B .lowers)) × (n ≤ length (g .B .uppers)) × (n ≤ g .b-mids) × (n ≤ g .b-rads) × AllFine (g .B) n
+  b-convertible = let l = known .lengths in (l .b-cells .0, l .b-cells .1, l .b-work .0, l .b-work .1, known .b-fine)
+
+  -- what they leave of lists m₀ and r₀
+  pub a-converted : (m₀ r₀ m r : List ℕ) → g .a-mids ≡ length m₀ → g .a-rads ≡ length r₀
+      → m ≡ front (g .a-rows * g .a-columns) (midAt (g .A)) m₀ → r ≡ front (g .a-rows * g .a-columns) (radAt (g .A)) r₀ → Converted (g .A) (g .a-rows * g .a-columns) m r
+  a-converted m₀ r₀ m r lm lr em er =
+      let w = known .lengths .a-work in
+      converted-front (g .A) (g .a-rows * g .a-columns) m r m₀ r₀ (known .a-fine) (subst (λ (n : ℕ). g .a-rows * g .a-columns ≤ n) lm (w .0)) (subst (λ (n : ℕ). g .a-rows * g .a-columns ≤ n) lr (w .1)) em er
+
+  pub b-converted : (m₀ r₀ m r : List ℕ) → g .b-mids ≡ length m₀ → g .b-rads ≡ length r₀
+      → m ≡ front (g .b-rows * g .b-columns) (midAt (g .B)) m₀ → r ≡ front (g .b-rows * g .b-columns) (radAt (g .B)) r₀ → Converted (g .B) (g .a-columns * g .b-columns) m r
+  b-converted m₀ r₀ m r lm lr em er =
+      let w = known .lengths .b-work in
+      subst (λ (n : ℕ). Converted (g .B) n m r) (sym inner)
+      (converted-front (g .B) (g .b-rows * g .b-columns) m r m₀ r₀ (known .b-fine) (subst (λ (n : ℕ). g .b-rows * g .b-columns ≤ n) lm (w .0)) (subst (λ (n : ℕ). g .b-rows * g .b-columns ≤ n) lr (w .1)) em er)
+
+  module _ (not-1 : g .method ≡ 1 → ⊥) where
+    which : (g .method ≡ 3) ⊎ ((g .method ≡ 4) ⊎ (g .method ≡ 7))
+    which = let m = known .method in numbered (g .method) (m .0) (m .1) not-1
+
+    pub chosen-by-mid-rad : ByMidRad (chosen (g .method))
+    chosen-by-mid-rad = by-mid-rad (g .method) which
+
+    -- what the entries' function asks for
+    pub ready : (ma ra mb rb : List ℕ) → Converted (g .A) (g .a-rows * g .a-columns) ma ra → Converted (g .B) (g .a-columns * g .b-columns) mb rb
+        → ((g .method ≡ 3) ⊎ ((g .method ≡ 4) ⊎ (g .method ≡ 7))) × Sized (g .a-rows) (g .a-columns) (g .b-columns) ma ra mb rb (g .lowers) (g .uppers)
+    ready ma ra mb rb a b =
+        let s = sizes in
+        (which, record { rows = s .rows; inner = s .inner; columns = s .columns; a = mid-rads a; b = mid-rads b; lowers = s .lowers; uppers = s .uppers })

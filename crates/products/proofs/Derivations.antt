@@ -1,8 +1,10 @@
 -- What is worked out of a midpoint and a radius: one law for each kind, from what the calls give.
 use mathlib.Core.Path.{_≡_, refl, sym, ap, ap₂, _∙_, subst}
-use mathlib.Core.Option.{Option, some, bind}
+use mathlib.Core.List.{List}
+use mathlib.Core.Option.{Option, none, some, bind}
 use Prim.Native.Nat.{ℕ, zero, suc, _%_, _^_, _≤_, _<_}
 use lib.IntN.{ℤ, pos, negℤ}
+use lib.ListN.{getD}
 use Rattle.algebra.specs.Order.{_≼_}
 use Rattle.algebra.specs.Absolute.{abs}
 use Rattle.algebra.specs.Extremes.{minℤ}
@@ -10,15 +12,15 @@ use Rattle.algebra.proofs.Absolute.{abs-neg}
 use Rattle.rounding.specs.Format.{binary32}
 use Rattle.rounding.specs.Rounding.{up}
 use Rattle.rounding.specs.Pattern.{val}
-use Rattle.enclosure.specs.Methods.{part}
+use Rattle.enclosure.specs.Methods.{part, outerRadius, raisedRadius}
 use Rattle.binary32.specs.Number.{valueOf, held, holdUp, negated}
 use Rattle.binary32.specs.Operations.{add, mul, with₂}
 use Rattle.binary32.specs.Order.{magnitudeOf, leastOf}
 use Rattle.binary32.proofs.Held.{held-hold}
 use Rattle.products.specs.declared.derived.Kind.{Kind}
-use Rattle.products.specs.declared.derived.Kind.the-variants.{Middle, Magnitude, Radius, Wide, Raised, Part, PartMagnitude, PartOpposed}
-use Rattle.products.specs.Derived.{MidRad, Derives, derivedOf}
-use Rattle.products.proofs.Steps.{plus-up-fits, mul-up-fits}
+use Rattle.products.specs.declared.derived.Kind.the-variants.{Outer, Raised, Part}
+use Rattle.products.specs.Derived.{MidRad, Derives, Derived, outerOf, raisedOf, partOf, factorOf, derivedOf, raisedFactor}
+use Rattle.products.proofs.Fitting.{plus-up-fits, mul-up-fits}
 use Rattle.products.proofs.Patterns.{held-is, low-value, high-value, magnitude-value, magnitude-finite, held-magnitude, held-negated, held-least, min-zero}
 
 -- ---- p = sign(m) × min(|m|, r)
@@ -54,30 +56,14 @@ part-high m r q p z M h l e f g =
 
 -- ---- the kinds
 
+bind-assoc : (m : Option ℤ) (f g : ℤ → Option ℤ) → bind (bind m f) g ≡ bind m λ x. bind (f x) g
+unfolding bind
+bind-assoc none f g = refl
+bind-assoc (some v) f g = refl
+
 module _ (kind : Kind) (m r p : ℕ) where
-  pub middle-derived : kind ≡ Middle → MidRad m r → p ≡ m → Derives kind m r p
-  unfolding derivedOf
-  middle-derived k M e = subst (λ x. Derives x m r p) (sym k) (record { holds = ap held e ∙ held-is m (M .mid) })
-
-  pub magnitude-derived : kind ≡ Magnitude → MidRad m r → p ≡ magnitudeOf m → Derives kind m r p
-  unfolding derivedOf
-  magnitude-derived k M e = subst (λ x. Derives x m r p) (sym k) (record { holds = ap held e ∙ held-magnitude m (held-is m (M .mid)) })
-
-  pub radius-derived : kind ≡ Radius → MidRad m r → p ≡ r → Derives kind m r p
-  unfolding derivedOf
-  radius-derived k M e = subst (λ x. Derives x m r p) (sym k) (record { holds = ap held e ∙ held-is r (M .rad) })
-
   pub part-derived : kind ≡ Part → Derives Part m r p → Derives kind m r p
   part-derived k D = subst (λ x. Derives x m r p) (sym k) D
-
-  pub part-magnitude-derived : (q : ℕ) → kind ≡ PartMagnitude → Derives Part m r q → p ≡ magnitudeOf q → Derives kind m r p
-  unfolding derivedOf
-  part-magnitude-derived q k D e = subst (λ x. Derives x m r p) (sym k) (record { holds = ap held e ∙ held-magnitude q (D .holds) })
-
-  pub part-opposed-derived : (q w : ℕ) → kind ≡ PartOpposed → Derives Part m r q → w ≡ magnitudeOf q → w < 2 ^ 32 → p ≡ negated w → Derives kind m r p
-  unfolding derivedOf
-  part-opposed-derived q w k D e l f =
-      subst (λ x. Derives x m r p) (sym k) (record { holds = ap held f ∙ held-negated w l (ap held e ∙ held-magnitude q (D .holds)) })
 
   -- a sum, rounded up, with the radius
   with-radius : (t : ℕ) (v : Option ℤ) → MidRad m r → held t ≡ v → p ≡ holdUp (with₂ (add up) t r) → held p ≡ bind v λ x. add up x (valueOf r)
@@ -85,16 +71,32 @@ module _ (kind : Kind) (m r p : ℕ) where
   with-radius t v M e f =
       ap held f ∙ held-hold 0x7F800000 refl (with₂ (add up) t r) (plus-up-fits t (held r)) ∙ ap₂ (λ a b. bind a λ x. bind b λ y. add up x y) e (held-is r (M .rad))
 
-  pub wide-derived : (q : ℕ) → kind ≡ Wide → MidRad m r → q ≡ magnitudeOf m → p ≡ holdUp (with₂ (add up) q r) → Derives kind m r p
-  unfolding derivedOf bind
-  wide-derived q k M e f =
+  pub outer-derived : (q : ℕ) → kind ≡ Outer → MidRad m r → q ≡ magnitudeOf m → p ≡ holdUp (with₂ (add up) q r) → Derives kind m r p
+  unfolding derivedOf outerRadius bind
+  outer-derived q k M e f =
       subst (λ x. Derives x m r p) (sym k) (record { holds = with-radius q _ M (ap held e ∙ held-magnitude m (held-is m (M .mid))) f })
 
   pub raised-derived : (c q t : ℕ) → kind ≡ Raised c → MidRad m r → q ≡ magnitudeOf m → t ≡ holdUp (with₂ (mul up) c q) → p ≡ holdUp (with₂ (add up) t r)
       → Derives kind m r p
-  unfolding derivedOf with₂ bind
+  unfolding derivedOf raisedRadius with₂ bind
   raised-derived c q t k M e f g =
       let h : held q ≡ some (abs (valueOf m)) = ap held e ∙ held-magnitude m (held-is m (M .mid)) in
       let u : held t ≡ bind (held c) λ x. mul up x (abs (valueOf m)) =
       ap held f ∙ held-hold 0x7F800000 refl (with₂ (mul up) c q) (mul-up-fits c q) ∙ ap (λ b. bind (held c) λ x. bind b λ y. mul up x y) h in
-      subst (λ x. Derives x m r p) (sym k) (record { holds = with-radius t _ M u g })
+      subst (λ x. Derives x m r p) (sym k) (record { holds = with-radius t _ M u g ∙ bind-assoc (held c) _ _ })
+
+-- ---- of the first count cells
+module _ {count : ℕ} {m r p : List ℕ} where
+  pub outers-derived : Derived (derivedOf Outer) count m r p → Derived outerOf count m r p
+  unfolding derivedOf
+  outers-derived d = record { long = d .long; each = d .each }
+
+  pub parts-derived : Derived (derivedOf Part) count m r p → Derived partOf count m r p
+  unfolding derivedOf
+  parts-derived d = record { long = d .long; each = d .each }
+
+  -- by a pattern that holds the factor of k
+  pub raiseds-derived : (x k : ℕ) → held x ≡ raisedFactor k → Derived (derivedOf (Raised x)) count m r p → Derived (raisedOf (factorOf k)) count m r p
+  unfolding derivedOf raisedFactor bind
+  raiseds-derived x k e d =
+      record { long = d .long; each = λ c h. d .each c h ∙ ap (λ o. bind o λ f. raisedOf f (valueOf (getD m c 0)) (valueOf (getD r c 0))) e }

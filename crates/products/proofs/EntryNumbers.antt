@@ -12,7 +12,7 @@ use Rattle.binary32.proofs.Held.{Fits}
 use Rattle.binary32.proofs.Numbers.{down-fits, up-fits}
 use Rattle.products.specs.Matrix.{Matrix}
 use Rattle.products.specs.Entries.{entryOf}
-use Rattle.products.proofs.Running.{sum-fits}
+use Rattle.products.proofs.Fitting.{sum-fits}
 
 pub record Numbers (e : Range) : Type 0 where
   pub lower : Num binary32 (e .lower)

@@ -11,7 +11,7 @@ use Rattle.rounding.specs.Pattern.{val, place}
 use Rattle.enclosure.specs.Sums.{sum}
 use Rattle.enclosure.specs.Conversion.{mid, rad}
 use Rattle.enclosure.specs.Methods.{entry, entry₁, ends, radius₃, radius₄, radius₇, centre, centre₇, total}
-use Rattle.enclosure.specs.Methods.{leastTerm, greatestTerm, innerTerm, outerTerm, raisedTerm, sharedTerm, midTerm, partTerm, part}
+use Rattle.enclosure.specs.Methods.{leastTerm, greatestTerm, innerTerm, outerRadius, outerTerm, raisedRadius, raisedTerm, sharedTerm, midTerm, partTerm, part}
 use Rattle.binary32.specs.declared.Rounded.{Rounded}
 use Rattle.binary32.specs.declared.Rounded.the-variants as N
 use Rattle.binary32.specs.Number.{valueOf, held, negated}
@@ -87,5 +87,5 @@ table =
 pub stated-is-found : map (λ l. l .found) table ≡ map (λ l. l .stated) table
 unfolding table answer with₂ held valueOf negated bind faultOf midOf radOf midradOf outcomeOf resultAfter checkOf checkShapes checkMethod methodOf checkSizes checkLengths checkOperands
     checkLent longEnough checkBoth checkCells first stopOf tabulate entryAt entryOf cellAt entry entry₁ ends radius₃ radius₄ radius₇ centre centre₇ total sum leastTerm greatestTerm
-    innerTerm outerTerm raisedTerm sharedTerm midTerm partTerm part minℤ maxℤ mid rad up down near lo hi nr ceil expo size MAX val place
+    innerTerm outerRadius outerTerm raisedRadius raisedTerm sharedTerm midTerm partTerm part minℤ maxℤ mid rad up down near lo hi nr ceil expo size MAX val place
 stated-is-found = refl

@@ -1,28 +1,26 @@
 -- A product that is done keeps demand 3: each of its cells is the pattern of an entry that was accepted, and so encloses.
-use mathlib.Core.Path.{_≡_, refl, sym, ap, ap₂, _∙_, subst}
+use mathlib.Core.Path.{_≡_, refl, sym, ap, _∙_, subst}
 use mathlib.Core.Bool.{Bool, true, false, cond}
 use mathlib.Core.List.{List}
 use mathlib.Core.Option.{Option, none, some}
 use Prim.Native.Nat.{ℕ, _+_, _*_, _/_, _%_, _≤_, _<_}
 use native.Mathlib.Omega.{arith}
-use lib.Arith.{digits-div, digits-mod}
 use lib.Dec.{ltb}
 use borrow.Author.Tests.{ltb-false, le-ltb}
 use Rattle.rounding.specs.Format.{binary32}
 use Rattle.enclosure.specs.Methods.{Range}
 use Rattle.enclosure.specs.Demand.{Valid, ValidCells, Kept}
 use Rattle.enclosure.proofs.Demand.{demand-kept}
-use Rattle.binary32.specs.Number.{valueOf, patternOf}
+use Rattle.binary32.specs.Number.{valueOf}
 use Rattle.binary32.proofs.Held.{pattern-value}
 use Rattle.intervals.specs.declared.Fault.the-variants.{Fine}
 use Rattle.intervals.proofs.Faults.{fine-tells}
 use Rattle.refusals.specs.declared.Refusal.the-variants as R
-use Rattle.products.specs.declared.sums.Next.{Next}
 use Rattle.products.specs.declared.Outcome.{Outcome}
 use Rattle.products.specs.declared.Outcome.the-variants.{Done, Refused}
 use Rattle.products.specs.Lists.{front}
 use Rattle.products.specs.Matrix.{Matrix, lowerAt, upperAt, cellAt, faultAt}
-use Rattle.products.specs.Entries.{patternsOf, entryOf, entryAt, refused, lowerOf, upperOf, stopOf}
+use Rattle.products.specs.Entries.{entryOf, refused, lowerOf, upperOf, stopOf}
 use Rattle.products.specs.Checks.{Given, chosen, checkOf}
 use Rattle.products.specs.Product.{entries, cells, stop, outcomeOf, resultAfter, Left}
 use Rattle.products.specs.Demand.{Keeps, rowOf, columnOf, rangeAt}
@@ -30,17 +28,15 @@ use Rattle.products.proofs.CheckTells.{Checked, checked-tells, then-tel
 use Rattle.products.proofs.EntryNumbers.{entry-numbers}
 use Rattle.products.proofs.Firsts.{first-le, first-before}
 use Rattle.products.proofs.Fronts.{getD-front}
-use Rattle.products.proofs.Writing.{below}
+use Rattle.products.proofs.Writing.{below, place-entry}
 
 -- ---- an entry that is not refused
-record Accepted (m : Option Range) (n : Next) : Type 0 where
+record Accepted (m : Option Range) : Type 0 where
   e : Range
   is : m ≡ some e
-  lower : lowerOf n ≡ patternOf (e .lower)
-  upper : upperOf n ≡ patternOf (e .upper)
 
-accepted : (m : Option Range) → refused (patternsOf m) ≡ false → Accepted m (patternsOf m)
-accepted (some e) h = record { e = e; is = refl; lower = refl; upper = refl }
+accepted : (m : Option Range) → refused m ≡ false → Accepted m
+accepted (some e) h = record { e = e; is = refl }
 accepted none h = absurd (no h)
   where
     no : true ≡ false → ⊥
@@ -73,16 +69,15 @@ module _ (g : Given) (ok : Checked g) where
   abbrev entry-at : ℕ → ℕ → Option Range
   entry-at i j = entryOf (chosen (g .method)) (g .a-columns) (g .b-columns) (g .A) (g .B) i j
 
-  here : (i j : ℕ) → j < g .b-columns → entries g (i * g .b-columns + j) ≡ patternsOf (entry-at i j)
-  unfolding entryAt
-  here i j h = ap₂ (λ r t. patternsOf (entry-at r t)) (digits-div i h) (digits-mod i h)
+  here : (i j : ℕ) → j < g .b-columns → entries g (i * g .b-columns + j) ≡ entry-at i j
+  here i j h = place-entry (chosen (g .method)) (g .a-columns) (g .b-columns) i j (i * g .b-columns + j) refl h (g .A) (g .B)
 
   -- where none is refused, that entry is accepted
-  accepted-at : stop g ≡ cells g → (i j : ℕ) → i < g .a-rows → j < g .b-columns → Accepted (entry-at i j) (entries g (i * g .b-columns + j))
+  accepted-at : stop g ≡ cells g → (i j : ℕ) → i < g .a-rows → j < g .b-columns → Accepted (entry-at i j)
   unfolding stopOf
   accepted-at s i j hi hj =
       let f = first-before (λ c. refused (entries g c)) (cells g) s (i * g .b-columns + j) (within i j hi hj) in
-      subst (Accepted (entry-at i j)) (sym (here i j hj)) (accepted (entry-at i j) (sym (ap refused (here i j hj)) ∙ f))
+      accepted (entry-at i j) (sym (ap refused (here i j hj)) ∙ f)
 
   -- the same of what is left in the result
   keeps-at : (lo up : List ℕ) → stop g ≡ cells g → (i j : ℕ) → i < g .a-rows → j < g .b-columns
@@ -91,12 +86,12 @@ module _ (g : Given) (ok : Checked g) where
       rw (getD-front (λ c. lowerOf (entries g c)) (cells g) lo (i * g .b-columns + j) (within i j hi hj), getD-front (λ c. upperOf (entries g c)) (cells g) up (i * g .b-columns + j) (within i j hi hj))
       (told (accepted-at s i j hi hj))
     where
-      told : Accepted (entry-at i j) (entries g (i * g .b-columns + j))
+      told : Accepted (entry-at i j)
           → Kept (chosen (g .method)) (g .a-columns) (rowOf g i) (columnOf g j) (record { lower = valueOf (lowerOf (entries g (i * g .b-columns + j))); upper = valueOf (upperOf (entries g (i * g .b-columns + j))) })
       told a =
           let n = entry-numbers (chosen (g .method)) (g .a-columns) (g .b-columns) (g .A) (g .B) i j (a .e) (a .is) in
-          let l : valueOf (lowerOf (entries g (i * g .b-columns + j))) ≡ a .e .lower = ap valueOf (a .lower) ∙ pattern-value (n .lower) in
-          let u : valueOf (upperOf (entries g (i * g .b-columns + j))) ≡ a .e .upper = ap valueOf (a .upper) ∙ pattern-value (n .upper) in
+          let l : valueOf (lowerOf (entries g (i * g .b-columns + j))) ≡ a .e .lower = ap valueOf (ap lowerOf (here i j hj ∙ a .is)) ∙ pattern-value (n .lower) in
+          let u : valueOf (upperOf (entries g (i * g .b-columns + j))) ≡ a .e .upper = ap valueOf (ap upperOf (here i j hj ∙ a .is)) ∙ pattern-value (n .upper) in
           rw (l, u) (entry-keeps i j hi hj (a .e) (a .is))
 
 -- ---- what a product leaves when it is done
@@ -121,7 +116,7 @@ module _ (g : Given) where
           let l : stop g ≤ cells g = bounded in
           omega arith
 
-  result-done : (bound : Next → ℕ) (d : List ℕ) → checkOf g ≡ Done → stop g ≡ cells g → resultAfter g bound d ≡ front (cells g) (λ c. bound (entries g c)) d
+  result-done : (bound : Option Range → ℕ) (d : List ℕ) → checkOf g ≡ Done → stop g ≡ cells g → resultAfter g bound d ≡ front (cells g) (λ c. bound (entries g c)) d
   unfolding resultAfter
   result-done bound d e s = rw (e, le-ltb (stop g) (cells g) (omega arith))
 

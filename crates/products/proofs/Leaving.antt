@@ -2,29 +2,32 @@
 use mathlib.Core.Path.{_≡_, refl, sym, ap, subst, _∙_}
 use mathlib.Core.Bool.{Bool, true, false, cond}
 use mathlib.Core.List.{List, _++_}
-use Prim.Native.Nat.{ℕ, _+_, _-_, _/_, _%_, _≤_}
+use mathlib.Core.Option.{Option}
+use Prim.Native.Nat.{ℕ, _+_, _-_, _*_, _/_, _%_, _≤_}
 use native.Mathlib.Omega.{arith}
 use lib.Dec.{ltb}
 use lib.ListN.{drop, replicate}
 use lib.Seq.{drop-drop, drop-at}
 use borrow.Author.Tests.{ltb-false, eq-eqb, ne-eqb}
-use Rattle.enclosure.specs.Methods.{Method, classical}
+use Rattle.enclosure.specs.Methods.{Method, Range, classical}
 use Rattle.refusals.specs.declared.Refusal.{Refusal}
 use Rattle.refusals.specs.declared.Refusal.the-variants as R
-use Rattle.products.specs.declared.sums.Next.{Next}
 use Rattle.products.specs.declared.sums.Place.{Place}
 use Rattle.products.specs.declared.sums.Place.the-variants.{Nowhere, At}
 use Rattle.products.specs.declared.Outcome.{Outcome}
 use Rattle.products.specs.declared.Outcome.the-variants.{Done, Refused}
 use Rattle.products.specs.Lists.{tabulate, front, zeros}
 use Rattle.products.specs.Matrix.{midAt, radAt}
+use Rattle.products.specs.MidRad.{entryFrom}
 use Rattle.products.specs.Entries.{entryAt, refused, lowerOf, upperOf, stopOf, placeOf, Written}
-use Rattle.products.specs.Checks.{Given, methodOf, chosen, checkOf}
-use Rattle.products.specs.Converted.{Multiplied}
+use Rattle.products.specs.Checks.{Given, chosen, checkOf}
 use Rattle.products.specs.Product.{Left, Finished, entries, cells, stop, outcomeOf, resultAfter, workAfter, outcomeAt, clearedAt}
 use Rattle.products.proofs.Firsts.{first-le}
 use Rattle.products.proofs.Fronts.{tabulate-length}
-use Rattle.products.proofs.Accepted.{inner}
+use Rattle.products.proofs.EntryExt.{ByMidRad}
+use Rattle.products.proofs.Chosen.{chosen-1}
+use Rattle.products.proofs.MidRads.{Converted, entries-from}
+use Rattle.products.proofs.WrittenExt.{written-ext}
 
 -- clearing forgets what was written in front
 zeros-front : (n c : ℕ) (f : ℕ → ℕ) (d : List ℕ) → c ≤ n → zeros n (front c f d) ≡ zeros n d
@@ -45,13 +48,9 @@ pub finished-at : (p : Place) (n : ℕ) (lo up : List ℕ) (i j : ℕ) (lo′ up
     → Finished p n lo up (Refused (R.Overflow 3 i j)) lo′ up′
 finished-at p n lo up i j lo′ up′ e l u = record { outcome = rw e; lowers = rw e l; uppers = rw e u }
 
-stop-le : (E : ℕ → Next) (n : ℕ) → stopOf E n ≤ n
+stop-le : (E : ℕ → Option Range) (n : ℕ) → stopOf E n ≤ n
 unfolding stopOf
 stop-le E n = first-le (λ c. refused (E c)) n
-
-chosen-1 : (n : ℕ) → n ≡ 1 → classical ≡ chosen n
-unfolding methodOf
-chosen-1 n e = subst (λ (k : ℕ). classical ≡ chosen k) (sym e) refl
 
 -- refused by a check
 pub left-refused : (g : Given) (z : Outcome) (x : Refusal) (ma ra mb rb lo up : List ℕ) → z ≡ checkOf g → z ≡ Refused x
@@ -81,7 +80,7 @@ module _ (g : Given) (ok : checkOf g ≡ Done) where
       go true = refl
       go false = refl
 
-  result-is : (bound : Next → ℕ) (p : Place) (d d′ d″ : List ℕ) → p ≡ place → d′ ≡ front (stop g) (λ c. bound (entries g c)) d → d″ ≡ clearedAt p (cells g) d′
+  result-is : (bound : Option Range → ℕ) (p : Place) (d d′ d″ : List ℕ) → p ≡ place → d′ ≡ front (stop g) (λ c. bound (entries g c)) d → d″ ≡ clearedAt p (cells g) d′
       → d″ ≡ resultAfter g bound d
   unfolding resultAfter
   result-is bound p d d′ d″ e w f =
@@ -127,17 +126,21 @@ module _ (g : Given) (ok : checkOf g ≡ Done) where
         uppers = result-is upperOf p up up′ up″ (v .place) (v .uppers) (f .uppers);
       }
 
-  pub left-converted : (ma ra mb rb lo up : List ℕ) (p : Place) (ma′ ra′ mb′ rb′ lo′ up′ : List ℕ) (r : Outcome) (lo″ up″ : List ℕ) → (g .method ≡ 1 → ⊥)
-      → Multiplied (g .method) (g .a-rows) (g .a-columns) (g .b-columns) (g .A) (g .B) ma ra mb rb lo up p ma′ ra′ mb′ rb′ lo′ up′
-      → Finished p (cells g) lo′ up′ r lo″ up″ → Left g ma ra mb rb lo up r ma′ ra′ mb′ rb′ lo″ up″
-  left-converted ma ra mb rb lo up p ma′ ra′ mb′ rb′ lo′ up′ r lo″ up″ e w f =
-      let v = w .written in
-      record {
-        outcome = outcome-is p r (v .place) (f .outcome);
-        a-mids = converted-is _ _ ma ma′ e (w .a-mids);
-        a-rads = converted-is _ _ ra ra′ e (w .a-rads);
-        b-mids = converted-is _ _ mb mb′ e (w .b-mids ∙ ap (λ (n : ℕ). front n (midAt (g .B)) mb) (inner g ok));
-        b-rads = converted-is _ _ rb rb′ e (w .b-rads ∙ ap (λ (n : ℕ). front n (radAt (g .B)) rb) (inner g ok));
-        lowers = result-is lowerOf p lo lo′ lo″ (v .place) (v .lowers) (f .lowers);
-        uppers = result-is upperOf p up up′ up″ (v .place) (v .uppers) (f .uppers);
-      }
+  module _ (ma′ ra′ mb′ rb′ : List ℕ) (a : Converted (g .A) (g .a-rows * g .a-columns) ma′ ra′) (b : Converted (g .B) (g .a-columns * g .b-columns) mb′ rb′) where
+    pub left-converted : (ma ra mb rb lo up : List ℕ) (p : Place) (lo′ up′ : List ℕ) (r : Outcome) (lo″ up″ : List ℕ) → (g .method ≡ 1 → ⊥) → ByMidRad (chosen (g .method))
+        → ma′ ≡ front (g .a-rows * g .a-columns) (midAt (g .A)) ma → ra′ ≡ front (g .a-rows * g .a-columns) (radAt (g .A)) ra
+        → mb′ ≡ front (g .b-rows * g .b-columns) (midAt (g .B)) mb → rb′ ≡ front (g .b-rows * g .b-columns) (radAt (g .B)) rb
+        → Written (entryFrom (chosen (g .method)) (g .a-columns) (g .b-columns) ma′ ra′ mb′ rb′) (g .a-rows) (g .b-columns) lo up p lo′ up′
+        → Finished p (cells g) lo′ up′ r lo″ up″ → Left g ma ra mb rb lo up r ma′ ra′ mb′ rb′ lo″ up″
+    left-converted ma ra mb rb lo up p lo′ up′ r lo″ up″ e c em er fm fr w f =
+        let v : Written (entries g) (g .a-rows) (g .b-columns) lo up p lo′ up′ =
+        written-ext (entryFrom (chosen (g .method)) (g .a-columns) (g .b-columns) ma′ ra′ mb′ rb′) (entries g) (g .a-rows) (g .b-columns) (entries-from (g .a-rows) (g .a-columns) (g .b-columns) a b (chosen (g .method)) c) w in
+        record {
+          outcome = outcome-is p r (v .place) (f .outcome);
+          a-mids = converted-is _ _ ma ma′ e em;
+          a-rads = converted-is _ _ ra ra′ e er;
+          b-mids = converted-is _ _ mb mb′ e fm;
+          b-rads = converted-is _ _ rb rb′ e fr;
+          lowers = result-is lowerOf p lo lo′ lo″ (v .place) (v .lowers) (f .lowers);
+          uppers = result-is upperOf p up up′ up″ (v .place) (v .uppers) (f .uppers);
+        }

@@ -1,88 +1,102 @@
--- From lists that hold the factors of A and B, the entries are those of A times B.
-use mathlib.Core.Path.{_≡_, refl, ap, ap₂, _∙_}
+-- Cells without a fault, converted into two lists: the lists hold midpoints and radii, and the entries from them are those of the matrices.
+use mathlib.Core.Path.{_≡_, sym, ap, ap₂, _∙_, subst}
 use mathlib.Core.List.{List}
-use mathlib.Core.Option.{Option, some, bind}
-use Prim.Native.Nat.{ℕ, _*_, _/_, _%_, _^_, _≤_, _<_}
-use lib.IntN.{ℤ, pos, _+ℤ_}
+use Prim.Native.Nat.{ℕ, zero, suc, _+_, _*_, _/_, _%_, _≤_, _<_}
+use native.Mathlib.Nat.{mul-zero, mod-lt, div-lt-iff-lt-mul}
+use native.Mathlib.Omega.{arith}
+use lib.IntN.{pos}
+use lib.ListN.{length, getD}
+use Rattle.algebra.specs.Order.{_≼_}
 use Rattle.rounding.specs.Format.{binary32}
-use Rattle.rounding.specs.Rounding.{up, down, near}
 use Rattle.enclosure.specs.Arithmetic.{of}
-use Rattle.enclosure.specs.Cell.{Cell}
-use Rattle.enclosure.specs.Methods.{three, four, seven, outerTerm, sharedTerm, partTerm, total, radius₃, radius₄, radius₇, centre, centre₇, ends, entry}
-use Rattle.binary32.specs.Operations.{Way}
-use Rattle.products.specs.Matrix.{Matrix}
-use Rattle.products.specs.Entries.{patternsOf, entryOf, entryAt}
-use Rattle.products.specs.Stages.{Inside}
-use Rattle.products.specs.MidRad.{mids, inner, outer, threeFrom, fourFrom, sevenFrom, entryFrom, placeFrom}
-use Rattle.products.specs.Factors.{Factors, Parts}
-use Rattle.products.specs.Checks.{methodOf, chosen}
-use Rattle.products.specs.Converted.{Numbered, is-three, is-four, is-seven}
-use Rattle.products.proofs.MidRadPlaces.{place-inside}
-use Rattle.products.proofs.Terms.{bind-assoc, cellsA, cellsB, mids-are, outer-is, raised-is, inner-is₄, inner-is₇, parts-are, shared-is}
+use Rattle.enclosure.specs.Methods.{Method, entry}
+use Rattle.enclosure.proofs.Conversion.{cell-converted}
+use Rattle.binary32.specs.Number.{valueOf}
+use Rattle.binary32.proofs.Held.{pattern-value, pattern-finite}
+use Rattle.intervals.specs.Conversion.{midOf, radOf}
+use Rattle.intervals.proofs.Rounded.{mid-num, rad-num}
+use Rattle.intervals.proofs.Faults.{Ordered, fine-tells}
+use Rattle.products.specs.Lists.{front}
+use Rattle.products.specs.Matrix.{Matrix, AllFine, lowerAt, upperAt, cellAt, midAt, radAt}
+use Rattle.products.specs.Derived.{MidRad, MidRads}
+use Rattle.products.specs.MidRad.{midRadAt, entryFrom}
+use Rattle.products.specs.Entries.{entryOf, entryAt}
+use Rattle.products.proofs.EntryExt.{ByMidRad, bare, entry-ext, entry-bare}
+use Rattle.products.proofs.Fronts.{getD-front, length-front}
+use Rattle.products.proofs.Writing.{below}
 
-module _ (k n i j : ℕ) (ma ra ua mb vb wb : List ℕ) (A B : Matrix) (a b : ℕ) (at : Inside k n i j a b) where
-  abbrev x : ℕ → Cell
-  x = cellsA A B k n i j a b at
+-- ---- a cell without a fault
+module _ (X : Matrix) (c : ℕ) (o : Ordered (lowerAt X c) (upperAt X c)) where
+  mid-value : valueOf (midAt X c) ≡ cellAt X c .mid
+  unfolding midOf cellAt
+  mid-value = pattern-value (mid-num binary32 (omega arith) (valueOf (lowerAt X c)) (valueOf (upperAt X c)) (o .low-num) (o .high-num) (o .order))
 
-  abbrev y : ℕ → Cell
-  y = cellsB A B k n i j a b at
+  rad-value : valueOf (radAt X c) ≡ cellAt X c .rad
+  unfolding radOf cellAt
+  rad-value = pattern-value (rad-num binary32 (omega arith) (valueOf (lowerAt X c)) (valueOf (upperAt X c)) (o .low-num) (o .high-num) (o .order))
 
-  abbrev outers : Option ℤ → Option ℤ
-  outers m = bind m λ t. total (of binary32) k x y (up binary32) (outerTerm (of binary32)) t
+  rad-nonneg : pos 0 ≼ cellAt X c .rad
+  unfolding cellAt
+  rad-nonneg = cell-converted binary32 (omega arith) (omega arith) (o .low-num) (o .high-num) (o .order) .rad-nonneg
 
-  abbrev raise : Option ℤ → Option ℤ
-  raise m = bind m λ s. up binary32 1 (s +ℤ pos (2 ^ 24))
+  mid-rad : MidRad (midAt X c) (radAt X c)
+  unfolding midOf radOf
+  mid-rad =
+      record {
+        mid = pattern-finite (mid-num binary32 (omega arith) (valueOf (lowerAt X c)) (valueOf (upperAt X c)) (o .low-num) (o .high-num) (o .order));
+        rad = pattern-finite (rad-num binary32 (omega arith) (valueOf (lowerAt X c)) (valueOf (upperAt X c)) (o .low-num) (o .high-num) (o .order));
+        nonneg = subst (λ v. pos 0 ≼ v) (sym rad-value) rad-nonneg;
+      }
 
-  -- the centre's sums, for any method's factors
-  abbrev middle : Way → Option ℤ
-  middle way = mids k n i j ma ra ua mb vb wb way
+-- ---- the first count cells, converted into m and r
+pub record Converted (X : Matrix) (count : ℕ) (m r : List ℕ) : Type 0 where
+  pub mids : count ≤ length m
+  pub rads : count ≤ length r
+  pub fine : AllFine X count
+  pub mid-at : (c : ℕ) → c < count → getD m c 0 ≡ midAt X c
+  pub rad-at : (c : ℕ) → c < count → getD r c 0 ≡ radAt X c
 
-  abbrev first : Option ℤ
-  first = inner k n i j ma ra ua mb vb wb
+pub converted-front : (X : Matrix) (count : ℕ) (m r m₀ r₀ : List ℕ) → AllFine X count → count ≤ length m₀ → count ≤ length r₀
+    → m ≡ front count (midAt X) m₀ → r ≡ front count (radAt X) r₀ → Converted X count m r
+converted-front X count m r m₀ r₀ fine hm hr em er =
+    record {
+      mids = rw (em, length-front (midAt X) count m₀ hm) hm;
+      rads = rw (er, length-front (radAt X) count r₀ hr) hr;
+      fine = fine;
+      mid-at = λ c h. ap (λ (l : List ℕ). getD l c 0) em ∙ getD-front (midAt X) count m₀ c h;
+      rad-at = λ c h. ap (λ (l : List ℕ). getD l c 0) er ∙ getD-front (radAt X) count r₀ c h;
+    }
 
-  three-entry : Factors three k A B a b ma ra ua mb vb wb → threeFrom k n i j ma ra ua mb vb wb ≡ patternsOf (entryOf three k n A B i j)
-  unfolding threeFrom entryOf entry centre radius₃ bind
-  three-entry F =
-      let c : middle near ≡ centre (of binary32) k x y (near binary32) = mids-are A B k n i j a b at ma ra ua mb vb wb three F near (some (pos 0)) in
-      let r : outer k n i j ma ra ua mb vb wb (raise first) ≡ radius₃ (of binary32) k x y =
-      outer-is A B k n i j a b at ma ra ua mb vb wb three F (raise first)
-      ∙ bind-assoc first (λ s. up binary32 1 (s +ℤ pos (2 ^ 24))) (λ t. total (of binary32) k x y (up binary32) (outerTerm (of binary32)) t)
-      ∙ ap (λ m. bind m λ s. outers (up binary32 1 (s +ℤ pos (2 ^ 24)))) (raised-is A B k n i j a b at ma ra ua mb vb wb F (some (pos 0))) in
-      ap₂ (λ s t. patternsOf (ends (of binary32) s t t)) r c
+module _ {X : Matrix} {count : ℕ} {m r : List ℕ} (C : Converted X count m r) where
+  ordered : (c : ℕ) → c < count → Ordered (lowerAt X c) (upperAt X c)
+  ordered c h = fine-tells (lowerAt X c) (upperAt X c) (C .fine c h)
 
-  -- three partial results, each equal to what it is
-  ends-are : {R S T R′ S′ T′ : Option ℤ} → R ≡ R′ → S ≡ S′ → T ≡ T′ → patternsOf (ends (of binary32) R S T) ≡ patternsOf (ends (of binary32) R′ S′ T′)
-  ends-are {R} {S} {T} {R′} {S′} {T′} e f g = ap₂ (λ r s. patternsOf (ends (of binary32) r s T)) e f ∙ ap (λ t. patternsOf (ends (of binary32) R′ S′ t)) g
+  pub mid-rads : MidRads count m r
+  mid-rads = record { mids = C .mids; rads = C .rads; each = λ c h. rw (C .mid-at c h, C .rad-at c h) (mid-rad X c (ordered c h)) }
 
-  four-entry : Factors four k A B a b ma ra ua mb vb wb → fourFrom k n i j ma ra ua mb vb wb ≡ patternsOf (entryOf four k n A B i j)
-  unfolding fourFrom entryOf entry centre radius₄ bind
-  four-entry F =
-      ends-are
-      (outer-is A B k n i j a b at ma ra ua mb vb wb four F first ∙ ap outers (inner-is₄ A B k n i j a b at ma ra ua mb vb wb F (some (pos 0))))
-      (mids-are A B k n i j a b at ma ra ua mb vb wb four F down (some (pos 0)))
-      (mids-are A B k n i j a b at ma ra ua mb vb wb four F up (some (pos 0)))
+  cell-is : (c : ℕ) → c < count → bare (cellAt X c) ≡ midRadAt m r c
+  cell-is c h =
+      let mid : cellAt X c .mid ≡ valueOf (getD m c 0) = sym (ap valueOf (C .mid-at c h) ∙ mid-value X c (ordered c h)) in
+      let rad : cellAt X c .rad ≡ valueOf (getD r c 0) = sym (ap valueOf (C .rad-at c h) ∙ rad-value X c (ordered c h)) in
+      ap₂ (λ x y. record { low = pos 0; high = pos 0; mid = x; rad = y }) mid rad
 
-  module _ (pa xa pb yb : List ℕ) where
-    abbrev continued : Way → Option ℤ → Option ℤ
-    continued way m = bind m λ s. total (of binary32) k x y (way binary32) (partTerm (of binary32) (way binary32)) s
+-- ---- both matrices: m rows of A, n columns of B
+module _ (m k n : ℕ) {A B : Matrix} {ma ra mb rb : List ℕ} (CA : Converted A (m * k) ma ra) (CB : Converted B (k * n) mb rb) (method : Method) (kind : ByMidRad method) where
+  row-column : (i j : ℕ) → i < m → j < n
+      → entryOf method k n A B i j ≡ entry (of binary32) method k (λ l. midRadAt ma ra (i * k + l)) (λ l. midRadAt mb rb (l * n + j))
+  unfolding entryOf
+  row-column i j hi hj =
+      entry-bare (of binary32) method k (λ l. cellAt A (i * k + l)) (λ l. cellAt B (l * n + j)) kind
+      ∙ entry-ext (of binary32) k _ _ _ _ (λ l h. cell-is CA (i * k + l) (below i m l k hi h)) (λ l h. cell-is CB (l * n + j) (below l k j n h hj)) method
 
-    abbrev shareds : Option ℤ → Option ℤ
-    shareds m = bind m λ s. total (of binary32) k x y (up binary32) (sharedTerm (of binary32)) s
+  pub entries-from : (c : ℕ) → c < m * n → entryFrom method k n ma ra mb rb c ≡ entryAt method k n A B c
+  unfolding entryFrom entryAt
+  entries-from c h = sym (row-column (c / n) (c % n) (row n h) (column n h))
+    where
+      row : (n : ℕ) → c < m * n → c / n < m
+      row zero l = let z : c < 0 = subst (λ t. c < t) (mul-zero m) l in absurd (omega arith)
+      row (suc n) l = let p : 0 < suc n = omega arith in div-lt-iff-lt-mul p .1 l
 
-    seven-entry : Factors seven k A B a b ma ra ua mb vb wb → Parts A B a b pa xa pb yb → sevenFrom k n i j ma ra ua mb vb wb pa xa pb yb ≡ patternsOf (entryOf seven k n A B i j)
-    unfolding sevenFrom entryOf entry centre centre₇ radius₄ radius₇ bind
-    seven-entry F P =
-        let r = outer-is A B k n i j a b at ma ra ua mb vb wb seven F first ∙ ap outers (inner-is₇ A B k n i j a b at ma ra ua mb vb wb F (some (pos 0))) in
-        ends-are
-        (shared-is A B k n i j a b at pa xa pb yb P (outer k n i j ma ra ua mb vb wb first) ∙ ap shareds r)
-        (parts-are A B k n i j a b at pa xa pb yb P down (middle down) ∙ ap (continued down) (mids-are A B k n i j a b at ma ra ua mb vb wb seven F down (some (pos 0))))
-        (parts-are A B k n i j a b at pa xa pb yb P up (middle up) ∙ ap (continued up) (mids-are A B k n i j a b at ma ra ua mb vb wb seven F up (some (pos 0))))
-
--- ---- by place
-pub place-is : (method m k n : ℕ) → Numbered method → (A B : Matrix) (ma ra ua mb vb wb pa xa pb yb : List ℕ) → k ≤ 32 → Factors (chosen method) k A B (m * k) (k * n) ma ra ua mb vb wb
-    → (method ≡ 7 → Parts A B (m * k) (k * n) pa xa pb yb) → (c : ℕ) → c < m * n → placeFrom k n ma ra ua mb vb wb pa xa pb yb method c ≡ entryAt (chosen method) k n A B c
-unfolding placeFrom entryFrom entryAt methodOf
-place-is method m k n is-three A B ma ra ua mb vb wb pa xa pb yb h F P c l = three-entry k n (c / n) (c % n) ma ra ua mb vb wb A B (m * k) (k * n) (place-inside m k n c h l) F
-place-is method m k n is-four A B ma ra ua mb vb wb pa xa pb yb h F P c l = four-entry k n (c / n) (c % n) ma ra ua mb vb wb A B (m * k) (k * n) (place-inside m k n c h l) F
-place-is method m k n is-seven A B ma ra ua mb vb wb pa xa pb yb h F P c l =
-    seven-entry k n (c / n) (c % n) ma ra ua mb vb wb A B (m * k) (k * n) (place-inside m k n c h l) pa xa pb yb F (P refl)
+      column : (n : ℕ) → c < m * n → c % n < n
+      column zero l = let z : c < 0 = subst (λ t. c < t) (mul-zero m) l in absurd (omega arith)
+      column (suc n) l = let p : 0 < suc n = omega arith in mod-lt c p

@@ -1,18 +1,22 @@
--- Writing the entries by rows until the first that is refused: what the two ways out of the loops leave.
-use mathlib.Core.Path.{_≡_, sym, ap, _∙_}
+-- Writing the entries by rows until the first that is refused: which entry is at a place, and what the two ways out of the loops leave.
+use mathlib.Core.Path.{_≡_, sym, ap, ap₂, _∙_}
 use mathlib.Core.Bool.{true, false}
 use mathlib.Core.List.{List}
+use mathlib.Core.Option.{Option, none, some}
 use Prim.Native.Nat.{ℕ, _+_, _*_, _/_, _%_, _≤_, _<_}
 use native.Mathlib.Nat.{mul-le-mul}
 use native.Mathlib.Omega.{arith}
 use lib.Arith.{digits-div, digits-mod, digits-lt}
 use lib.Dec.{ltb}
 use borrow.Author.Tests.{lt-ltb, le-ltb}
-use Rattle.products.specs.declared.sums.Sums.{Sums}
-use Rattle.products.specs.declared.sums.Next.{Next}
-use Rattle.products.specs.declared.sums.Next.the-variants.{More, Overflow}
+use Rattle.rounding.specs.Format.{binary32}
+use Rattle.enclosure.specs.Arithmetic.{of}
+use Rattle.enclosure.specs.Methods.{Method, Range, entry}
+use Rattle.binary32.specs.Number.{patternOf}
 use Rattle.products.specs.declared.sums.Place.the-variants.{Nowhere, At}
-use Rattle.products.specs.Entries.{refused, lowerOf, upperOf, stopOf, Written}
+use Rattle.products.specs.Matrix.{Matrix}
+use Rattle.products.specs.MidRad.{midRadAt, entryFrom}
+use Rattle.products.specs.Entries.{entryOf, entryAt, refused, lowerOf, upperOf, stopOf, Written}
 use Rattle.products.proofs.Fronts.{Filled, filled-is}
 use Rattle.products.proofs.Firsts.{first-none, first-more, first-here}
 
@@ -23,7 +27,24 @@ below i m j n h k = digits-lt h k
 pub small : (i j : ℕ) → i ≤ 32 → j ≤ 32 → i * j ≤ 1024
 small i j h k = mul-le-mul h k
 
-module _ (E : ℕ → Next) where
+-- ---- the entry at the place of row i and column j
+place-row : (i j n c : ℕ) → c ≡ i * n + j → j < n → c / n ≡ i
+place-row i j n c e h = rw (e, digits-div i h)
+
+place-column : (i j n c : ℕ) → c ≡ i * n + j → j < n → c % n ≡ j
+place-column i j n c e h = rw (e, digits-mod i h)
+
+module _ (method : Method) (k n i j c : ℕ) (e : c ≡ i * n + j) (h : j < n) where
+  pub place-entry : (A B : Matrix) → entryAt method k n A B c ≡ entryOf method k n A B i j
+  unfolding entryAt
+  place-entry A B = ap₂ (entryOf method k n A B) (place-row i j n c e h) (place-column i j n c e h)
+
+  pub place-entry-from : (ma ra mb rb : List ℕ) → entryFrom method k n ma ra mb rb c ≡ entry (of binary32) method k (λ l. midRadAt ma ra (i * k + l)) (λ l. midRadAt mb rb (l * n + j))
+  unfolding entryFrom
+  place-entry-from ma ra mb rb = ap₂ (λ r t. entry (of binary32) method k (λ l. midRadAt ma ra (r * k + l)) (λ l. midRadAt mb rb (l * n + t))) (place-row i j n c e h) (place-column i j n c e h)
+
+-- ---- any entries E by place
+module _ (E : ℕ → Option Range) where
   abbrev pub lowersOf : ℕ → ℕ
   lowersOf c = lowerOf (E c)
 
@@ -35,19 +56,19 @@ module _ (E : ℕ → Next) where
   unfolding stopOf
   stop-none = first-none (λ c. refused (E c))
 
-  pub stop-more : (c : ℕ) (s : Sums) → stopOf E c ≡ c → E c ≡ More s → stopOf E (c + 1) ≡ c + 1
+  pub stop-more : (c : ℕ) (e : Range) → stopOf E c ≡ c → E c ≡ some e → stopOf E (c + 1) ≡ c + 1
   unfolding stopOf
-  stop-more c s e g = first-more (λ c. refused (E c)) c e (ap refused g)
+  stop-more c e s g = first-more (λ c. refused (E c)) c s (ap refused g)
 
-  stop-here : (c n : ℕ) → stopOf E c ≡ c → E c ≡ Overflow → c < n → stopOf E n ≡ c
+  stop-here : (c n : ℕ) → stopOf E c ≡ c → E c ≡ none → c < n → stopOf E n ≡ c
   unfolding stopOf
   stop-here c n e g l = first-here (λ c. refused (E c)) c n e (ap refused g) l
 
-  pub lower-is : (c : ℕ) (s : Sums) → E c ≡ More s → s .lower ≡ lowersOf c
-  lower-is c s e = sym (ap lowerOf e)
+  pub lower-is : (c : ℕ) (e : Range) → E c ≡ some e → patternOf (e .lower) ≡ lowersOf c
+  lower-is c e g = sym (ap lowerOf g)
 
-  pub upper-is : (c : ℕ) (s : Sums) → E c ≡ More s → s .upper ≡ uppersOf c
-  upper-is c s e = sym (ap upperOf e)
+  pub upper-is : (c : ℕ) (e : Range) → E c ≡ some e → patternOf (e .upper) ≡ uppersOf c
+  upper-is c e g = sym (ap upperOf g)
 
   -- ---- the loops' ends
   pub written-all : (m n at : ℕ) (lo up lo′ up′ : List ℕ) → at ≡ m * n → stopOf E at ≡ at → Filled at lowersOf lo lo′ → Filled at uppersOf up up′ → Written E m n lo up Nowhere lo′ up′
@@ -56,11 +77,11 @@ module _ (E : ℕ → Next) where
       let b : ltb at (m * n) ≡ false = le-ltb at (m * n) (omega arith) in
       record { place = rw (t, b); lowers = rw t (filled-is at lowersOf lo lo′ u); uppers = rw t (filled-is at uppersOf up up′ w) }
 
-  pub written-at : (m n i j at : ℕ) (lo up lo′ up′ : List ℕ) → at ≡ i * n + j → j < n → at < m * n → stopOf E at ≡ at → E at ≡ Overflow → Filled at lowersOf lo lo′ → Filled at uppersOf up up′
+  pub written-at : (m n i j at : ℕ) (lo up lo′ up′ : List ℕ) → at ≡ i * n + j → j < n → at < m * n → stopOf E at ≡ at → E at ≡ none → Filled at lowersOf lo lo′ → Filled at uppersOf up up′
       → Written E m n lo up (At i j) lo′ up′
   written-at m n i j at lo up lo′ up′ e h l s g u w =
       let t : stopOf E (m * n) ≡ at = stop-here at (m * n) s g l in
       let b : ltb at (m * n) ≡ true = lt-ltb at (m * n) l in
-      let q : at / n ≡ i = rw (e, digits-div i h) in
-      let r : at % n ≡ j = rw (e, digits-mod i h) in
+      let q : at / n ≡ i = place-row i j n at e h in
+      let r : at % n ≡ j = place-column i j n at e h in
       record { place = rw (t, b, q, r); lowers = rw t (filled-is at lowersOf lo lo′ u); uppers = rw t (filled-is at uppersOf up up′ w) }

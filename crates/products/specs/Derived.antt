@@ -1,36 +1,41 @@
 -- What is worked out once a cell, from its midpoint m and its radius r. Definitions only.
+use mathlib.Core.List.{List}
 use mathlib.Core.Option.{Option, some, bind}
 use mathlib.Core.Path.{_≡_}
-use Prim.Native.Nat.{ℕ, _+_, _*_, _^_}
-use lib.IntN.{ℤ, pos, negℤ, _+ℤ_, _*ℤ_}
+use Prim.Native.Nat.{ℕ, _+_, _*_, _^_, _≤_, _<_}
+use lib.IntN.{ℤ, pos}
+use lib.ListN.{length, getD}
 use Rattle.algebra.specs.Order.{_≼_}
-use Rattle.algebra.specs.Absolute.{abs}
 use Rattle.rounding.specs.Format.{binary32}
-use Rattle.rounding.specs.Rounding.{up}
-use Rattle.enclosure.specs.Methods.{part}
+use Rattle.enclosure.specs.Arithmetic.{of}
+use Rattle.enclosure.specs.Methods.{part, outerRadius, raisedRadius}
 use Rattle.binary32.specs.Number.{valueOf, Finite, held}
 use Rattle.products.specs.declared.derived.Kind.{Kind}
-use Rattle.products.specs.declared.derived.Kind.the-variants.{Middle, Magnitude, Radius, Wide, Raised, Part, PartMagnitude, PartOpposed}
+use Rattle.products.specs.declared.derived.Kind.the-variants.{Outer, Raised, Part}
 
-unfoldable pub derivedOf : Kind → ℤ → ℤ → Option ℤ
--- m
-derivedOf Middle m r = some m
--- |m|
-derivedOf Magnitude m r = some (abs m)
--- r
-derivedOf Radius m r = some r
--- |m| + r, rounded up
-derivedOf Wide m r = up binary32 1 (abs m +ℤ r)
--- (c × |m|) + r, each rounded up, for the number that the pattern c holds
-derivedOf (Raised c) m r = bind (bind (held c) λ f. up binary32 (2 ^ 149) (f *ℤ abs m)) λ t. up binary32 1 (t +ℤ r)
--- p = sign(m) × min(|m|, r), |p| and -|p|
-derivedOf Part m r = some (part m r)
-derivedOf PartMagnitude m r = some (abs (part m r))
-derivedOf PartOpposed m r = some (negℤ (abs (part m r)))
+-- |m| + r
+abbrev pub outerOf : ℤ → ℤ → Option ℤ
+outerOf = outerRadius (of binary32)
+
+-- (f × |m|) + r
+abbrev pub raisedOf : ℤ → ℤ → ℤ → Option ℤ
+raisedOf = raisedRadius (of binary32)
 
 -- (k + 2) × 2^-24 in units
-unfoldable pub raisedOf : ℕ → Option ℤ
-raisedOf k = some (pos ((k + 2) * 2 ^ 125))
+abbrev pub factorOf : ℕ → ℤ
+factorOf k = pos ((k + 2) * 2 ^ 125)
+
+-- p = sign(m) × min(|m|, r)
+abbrev pub partOf : ℤ → ℤ → Option ℤ
+partOf m r = some (part m r)
+
+unfoldable pub derivedOf : Kind → ℤ → ℤ → Option ℤ
+derivedOf Outer m r = outerOf m r
+derivedOf (Raised c) m r = bind (held c) λ f. raisedOf f m r
+derivedOf Part m r = partOf m r
+
+unfoldable pub raisedFactor : ℕ → Option ℤ
+raisedFactor k = some (factorOf k)
 
 -- a midpoint and a radius, as patterns
 pub record MidRad (m r : ℕ) : Type 0 where
@@ -41,3 +46,15 @@ pub record MidRad (m r : ℕ) : Type 0 where
 -- p holds what is worked out of m and r
 pub record Derives (kind : Kind) (m r p : ℕ) : Type 0 where
   pub holds : held p ≡ derivedOf kind (valueOf m) (valueOf r)
+
+-- ---- of the first count cells
+
+pub record MidRads (count : ℕ) (m r : List ℕ) : Type 0 where
+  pub mids : count ≤ length m
+  pub rads : count ≤ length r
+  pub each : (c : ℕ) → c < count → MidRad (getD m c 0) (getD r c 0)
+
+-- each pattern of p holds what f gives of a midpoint and a radius, a number or none
+pub record Derived (f : ℤ → ℤ → Option ℤ) (count : ℕ) (m r p : List ℕ) : Type 0 where
+  pub long : count ≤ length p
+  pub each : (c : ℕ) → c < count → held (getD p c 0) ≡ f (valueOf (getD m c 0)) (valueOf (getD r c 0))

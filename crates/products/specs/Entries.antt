@@ -10,8 +10,6 @@ use Rattle.rounding.specs.Format.{binary32}
 use Rattle.enclosure.specs.Arithmetic.{of}
 use Rattle.enclosure.specs.Methods.{Method, Range, entry}
 use Rattle.binary32.specs.Number.{patternOf}
-use Rattle.products.specs.declared.sums.Next.{Next}
-use Rattle.products.specs.declared.sums.Next.the-variants.{More, Overflow}
 use Rattle.products.specs.declared.sums.Place.{Place}
 use Rattle.products.specs.declared.sums.Place.the-variants.{Nowhere, At}
 use Rattle.products.specs.Lists.{front, first}
@@ -19,41 +17,38 @@ use Rattle.products.specs.Matrix.{Matrix, AllFine, cellAt}
 
 -- ---- one entry
 
-abbrev pub patternsOf : Option Range → Next
-patternsOf (some e) = More (record { lower = patternOf (e .lower); upper = patternOf (e .upper) })
-patternsOf none = Overflow
-
 -- in row i and column j of A (k columns) times B (n columns)
 unfoldable pub entryOf : Method → (k n : ℕ) → Matrix → Matrix → (i j : ℕ) → Option Range
 entryOf method k n A B i j = entry (of binary32) method k (λ l. cellAt A (i * k + l)) (λ l. cellAt B (l * n + j))
 
 -- at place c by rows
-unfoldable pub entryAt : Method → (k n : ℕ) → Matrix → Matrix → ℕ → Next
-entryAt method k n A B c = patternsOf (entryOf method k n A B (c / n) (c % n))
+unfoldable pub entryAt : Method → (k n : ℕ) → Matrix → Matrix → ℕ → Option Range
+entryAt method k n A B c = entryOf method k n A B (c / n) (c % n)
 
 -- ---- all of them, for any entries E by place
 
-abbrev pub refused : Next → Bool
-refused (More s) = false
-refused Overflow = true
+abbrev pub refused : Option Range → Bool
+refused (some e) = false
+refused none = true
 
-abbrev pub lowerOf : Next → ℕ
-lowerOf (More s) = s .lower
-lowerOf Overflow = 0
+-- the patterns of its bounds
+abbrev pub lowerOf : Option Range → ℕ
+lowerOf (some e) = patternOf (e .lower)
+lowerOf none = 0
 
-abbrev pub upperOf : Next → ℕ
-upperOf (More s) = s .upper
-upperOf Overflow = 0
+abbrev pub upperOf : Option Range → ℕ
+upperOf (some e) = patternOf (e .upper)
+upperOf none = 0
 
 -- how many entries come before the first that is refused
-unfoldable pub stopOf : (ℕ → Next) → ℕ → ℕ
+unfoldable pub stopOf : (ℕ → Option Range) → ℕ → ℕ
 stopOf E = first (λ c. refused (E c))
 
 abbrev pub placeOf : ℕ → ℕ → ℕ → Place
 placeOf m n stop = cond (ltb stop (m * n)) (At (stop / n) (stop % n)) Nowhere
 
 -- the entries before the first that is refused are written, and the cells from there on are as they were
-pub record Written (E : ℕ → Next) (m n : ℕ) (lo up : List ℕ) (r : Place) (lo′ up′ : List ℕ) : Type 0 where
+pub record Written (E : ℕ → Option Range) (m n : ℕ) (lo up : List ℕ) (r : Place) (lo′ up′ : List ℕ) : Type 0 where
   pub place : r ≡ placeOf m n (stopOf E (m * n))
   pub lowers : lo′ ≡ front (stopOf E (m * n)) (λ c. lowerOf (E c)) lo
   pub uppers : up′ ≡ front (stopOf E (m * n)) (λ c. upperOf (E c)) up

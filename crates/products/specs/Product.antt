@@ -2,10 +2,11 @@
 use mathlib.Core.Path.{_≡_}
 use mathlib.Core.Bool.{cond}
 use mathlib.Core.List.{List}
+use mathlib.Core.Option.{Option}
 use Prim.Native.Nat.{ℕ, _*_, _/_, _%_}
 use lib.Dec.{ltb, eqb}
+use Rattle.enclosure.specs.Methods.{Range}
 use Rattle.refusals.specs.declared.Refusal.the-variants as R
-use Rattle.products.specs.declared.sums.Next.{Next}
 use Rattle.products.specs.declared.sums.Place.{Place}
 use Rattle.products.specs.declared.sums.Place.the-variants.{Nowhere, At}
 use Rattle.products.specs.declared.Outcome.{Outcome}
@@ -16,7 +17,7 @@ use Rattle.products.specs.Entries.{entryAt, stopOf, lowerOf, upperOf}
 use Rattle.products.specs.Checks.{Given, then, chosen, checkOf}
 
 -- the entries by place
-abbrev pub entries : Given → ℕ → Next
+abbrev pub entries : Given → ℕ → Option Range
 entries g = entryAt (chosen (g .method)) (g .a-columns) (g .b-columns) (g .A) (g .B)
 
 abbrev pub cells : Given → ℕ
@@ -37,7 +38,7 @@ unlessRefused Done after before = after
 unlessRefused (Refused r) after before = before
 
 -- the result's cells: the entries, or zeros after 5
-unfoldable pub resultAfter : Given → (Next → ℕ) → List ℕ → List ℕ
+unfoldable pub resultAfter : Given → (Option Range → ℕ) → List ℕ → List ℕ
 resultAfter g bound d = unlessRefused (checkOf g) (cond (ltb (stop g) (cells g)) (zeros (cells g) d) (front (cells g) (λ c. bound (entries g c)) d)) d
 
 -- the work cells: as converted, after 5 too; method 1 leaves them as they were

@@ -1,34 +1,41 @@
--- The running sums of one entry, as patterns. Definitions only (01: "One entry's running sum is a value that takes a pair of cells and comes back").
-use mathlib.Core.Bool.{cond}
-use mathlib.Core.Option.{Option, none, some}
+-- The running sums of one entry. Definitions only, for the contracts of inner functions (01: "One entry's running sum is a value that takes a pair of cells and comes back").
+use mathlib.Core.Bool.{Bool, true, cond}
+use mathlib.Core.Option.{Option, bind}
 use Prim.Native.Nat.{ℕ}
-use lib.IntN.{ℤ}
-use Rattle.rounding.specs.Rounding.{up, down}
-use Rattle.binary32.specs.Number.{finite, patternOf}
-use Rattle.binary32.specs.Operations.{mul, on₂, plusOf}
-use Rattle.binary32.specs.Order.{leastCorner, greatestCorner}
-use Rattle.binary32.specs.Word.{heldIn}
+use lib.Dec.{ltb}
+use lib.IntN.{ℤ, _+ℤ_}
+use Rattle.rounding.specs.Format.{binary32}
+use Rattle.rounding.specs.Rounding.{down, negate}
+use Rattle.products.specs.declared.number.Number.{Number}
 use Rattle.products.specs.declared.sums.Sums.{Sums}
-use Rattle.products.specs.declared.sums.Next.{Next}
-use Rattle.products.specs.declared.sums.Next.the-variants.{More, Overflow}
+use Rattle.products.specs.Number.{worth, IsNumber, Holds, Runs, zeroNumber}
+use Rattle.products.specs.Corners.{leastProduct, greatestProduct}
 
--- two sums that are numbers, or the refusal that either gives
-abbrev pub nextOf : Option ℤ → Option ℤ → Next
-nextOf (some l) (some u) = More (record { lower = patternOf l; upper = patternOf u })
-nextOf (some l) none = Overflow
-nextOf none u = Overflow
-
--- the same of patterns that hold a number or none
-unfoldable pub heldNext : ℕ → ℕ → Next
-heldNext lo hi = cond (finite lo) (cond (finite hi) (More (record { lower = lo; upper = hi })) Overflow) Overflow
-
--- the next sums of the classical method, from a pair of cells [al, au] and [bl, bu] in words
-unfoldable pub stepOf : Sums → ℕ → ℕ → ℕ → ℕ → Next
-stepOf s al au bl bu = nextOf (plusOf down (s .lower) (leastCorner (heldIn al) (heldIn au) (heldIn bl) (heldIn bu))) (plusOf up (s .upper) (greatestCorner (heldIn al) (heldIn au) (heldIn bl) (heldIn bu)))
-
--- both sums with the product a × b more, a and b in words
-unfoldable pub addOf : Sums → ℕ → ℕ → Next
-addOf s a b = nextOf (plusOf down (s .lower) (on₂ (mul down) (heldIn a) (heldIn b))) (plusOf up (s .upper) (on₂ (mul up) (heldIn a) (heldIn b)))
+-- a sum v with a term more, rounded down
+abbrev pub plusDown : ℤ → Option ℤ → Option ℤ
+plusDown v t = bind t λ u. down binary32 1 (v +ℤ u)
 
 abbrev pub zeroSums : Sums
-zeroSums = record { lower = 0; upper = 0 }
+zeroSums = record { lower = zeroNumber; opposed = zeroNumber }
+
+pub record BothNumbers (s : Sums) : Type 0 where
+  pub lower : IsNumber (s .lower)
+  pub opposed : IsNumber (s .opposed)
+
+-- r is s with the corner products of [al, au] and [bl, bu] more
+pub record Stepped (s : Sums) (al au bl bu : ℕ) (r : Sums) : Type 0 where
+  pub lower : Holds (plusDown (worth (s .lower)) (leastProduct al au bl bu)) (r .lower)
+  pub opposed : Holds (plusDown (worth (s .opposed)) (negate (greatestProduct al au bl bu))) (r .opposed)
+
+-- r is a centre less its radius and with it, the upper centre and the radius with the other sign
+pub record Ended (low high radius : Number) (r : Sums) : Type 0 where
+  pub lower : Holds (down binary32 1 (worth low +ℤ worth radius)) (r .lower)
+  pub opposed : Holds (down binary32 1 (worth high +ℤ worth radius)) (r .opposed)
+
+abbrev pub refusedSums : Sums → Bool
+refusedSums s = cond (ltb 653 (s .lower .exp)) true (ltb 653 (s .opposed .exp))
+
+-- s is the lower sum and the opposite of the upper one, both numbers
+pub record Sum (low up : Option ℤ) (s : Sums) : Type 0 where
+  pub lower : Runs low (s .lower)
+  pub upper : Runs (negate up) (s .opposed)

@@ -1,11 +1,9 @@
-// Filling the front of lent slices: converted cells, zeros, words.
+// Filling the front of lent slices: converted cells, zeros.
 ghost use mathlib.Core.Path.{_≡_};
 ghost use Prim.Native.Nat.{_≤_};
 ghost use lib.ListN.{length};
 ghost use Rattle.products.specs.Lists.{front, zeros};
 ghost use Rattle.products.specs.Matrix.{Matrix, AllFine, midAt, radAt};
-ghost use Rattle.products.specs.Classical.{WordsOf};
-use binary32::word::word;
 use intervals::Converted;
 use intervals::to_midrad;
 
@@ -38,18 +36,6 @@ pub fn clear(count: usize, out: &mut [u32])
     let mut c = 0;
     while c < count {
         out[c] = 0;
-        c += 1;
-    }
-}
-
-// The words for what the first count patterns hold.
-pub fn words(count: usize, p: &[u32], out: &mut [u64])
-    requires { ⌜ (count ≤ length (now p)) × (count ≤ length (now out)) ⌝ }
-    ensures { λ _. ⌜ WordsOf count (now (p .entry)) (now (out .exit)) ⌝ }
-{
-    let mut c = 0;
-    while c < count {
-        out[c] = word(p[c]);
         c += 1;
     }
 }

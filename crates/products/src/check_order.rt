@@ -26,23 +26,23 @@ fn check_operands(a: usize, b: usize, al: &[u32], au: &[u32], bl: &[u32], bu: &[
     first_of(check_lengths(1, a, al.len(), au.len()), second)
 }
 
+// The lengths of the lent slices: work, then the result.
+pub struct Lent {
+    pub ma: usize,
+    pub ra: usize,
+    pub mb: usize,
+    pub rb: usize,
+    pub lo: usize,
+    pub up: usize,
+}
+
 // 2: work, then the result.
-fn check_lent(
-    a: usize,
-    b: usize,
-    c: usize,
-    ma: usize,
-    ra: usize,
-    mb: usize,
-    rb: usize,
-    lo: usize,
-    up: usize,
-) -> Outcome
-    ensures { λ r. ⌜ r ≡ checkLent a b c ma ra mb rb lo up ⌝ }
+fn check_lent(a: usize, b: usize, c: usize, lent: Lent) -> Outcome
+    ensures { λ r. ⌜ r ≡ checkLent a b c (lent .ma) (lent .ra) (lent .mb) (lent .rb) (lent .lo) (lent .up) ⌝ }
 {
-    let result = check_lengths(3, c, lo, up);
-    let second = first_of(check_lengths(0, b, mb, rb), result);
-    first_of(check_lengths(0, a, ma, ra), second)
+    let result = check_lengths(3, c, lent.lo, lent.up);
+    let second = first_of(check_lengths(0, b, lent.mb, lent.rb), result);
+    first_of(check_lengths(0, a, lent.ma, lent.ra), second)
 }
 
 // 3 and 4: A's cells, then B's.
@@ -65,7 +65,7 @@ fn check_both(
     }
 }
 
-// All of them, in 01's order; ma, ra, mb, rb, lo and up are the lengths of the lent slices.
+// All of them, in 01's order.
 pub fn check_all(
     method: u32,
     a_rows: usize,
@@ -76,14 +76,9 @@ pub fn check_all(
     au: &[u32],
     bl: &[u32],
     bu: &[u32],
-    ma: usize,
-    ra: usize,
-    mb: usize,
-    rb: usize,
-    lo: usize,
-    up: usize,
+    lent: Lent,
 ) -> Outcome
-    ensures { λ r. ⌜ r ≡ checkOf (given method «a_rows» «a_columns» «b_rows» «b_columns» (now (al .entry)) (now (au .entry)) (now (bl .entry)) (now (bu .entry)) ma ra mb rb lo up) ⌝ }
+    ensures { λ r. ⌜ r ≡ checkOf (given method «a_rows» «a_columns» «b_rows» «b_columns» (now (al .entry)) (now (au .entry)) (now (bl .entry)) (now (bu .entry)) (lent .ma) (lent .ra) (lent .mb) (lent .rb) (lent .lo) (lent .up)) ⌝ }
 {
     let sizes = check_sizes(a_rows, a_columns, b_rows, b_columns);
     match first_of(check_method(method), sizes) {
@@ -94,8 +89,8 @@ pub fn check_all(
     }
     let a = a_rows * a_columns;
     let b = b_rows * b_columns;
-    let lent = check_lent(a, b, a_rows * b_columns, ma, ra, mb, rb, lo, up);
-    match first_of(check_operands(a, b, al, au, bl, bu), lent) {
+    let rest = check_lent(a, b, a_rows * b_columns, lent);
+    match first_of(check_operands(a, b, al, au, bl, bu), rest) {
         Outcome::Done => check_both(a_rows, a_columns, b_rows, b_columns, al, au, bl, bu),
         Outcome::Refused(r) => Outcome::Refused(r),
     }

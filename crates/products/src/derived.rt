@@ -1,28 +1,21 @@
 // What is worked out once a cell, from its midpoint m and its radius r, so that no entry works it out again.
 ghost use mathlib.Core.Path.{_≡_};
-ghost use Prim.Native.Nat.{ℕ, _≤_, _<_};
-ghost use lib.ListN.{length, getD};
+ghost use Prim.Native.Nat.{_≤_};
+ghost use lib.ListN.{length};
 ghost use Rattle.binary32.specs.Number.{held};
 ghost use Rattle.products.specs.declared.derived.Kind.the-variants.{Part};
-ghost use Rattle.products.specs.Converted.{DerivesAll};
-ghost use Rattle.products.specs.Derived.{MidRad, Derives, raisedOf};
+ghost use Rattle.products.specs.Derived.{MidRad, MidRads, Derives, Derived, derivedOf, raisedFactor};
 use binary32::order::least;
 use binary32::order::magnitude;
 use binary32::order::negate;
 use binary32::partial::add_up;
 use binary32::partial::mul_up;
-use binary32::word::word;
 
-// m; |m|; r; |m| + r; (c × |m|) + r; p = sign(m) × min(|m|, r); |p|; -|p|
+// |m| + r; (c × |m|) + r; p = sign(m) × min(|m|, r)
 pub enum Kind {
-    Middle,
-    Magnitude,
-    Radius,
-    Wide,
+    Outer,
     Raised(u32),
     Part,
-    PartMagnitude,
-    PartOpposed,
 }
 
 // (k + 2) × 2^-24 for k from 0 to 32, one exact number each.
@@ -65,7 +58,7 @@ const RAISED: [u32; 33] = [
 // Method 3's factor (k + 2) × 2^-24.
 pub fn raised(k: usize) -> u32
     requires { ⌜ k ≤ 32 ⌝ }
-    ensures { λ r. ⌜ held r ≡ raisedOf k ⌝ }
+    ensures { λ r. ⌜ held r ≡ raisedFactor k ⌝ }
 {
     RAISED[k]
 }
@@ -87,25 +80,20 @@ pub fn derive(kind: Kind, m: u32, r: u32) -> u32
     ensures { λ p. ⌜ Derives kind m r p ⌝ }
 {
     match kind {
-        Kind::Middle => m,
-        Kind::Magnitude => magnitude(m),
-        Kind::Radius => r,
-        Kind::Wide => add_up(magnitude(m), r),
+        Kind::Outer => add_up(magnitude(m), r),
         Kind::Raised(c) => add_up(mul_up(c, magnitude(m)), r),
         Kind::Part => part_of(m, r),
-        Kind::PartMagnitude => magnitude(part_of(m, r)),
-        Kind::PartOpposed => negate(magnitude(part_of(m, r))),
     }
 }
 
-// Each of the first count cells, in words.
-pub fn derive_all(kind: Kind, count: usize, m: &[u32], r: &[u32], out: &mut [u64])
-    requires { ⌜ (count ≤ length (now m)) × (count ≤ length (now r)) × (count ≤ length (now out)) × ((c : ℕ) → c < count → MidRad (getD (now m) c 0) (getD (now r) c 0)) ⌝ }
-    ensures { λ _. ⌜ DerivesAll kind count (now (m .entry)) (now (r .entry)) (now (out .exit)) ⌝ }
+// Of each of the first count cells.
+pub fn derive_all(kind: Kind, count: usize, m: &[u32], r: &[u32], out: &mut [u32])
+    requires { ⌜ MidRads count (now m) (now r) × (count ≤ length (now out)) ⌝ }
+    ensures { λ _. ⌜ Derived (derivedOf kind) count (now (m .entry)) (now (r .entry)) (now (out .exit)) ⌝ }
 {
     let mut c = 0;
     while c < count {
-        out[c] = word(derive(kind, m[c], r[c]));
+        out[c] = derive(kind, m[c], r[c]);
         c += 1;
     }
 }

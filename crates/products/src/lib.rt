@@ -5,20 +5,30 @@ ghost use Rattle.products.specs.Checks.{given};
 ghost use Rattle.products.specs.Product.{Finished, Left};
 ghost use Rattle.products.specs.Demand.{Keeps};
 use cells::clear;
+use cells::convert;
+use check_order::Lent;
 use check_order::check_all;
 use refusals::Refusal;
 use sums::Place;
 
 mod cells;
+mod centred;
 mod check_order;
 mod checks;
 mod classical;
 mod converted;
+mod corners;
 mod derived;
-mod factored;
-mod midrad;
-mod stages;
-pub mod sums;
+mod four;
+mod nearest;
+mod number;
+mod pattern;
+mod plus;
+mod seven;
+mod shifts;
+mod sums;
+mod three;
+mod times;
 
 // Done, or the first refusal whose condition holds.
 pub enum Outcome {
@@ -62,6 +72,14 @@ pub fn product(
     ensures { λ r. ⌜ Left (given method «a_rows» «a_columns» «b_rows» «b_columns» (now (al .entry)) (now (au .entry)) (now (bl .entry)) (now (bu .entry)) (length (now (ma .entry))) (length (now (ra .entry))) (length (now (mb .entry))) (length (now (rb .entry))) (length (now (lo .entry))) (length (now (up .entry)))) (now (ma .entry)) (now (ra .entry)) (now (mb .entry)) (now (rb .entry)) (now (lo .entry)) (now (up .entry)) r (now (ma .exit)) (now (ra .exit)) (now (mb .exit)) (now (rb .exit)) (now (lo .exit)) (now (up .exit)) ⌝ }
     ensures { λ r. ⌜ Keeps (given method «a_rows» «a_columns» «b_rows» «b_columns» (now (al .entry)) (now (au .entry)) (now (bl .entry)) (now (bu .entry)) (length (now (ma .entry))) (length (now (ra .entry))) (length (now (mb .entry))) (length (now (rb .entry))) (length (now (lo .entry))) (length (now (up .entry)))) r (now (lo .exit)) (now (up .exit)) ⌝ }
 {
+    let lent = Lent {
+        ma: ma.len(),
+        ra: ra.len(),
+        mb: mb.len(),
+        rb: rb.len(),
+        lo: lo.len(),
+        up: up.len(),
+    };
     match check_all(
         method,
         a_rows,
@@ -72,12 +90,7 @@ pub fn product(
         au,
         bl,
         bu,
-        ma.len(),
-        ra.len(),
-        mb.len(),
-        rb.len(),
-        lo.len(),
-        up.len(),
+        lent,
     ) {
         Outcome::Done => {
             let count = a_rows * b_columns;
@@ -89,16 +102,14 @@ pub fn product(
                     up,
                 )
             } else {
+                convert(a_rows * a_columns, al, au, ma, ra);
+                convert(b_rows * b_columns, bl, bu, mb, rb);
                 finish(
-                    converted::multiply(
+                    converted::entries(
                         method,
                         a_rows,
                         a_columns,
                         b_columns,
-                        al,
-                        au,
-                        bl,
-                        bu,
                         ma,
                         ra,
                         mb,

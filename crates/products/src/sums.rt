@@ -1,20 +1,27 @@
 // One entry's running sums, a value that takes a pair of cells and comes back.
 ghost use mathlib.Core.Path.{_≡_};
-ghost use Rattle.products.specs.Running.{heldNext, zeroSums, stepOf, addOf};
-use binary32::accumulate::add_corners;
-use binary32::accumulate::add_product_both;
-use intervals::is_finite;
+ghost use lib.IntN.{negℤ};
+ghost use Rattle.binary32.specs.Number.{patternOf};
+ghost use Rattle.products.specs.Number.{worth, IsNumber};
+ghost use Rattle.products.specs.Corners.{Cells};
+ghost use Rattle.products.specs.Running.{BothNumbers, Stepped, Ended, refusedSums, zeroSums};
+use crate::corners::corner_of;
+use crate::corners::greater;
+use crate::corners::greatest_corner;
+use crate::corners::least_corner;
+use crate::corners::lesser;
+use crate::number::Number;
+use crate::number::is_none;
+use crate::number::opposite;
+use crate::number::zero;
+use crate::pattern::pack;
+use crate::pattern::unpack;
+use crate::plus::plus_down;
 
-// The lower sum, rounded down, and the upper one, rounded up.
+// The lower sum, and the opposite of the upper one: rounding up is rounding down with the other sign, so that both are rounded down. Each is a number or none.
 pub struct Sums {
-    pub lower: u32,
-    pub upper: u32,
-}
-
-// The next sums, or that a step was refused.
-pub enum Next {
-    More(Sums),
-    Overflow,
+    pub lower: Number,
+    pub opposed: Number,
 }
 
 // The first entry by rows that is refused, if there is one.
@@ -23,41 +30,71 @@ pub enum Place {
     At(usize, usize),
 }
 
-pub fn both_held(lo: u32, hi: u32) -> Next
-    ensures { λ r. ⌜ r ≡ heldNext lo hi ⌝ }
-{
-    if !is_finite(lo) {
-        return Next::Overflow;
-    }
-    if !is_finite(hi) {
-        return Next::Overflow;
-    }
-    Next::More(Sums {
-        lower: lo,
-        upper: hi,
-    })
-}
-
 impl Sums {
     pub fn new() -> Self
         ensures { λ r. ⌜ r ≡ zeroSums ⌝ }
     {
-        Sums { lower: 0, upper: 0 }
+        Sums {
+            lower: zero(),
+            opposed: zero(),
+        }
     }
 
-    // The classical step, of cells in words: the lower sum and the least of the four corner products, each rounded down; the upper sum and the greatest, each rounded up.
-    pub fn step(self, al: u64, au: u64, bl: u64, bu: u64) -> Next
-        ensures { λ r. ⌜ r ≡ stepOf self al au bl bu ⌝ }
+    // The classical step: the lower sum and the least of the four corner products of [al, au] and [bl, bu], each rounded down; the upper sum and the greatest, each rounded up.
+    pub fn step(self, al: u32, au: u32, bl: u32, bu: u32) -> Sums
+        requires { ⌜ BothNumbers self × Cells al au bl bu ⌝ }
+        ensures { λ r. ⌜ Stepped self al au bl bu r ⌝ }
     {
-        let s = add_corners(self.lower, self.upper, al, au, bl, bu);
-        both_held(s.down, s.up)
+        let w = unpack(al);
+        let x = unpack(au);
+        let y = unpack(bl);
+        let z = unpack(bu);
+        let p = corner_of(w, y);
+        let q = corner_of(w, z);
+        let r = corner_of(x, y);
+        let t = corner_of(x, z);
+        let low = lesser(lesser(p, q), lesser(r, t)).product;
+        let high = greater(greater(p, q), greater(r, t)).product;
+        Sums {
+            lower: plus_down(self.lower, least_corner(low, al, au, bl, bu)),
+            opposed: plus_down(self.opposed, greatest_corner(high, al, au, bl, bu)),
+        }
     }
 
-    // Both sums and the product a × b, a and b in words.
-    pub fn add(self, a: u64, b: u64) -> Next
-        ensures { λ r. ⌜ r ≡ addOf self a b ⌝ }
+    // Whether a sum is none.
+    pub fn refused(self) -> bool
+        ensures { λ r. ⌜ r ≡ refusedSums self ⌝ }
     {
-        let s = add_product_both(self.lower, self.upper, a, b);
-        both_held(s.down, s.up)
+        if is_none(self.lower) {
+            return true;
+        }
+        is_none(self.opposed)
+    }
+
+    // The pattern of the lower sum.
+    pub fn lower(self) -> u32
+        requires { ⌜ BothNumbers self ⌝ }
+        ensures { λ r. ⌜ r ≡ patternOf (worth (self .lower)) ⌝ }
+    {
+        pack(self.lower)
+    }
+
+    // The pattern of the upper sum.
+    pub fn upper(self) -> u32
+        requires { ⌜ BothNumbers self ⌝ }
+        ensures { λ r. ⌜ r ≡ patternOf (negℤ (worth (self .opposed))) ⌝ }
+    {
+        pack(opposite(self.opposed))
+    }
+}
+
+// Centre less radius down, centre and radius up, of a lower centre and of the opposites of the upper centre and of the radius.
+pub fn ends(lower: Number, opposed: Number, radius: Number) -> Sums
+    requires { ⌜ IsNumber lower × IsNumber opposed × IsNumber radius ⌝ }
+    ensures { λ r. ⌜ Ended lower opposed radius r ⌝ }
+{
+    Sums {
+        lower: plus_down(lower, radius),
+        opposed: plus_down(opposed, radius),
     }
 }

@@ -1,12 +1,12 @@
 -- `products::product` meets its contract: what the checks accept fits what the entries' functions ask for, and each way out is a case of `Left`.
-use mathlib.Core.Path.{_≡_, sym, _∙_}
+use mathlib.Core.Path.{_≡_, refl, sym, _∙_}
 use native.Mathlib.Omega.{arith}
 use borrow.Author.Needs.{needs}
 use lib.ListN.{length}
 use Rattle.products.specs.declared.Outcome.the-variants.{Done}
 use Rattle.products.specs.Entries.{Sizes}
 use Rattle.products.specs.Checks.{Given, given, checkOf}
-use Rattle.products.proofs.Accepted.{sizes, ready}
+use Rattle.products.proofs.Accepted.{inner, sizes, a-convertible, b-convertible, a-converted, b-converted, chosen-by-mid-rad, ready}
 use Rattle.products.proofs.Keeping.{left-keeps}
 use Rattle.products.proofs.Leaving.{left-refused, left-classical, left-converted}
 use Rattle.products.proofs.Writing.{small}
@@ -52,18 +52,44 @@ finish-requires c κs =
     let z = c .before .before .before .before .before .before .before .before .before .before in
     (omega (arith, fit z .lowers), omega (arith, fit z .uppers))
 
-multiply-requires : tie.Need-multiply-requires
-multiply-requires c κs =
-    let y = c .before .before .before .before .before .before in
+mul-convert : tie.Need-mul-convert
+mul-convert c =
+    let z = c .before in
+    let g = G (start (z .before .before)) in
+    omega (arith, small (g .a-rows) (g .a-columns) (fit z .rows) (fit z .inner))
+
+convert-requires : tie.Need-convert-requires
+convert-requires c κs =
+    let z = c .before .before .before in
+    a-convertible (G (start (z .before .before))) (accepted z)
+
+mul-convert-2 : tie.Need-mul-convert-2
+mul-convert-2 c =
+    let z = c .before .before .before .before .before .before .before .before in
+    let g = G (start (z .before .before)) in
+    omega (arith, small (g .a-columns) (g .b-columns) (fit z .inner) (fit z .columns), inner g (accepted z))
+
+convert-requires-2 : tie.Need-convert-requires-2
+convert-requires-2 c κs =
+    let z = c .before .before .before .before .before .before .before .before .before .before in
+    b-convertible (G (start (z .before .before))) (accepted z)
+
+entries-requires-2 : tie.Need-entries-requires-2
+entries-requires-2 c κs =
+    let v = c .before .before .before .before .before .before .before .before .before .before in
+    let u = v .before .before .before .before .before .before .before in
+    let y = u .before .before .before in
     let z = y .before in
-    let g = start (z .before .before) .args in
-    ready (g .method) (g .a-rows) (g .a-columns) (g .b-rows) (g .b-columns) (g .al .now) (g .au .now) (g .bl .now) (g .bu .now)
-    (g .ma .now) (g .ra .now) (g .mb .now) (g .rb .now) (g .lo .now) (g .up .now) (accepted z) (y .if1 .left)
+    let s = start (z .before .before) in
+    let g = s .args in
+    ready (G s) (accepted z) (y .if1 .left) _ _ _ _
+    (a-converted (G s) (accepted z) (g .ma .now) (g .ra .now) _ _ refl refl (u .convert .ensures .0) (u .convert .ensures .1))
+    (b-converted (G s) (accepted z) (g .mb .now) (g .rb .now) _ _ refl refl (v .convert2 .ensures .0) (v .convert2 .ensures .1))
 
 finish-requires-2 : tie.Need-finish-requires-2
 finish-requires-2 c κs =
-    let w = c .before .before .before .before .before .before .before .before .before .before .before .before .before .before in
-    let z = w .before .before .before .before .before .before .before .before in
+    let w = c .before .before .before .before .before .before .before .before .before .before .before .before .before .before .before .before .before in
+    let z = w .before .before .before .before .before .before .before .before .before .before .before in
     (omega (arith, fit z .lowers), omega (arith, fit z .uppers))
 
 enum-known-r : tie.Need-enum-known-r
@@ -108,14 +134,20 @@ same-length-8 c = search needs
 returns-2 : tie.Need-returns-2
 returns-2 c =
     let f = c .before .before .before .before in
-    let w = f .before .before .before .before .before .before .before .before .before .before .before .before .before .before .before in
-    let y = w .before .before .before .before .before .before .before in
+    let w = f .before .before .before .before .before .before .before in
+    let v = w .before .before .before .before .before .before .before .before .before .before .before in
+    let u = v .before .before .before .before .before .before .before in
+    let y = u .before .before .before in
     let z = y .before in
     let s = start (z .before .before) in
     let g = s .args in
     left-keeps
-    (left-converted (G s) (accepted z) (g .ma .now) (g .ra .now) (g .mb .now) (g .rb .now) (g .lo .now) (g .up .now)
-    (w .multiply .result) _ _ _ _ _ _ (f .finish2 .result) _ _ (y .if1 .left) (w .multiply .ensures) (f .finish2 .ensures))
+    (left-converted (G s) (accepted z) _ _ _ _
+    (a-converted (G s) (accepted z) (g .ma .now) (g .ra .now) _ _ refl refl (u .convert .ensures .0) (u .convert .ensures .1))
+    (b-converted (G s) (accepted z) (g .mb .now) (g .rb .now) _ _ refl refl (v .convert2 .ensures .0) (v .convert2 .ensures .1))
+    (g .ma .now) (g .ra .now) (g .mb .now) (g .rb .now) (g .lo .now) (g .up .now)
+    (w .entries2 .result) _ _ (f .finish2 .result) _ _ (y .if1 .left) (chosen-by-mid-rad (G s) (accepted z) (y .if1 .left))
+    (u .convert .ensures .0) (u .convert .ensures .1) (v .convert2 .ensures .0) (v .convert2 .ensures .1) (w .entries2 .ensures) (f .finish2 .ensures))
 
 returns-3 : tie.Need-returns-3
 returns-3 c =
@@ -134,7 +166,11 @@ product-spec =
     mul-count
     entries-requires
     finish-requires
-    multiply-requires
+    mul-convert
+    convert-requires
+    mul-convert-2
+    convert-requires-2
+    entries-requires-2
     finish-requires-2
     enum-known-r
     same-length

@@ -7,7 +7,6 @@ use Rattle.binary32.specs.Number.{finites}
 use Rattle.binary32.specs.Operations.{mul}
 use Rattle.binary32.proofs.Held.{finite-is, finites-first, finites-second}
 use Rattle.binary32.proofs.Exacts.{rounds-some, rounds-none, held-decoded, held-either}
-use Rattle.binary32.proofs.Products.{bounded}
 use Rattle.binary32.specs.Number.{held}
 use Rattle.binary32.specs.Operations.{with₂}
 use borrow.Author.Needs.{needs}
@@ -32,7 +31,7 @@ decode-requires-2 c κs =
     finite-is (s .b) (finites-second (s .a) (s .b) (told (c .before)))
 
 times-requires : tie.Need-times-requires
-times-requires c κs = record { first = bounded (c .before .decode .ensures .short); second = bounded (c .decode2 .ensures .short) }
+times-requires c κs = record { first = c .before .decode .ensures .short; second = c .decode2 .ensures .short }
 
 returns : tie.Need-returns
 unfolding with₂
@@ -42,7 +41,7 @@ returns c =
     let s = t .before .before .args in
     rounds-some (2 ^ 149) _*ℤ_ (held (s .a)) (held (s .b)) (d .before .decode .result) (d .decode2 .result)
     (held-decoded (s .a) (finites-first (s .a) (s .b) (told t)) (d .before .decode .ensures)) (held-decoded (s .b) (finites-second (s .a) (s .b) (told t)) (d .decode2 .ensures))
-    (c .times .ensures .same)
+    (c .times .ensures)
 
 returns-2 : tie.Need-returns-2
 unfolding with₂

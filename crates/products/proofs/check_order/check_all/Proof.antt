@@ -14,7 +14,7 @@ abbrev G : tie.After-first-of → Given
 G c =
     let g = c .before .before .before .before .before .before .before .args in
     given (g .method) (g .a-rows) (g .a-columns) (g .b-rows) (g .b-columns) (g .al .now) (g .au .now) (g .bl .now) (g .bu .now)
-    (g .ma) (g .ra) (g .mb) (g .rb) (g .lo) (g .up)
+    (g .lent .ma) (g .lent .ra) (g .lent .mb) (g .lent .rb) (g .lent .lo) (g .lent .up)
 
 -- 9 and 1, and what they tell
 shapes : (c : tie.After-first-of) → c .first-of .result ≡ checkShapes (G c)

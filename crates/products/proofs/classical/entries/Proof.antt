@@ -1,162 +1,199 @@
--- `products::classical::entries` meets its contract: the words hold what the bounds hold, so the entries from them are the method's (`entry-words`).
-use mathlib.Core.Path.{_≡_}
-use mathlib.Core.List.{List}
-use Prim.Native.Nat.{ℕ, _*_, _≤_}
+-- `products::classical::entries` meets its contract. The innermost loop keeps the entry's sums so far, the outer ones the entries written and
+-- that none of them was refused. A refused step leaves all loops with the place of its entry.
+mod Loops
+mod Indices
+use mathlib.Core.Path.{_≡_, refl, sym, ap, _∙_, subst}
+use mathlib.Core.Logic.{⊎-elim}
+use Prim.Native.Nat.{ℕ, _+_, _*_}
+use native.Mathlib.Nat.{suc-mul, zero-mul}
+use native.Mathlib.Numerals.{add-one}
 use native.Mathlib.Omega.{arith}
-use lib.ListN.{length}
 use borrow.Author.Needs.{needs}
 use Rattle.enclosure.specs.Methods.{classical}
-use Rattle.products.specs.Matrix.{Matrix}
-use Rattle.products.specs.Entries.{entryAt}
-use Rattle.products.proofs.ClassicalWords.{entry-words}
-use Rattle.products.proofs.Writing.{small}
-use Rattle.products.proofs.WrittenExt.{written-ext}
+use Rattle.products.proofs.Fronts.{filled-none, filled-more, filled-from}
+use Rattle.products.proofs.Writing.{place-entry, stop-none, stop-more, lower-is, upper-is, written-all, written-at}
+use Rattle.products.proofs.CornerTerms.{zero-first, zero-second}
+use Rattle.products.proofs.Pairs.{zero-cell}
+use Rattle.products.proofs.ClassicalSums.{both-numbers, sum-start, sum-step, sum-skip, entry-refused}
 use Rattle.products.proofs.classical.entries.Statement.{statement}
 use Rattle.products.proofs.classical.entries.Tie as tie
+use Rattle.products.proofs.classical.entries.Proof.Loops.{Inv-loop2, μ-loop2, Inv-loop, μ-loop, Inv-search, μ-search, In2, In1, Next, Head, M, K, N, A, B, E, pair-low, places, cells, place-out, whole-entry}
+use Rattle.products.proofs.classical.entries.Proof.Indices.{mul-a, add-a, mul-w, shared-slice-read-w, mul-x, shared-slice-read-x, mul-b, mul-y, shared-slice-read-y, mul-z, shared-slice-read-z, mul-lo}
+use Rattle.products.proofs.classical.entries.Proof.Indices.{slice-write-lo, mul-up, slice-write-up}
 
--- ---- what was handed in
-abbrev start : tie.After-slice-known2 → tie.Start
-start c = c .before .before .before .before .before .before
+search-holds : tie.Need-search-holds Inv-loop2 μ-loop2 Inv-loop μ-loop Inv-search μ-search
+search-holds c = (omega arith, sym (zero-mul _), refl, stop-none _, filled-none _ _, filled-none _ _)
 
-module _ (c : tie.After-slice-known2) where
-  abbrev A : Matrix
-  A = record { lowers = start c .args .al .now; uppers = start c .args .au .now }
+loop-holds : tie.Need-loop-holds Inv-loop2 μ-loop2 Inv-loop μ-loop Inv-search μ-search
+loop-holds c =
+    let inv = c .before .search .inv in
+    (omega arith, omega arith, inv .2, inv .3, record { long = refl; head = inv .4 .head; rest = refl }, record { long = refl; head = inv .5 .head; rest = refl })
 
-  abbrev B : Matrix
-  B = record { lowers = start c .args .bl .now; uppers = start c .args .bu .now }
+new-requires : tie.Need-new-requires Inv-loop2 μ-loop2 Inv-loop μ-loop Inv-search μ-search
+new-requires c κs = search needs
 
-  a-small : start c .args .m * start c .args .k ≤ 1024
-  a-small = small (start c .args .m) (start c .args .k) (start c .pre .rows) (start c .pre .inner)
+loop2-holds : tie.Need-loop2-holds Inv-loop2 μ-loop2 Inv-loop μ-loop Inv-search μ-search
+loop2-holds c = (omega arith, c .before .before .loop .inv .2, sum-start _ _ _ _ _ _ (c .new .result) (c .new .ensures))
 
-  b-small : start c .args .k * start c .args .n ≤ 1024
-  b-small = small (start c .args .k) (start c .args .n) (start c .pre .inner) (start c .pre .columns)
+is-nonzero-requires : tie.Need-is-nonzero-requires Inv-loop2 μ-loop2 Inv-loop μ-loop Inv-search μ-search
+is-nonzero-requires c κs = search needs
 
--- ---- after each call, back to there
-abbrev one : tie.After-a-lowers2 → tie.After-slice-known2
-one c = c .before .before .before
+add-b : tie.Need-add-b Inv-loop2 μ-loop2 Inv-loop μ-loop Inv-search μ-search
+add-b c = omega (arith, places (c .before .before .before .before))
 
-abbrev two : tie.After-a-uppers2 → tie.After-slice-known2
-two c = one (c .before .before .before)
+is-nonzero-requires-2 : tie.Need-is-nonzero-requires-2 Inv-loop2 μ-loop2 Inv-loop μ-loop Inv-search μ-search
+is-nonzero-requires-2 c κs = search needs
 
-abbrev three : tie.After-b-lowers2 → tie.After-slice-known2
-three c = two (c .before .before .before)
+step-requires : tie.Need-step-requires Inv-loop2 μ-loop2 Inv-loop μ-loop Inv-search μ-search
+step-requires c κs =
+    let t : In2 = c .before .before .before .before .before .before .before .before in
+    (both-numbers (t .before .loop2 .s) (t .before .loop2 .inv .2), cells t)
 
-abbrev four : tie.After-b-uppers2 → tie.After-slice-known2
-four c = three (c .before .before .before)
+refused-requires : tie.Need-refused-requires Inv-loop2 μ-loop2 Inv-loop μ-loop Inv-search μ-search
+refused-requires c κs = search needs
 
-mul-words : tie.Need-mul-words
-mul-words c = search needs
+add-l : tie.Need-add-l Inv-loop2 μ-loop2 Inv-loop μ-loop Inv-search μ-search
+add-l c = omega (arith, pair-low (c .before .before .before .before))
 
-slice-aggregate-words : tie.Need-slice-aggregate-words
-slice-aggregate-words c = search needs
+loop2-less : tie.Need-loop2-less Inv-loop2 μ-loop2 Inv-loop μ-loop Inv-search μ-search
+loop2-less c = omega (arith, (c .before .before .before .before) .loop2-test .taken)
 
-words-requires : tie.Need-words-requires
-words-requires c κs = (start (c .before) .pre .a-lowers, a-small (c .before))
+-- by a step, by a cell of B that is [0, 0], or by one of A
+next : (c : tie.Joined1 Inv-loop2 μ-loop2 Inv-loop μ-loop Inv-search μ-search) → Next (c .before .before .before .before) (c .if1 .s)
+next c =
+    let t : In2 = c .before .before .before .before in
+    let h = t .before .loop2 in
+    ⊎-elim {C = Next t (c .if1 .s)}
+    (λ w. subst (Next t) (sym (w .8)) (sum-step _ _ _ _ _ _ (h .l) (h .s) (h .inv .2) _ _ _ _ (cells t) refl refl refl refl _ (w .5 .ensures) (sym (w .6 .ensures) ∙ w .7 .left)))
+    (⊎-elim {C = Next t (c .if1 .s)}
+    (λ w. subst (Next t) (sym (w .5)) (sum-skip _ _ _ _ _ _ (h .l) (h .s) (h .inv .2) _ _ _ _ (cells t) refl refl refl refl (let z = zero-cell _ _ (sym (w .3 .ensures) ∙ w .4 .left) in zero-second _ _ _ _ (cells t) (z .0) (z .1))))
+    (λ w. subst (Next t) (sym (w .1)) (sum-skip _ _ _ _ _ _ (h .l) (h .s) (h .inv .2) _ _ _ _ (cells t) refl refl refl refl (let z = zero-cell _ _ (sym (c .before .is-nonzero .ensures) ∙ w .0 .left) in zero-first _ _ _ _ (cells t) (z .0) (z .1)))))
+    (c .if1 .came)
 
-mul-words-2 : tie.Need-mul-words-2
-mul-words-2 c = search needs
+loop2-again : tie.Need-loop2-again Inv-loop2 μ-loop2 Inv-loop μ-loop Inv-search μ-search
+loop2-again c = (omega (arith, (c .before .before .before .before) .loop2-test .taken), (c .before .before .before .before) .before .loop2 .inv .1, next c)
 
-slice-aggregate-words-2 : tie.Need-slice-aggregate-words-2
-slice-aggregate-words-2 c = search needs
+lower-requires : tie.Need-lower-requires Inv-loop2 μ-loop2 Inv-loop μ-loop Inv-search μ-search
+lower-requires c κs = both-numbers (c .before .loop2 .s) (c .before .loop2 .inv .2)
 
-words-requires-2 : tie.Need-words-requires-2
-words-requires-2 c κs = let h = one (c .before) in (start h .pre .a-uppers, a-small h)
+upper-requires : tie.Need-upper-requires Inv-loop2 μ-loop2 Inv-loop μ-loop Inv-search μ-search
+upper-requires c κs = both-numbers (c .before .before .loop2 .s) (c .before .before .loop2 .inv .2)
 
-mul-words-3 : tie.Need-mul-words-3
-mul-words-3 c = search needs
+add-at : tie.Need-add-at Inv-loop2 μ-loop2 Inv-loop μ-loop Inv-search μ-search
+add-at c = omega (arith, place-out (c .before .before .before .before .before))
 
-slice-aggregate-words-3 : tie.Need-slice-aggregate-words-3
-slice-aggregate-words-3 c = search needs
+add-j : tie.Need-add-j Inv-loop2 μ-loop2 Inv-loop μ-loop Inv-search μ-search
+add-j c = omega arith
 
-words-requires-3 : tie.Need-words-requires-3
-words-requires-3 c κs = let h = two (c .before) in (start h .pre .b-lowers, b-small h)
+loop-less : tie.Need-loop-less Inv-loop2 μ-loop2 Inv-loop μ-loop Inv-search μ-search
+loop-less c = omega arith
 
-mul-words-4 : tie.Need-mul-words-4
-mul-words-4 c = search needs
+loop-again : tie.Need-loop-again Inv-loop2 μ-loop2 Inv-loop μ-loop Inv-search μ-search
+loop-again c =
+    let h = c .before .before .before .before .before .before .loop in
+    let s : Head = c .before .before .before .before .before .before .before .before in
+    let o = place-out (c .before .before .before .before .before) in
+    let e = whole-entry (c .before .before) in (
+      omega arith,
+      omega arith,
+      c .before .before .before .loop2 .inv .1,
+      stop-more (E s) (h .at) _ (h .inv .3) e,
+      filled-more _ _ _ _ _ (omega arith) (c .before .lower .ensures ∙ lower-is (E s) (h .at) _ e) (h .inv .4),
+      filled-more _ _ _ _ _ (omega arith) (c .upper .ensures ∙ upper-is (E s) (h .at) _ e) (h .inv .5),
+    )
 
-slice-aggregate-words-4 : tie.Need-slice-aggregate-words-4
-slice-aggregate-words-4 c = search needs
+add-i : tie.Need-add-i Inv-loop2 μ-loop2 Inv-loop μ-loop Inv-search μ-search
+add-i c = omega arith
 
-words-requires-4 : tie.Need-words-requires-4
-words-requires-4 c κs = let h = three (c .before) in (start h .pre .b-uppers, b-small h)
+search-less : tie.Need-search-less Inv-loop2 μ-loop2 Inv-loop μ-loop Inv-search μ-search
+search-less c = omega arith
 
-slice-aggregate-walk : tie.Need-slice-aggregate-walk
-slice-aggregate-walk c = search needs
+search-again : tie.Need-search-again Inv-loop2 μ-loop2 Inv-loop μ-loop Inv-search μ-search
+search-again c =
+    let s : Head = c .before .before .before in
+    let next : (s .search .i + 1) * N s ≡ s .search .i * N s + N s = rw add-one (suc-mul (s .search .i) (N s)) in
+    let h = c .before .loop .inv in
+    (omega arith, omega arith, h .2, h .3, filled-from (s .search .at) _ _ _ _ _ (omega arith) (s .search .inv .4) (h .4), filled-from (s .search .at) _ _ _ _ _ (omega arith) (s .search .inv .5) (h .5))
 
-slice-aggregate-walk-2 : tie.Need-slice-aggregate-walk-2
-slice-aggregate-walk-2 c = search needs
-
-slice-aggregate-walk-3 : tie.Need-slice-aggregate-walk-3
-slice-aggregate-walk-3 c = search needs
-
-slice-aggregate-walk-4 : tie.Need-slice-aggregate-walk-4
-slice-aggregate-walk-4 c = search needs
-
-covers : {n : ℕ} (x : List ℕ) → n ≤ 1024 → length x ≡ 1024 → n ≤ length x
-covers x h e = omega arith
-
-walk-requires : tie.Need-walk-requires
-walk-requires c κs =
-    let w₄ = c .before .before .before .before .before .before in
-    let w₃ = w₄ .before .before .before in
-    let w₂ = w₃ .before .before .before in
-    let w₁ = w₂ .before .before .before in
-    let h = four w₄ in
-    let s = start h .pre in
-    record {
-      rows = s .rows;
-      inner = s .inner;
-      columns = s .columns;
-      a-lowers = covers (w₁ .before .words .last .1 .1 .0) (a-small h) (w₁ .a-lowers2 .given);
-      a-uppers = covers (w₂ .before .words2 .last .1 .1 .0) (a-small h) (w₂ .a-uppers2 .given);
-      b-lowers = covers (w₃ .before .words3 .last .1 .1 .0) (b-small h) (w₃ .b-lowers2 .given);
-      b-uppers = covers (w₄ .before .words4 .last .1 .1 .0) (b-small h) (w₄ .b-uppers2 .given);
-      lowers = s .lowers;
-      uppers = s .uppers;
-    }
-
-same-length : tie.Need-same-length
+same-length : tie.Need-same-length Inv-loop2 μ-loop2 Inv-loop μ-loop Inv-search μ-search
 same-length c = search needs
 
-same-length-2 : tie.Need-same-length-2
+same-length-2 : tie.Need-same-length-2 Inv-loop2 μ-loop2 Inv-loop μ-loop Inv-search μ-search
 same-length-2 c = search needs
 
-returns : tie.Need-returns
+returns : tie.Need-returns Inv-loop2 μ-loop2 Inv-loop μ-loop Inv-search μ-search
 returns c =
-    let v = c .before .before .before .before in
-    let w₄ = v .before .before .before .before .before .before .before in
-    let w₃ = w₄ .before .before .before in
-    let w₂ = w₃ .before .before .before in
-    let w₁ = w₂ .before .before .before in
-    let h = four w₄ in
-    let s = start h .args in
-    let p = start h .pre in
-    written-ext _ (entryAt classical (s .k) (s .n) (A h) (B h)) (s .m) (s .n)
-    (entry-words (s .m) (s .k) (s .n) (A h) (B h) (p .inner) (p .a-fine) (p .b-fine) _ _ _ _
-    (w₁ .before .words .ensures) (w₂ .before .words2 .ensures) (w₃ .before .words3 .ensures) (w₄ .before .words4 .ensures))
-    (v .walk .ensures)
+    let s : Head = c .before in
+    let all : s .search .i ≡ M s = omega arith in
+    rw (s .search .inv .2) (written-all (E s) (M s) (N s) (s .search .at) _ _ _ _ (s .search .inv .1 ∙ ap (λ (t : ℕ). t * N s) all) (s .search .inv .3) (s .search .inv .4) (s .search .inv .5))
+
+same-length-3 : tie.Need-same-length-3 Inv-loop2 μ-loop2 Inv-loop μ-loop Inv-search μ-search
+same-length-3 c = search needs
+
+same-length-4 : tie.Need-same-length-4 Inv-loop2 μ-loop2 Inv-loop μ-loop Inv-search μ-search
+same-length-4 c = search needs
+
+returns-2 : tie.Need-returns-2 Inv-loop2 μ-loop2 Inv-loop μ-loop Inv-search μ-search
+returns-2 c =
+    let t : In2 = c .before .before .before .before .before .before .before .before .before .before .before in
+    let h : In1 = t .before .before .before in
+    let s : Head = h .before .before .before in
+    let g = t .before .loop2 in
+    let refused = entry-refused (K s) (N s) (A s) (B s) (s .search .i) (h .before .loop .j) (g .l) (g .s) (g .inv .2) _ _ _ _ (cells t) refl refl refl refl _ (c .before .before .step .ensures) (t .loop2-test .taken) (sym (c .before .refused .ensures) ∙ c .if3 .taken) in
+    let e = place-entry classical (K s) (N s) (s .search .i) (h .before .loop .j) (h .before .loop .at) (omega arith) (h .loop-test .taken) (A s) (B s) ∙ refused in
+    written-at (E s) (M s) (N s) (s .search .i) (h .before .loop .j) (h .before .loop .at) _ _ _ _ (omega arith) (h .loop-test .taken) (place-out h .0) (h .before .loop .inv .3) e
+    (filled-from (s .search .at) _ _ _ _ _ (omega arith) (s .search .inv .4) (h .before .loop .inv .4))
+    (filled-from (s .search .at) _ _ _ _ _ (omega arith) (s .search .inv .5) (h .before .loop .inv .5))
 
 pub entries-spec : {M : Type 1} → statement M
 entries-spec =
     tie.close
     (tie.spec
-    mul-words
-    slice-aggregate-words
-    words-requires
-    mul-words-2
-    slice-aggregate-words-2
-    words-requires-2
-    mul-words-3
-    slice-aggregate-words-3
-    words-requires-3
-    mul-words-4
-    slice-aggregate-words-4
-    words-requires-4
-    slice-aggregate-walk
-    slice-aggregate-walk-2
-    slice-aggregate-walk-3
-    slice-aggregate-walk-4
-    walk-requires
+    Inv-loop2
+    μ-loop2
+    Inv-loop
+    μ-loop
+    Inv-search
+    μ-search
+    search-holds
+    loop-holds
+    new-requires
+    loop2-holds
+    mul-a
+    add-a
+    mul-w
+    shared-slice-read-w
+    mul-x
+    shared-slice-read-x
+    is-nonzero-requires
+    mul-b
+    add-b
+    mul-y
+    shared-slice-read-y
+    mul-z
+    shared-slice-read-z
+    is-nonzero-requires-2
+    step-requires
+    refused-requires
+    add-l
+    loop2-less
+    loop2-again
+    lower-requires
+    mul-lo
+    slice-write-lo
+    upper-requires
+    mul-up
+    slice-write-up
+    add-at
+    add-j
+    loop-less
+    loop-again
+    add-i
+    search-less
+    search-again
     same-length
     same-length-2
-    returns)
+    returns
+    same-length-3
+    same-length-4
+    returns-2)

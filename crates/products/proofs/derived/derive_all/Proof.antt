@@ -1,19 +1,18 @@
--- `products::derived::derive_all` meets its contract: of each cell below c, a word of `out` holds what is worked out of it.
+-- `products::derived::derive_all` meets its contract: of each cell below c, a pattern of `out` holds what is worked out of it.
 use mathlib.Core.Path.{_≡_, refl, _∙_}
-use Prim.Native.Nat.{_-_, _≤_}
+use Prim.Native.Nat.{ℕ, _-_, _≤_, _<_}
 use native.Mathlib.Omega.{arith}
 use borrow.Author.Needs.{needs}
 use lib.ListN.{length, getD, length-set}
-use Rattle.binary32.specs.Number.{valueOf}
-use Rattle.binary32.specs.Word.{heldIn}
+use Rattle.binary32.specs.Number.{valueOf, held}
 use Rattle.products.specs.Derived.{derivedOf}
-use Rattle.products.specs.Converted.{DerivesAll}
 use Rattle.products.proofs.Stores.{stored-more}
 use Rattle.products.proofs.derived.derive_all.Statement.{statement}
 use Rattle.products.proofs.derived.derive_all.Tie as tie
 
 abbrev Inv-loop : tie.InvT-loop
-Inv-loop kind count m r out₀ c₀ out c = (c ≤ count) × (length out ≡ length out₀) × DerivesAll kind c m r out
+Inv-loop kind count m r out₀ c₀ out c =
+    (c ≤ count) × (length out ≡ length out₀) × ((b : ℕ) → b < c → held (getD out b 0) ≡ derivedOf kind (valueOf (getD m b 0)) (valueOf (getD r b 0)))
 
 abbrev μ-loop : tie.MeasureT-loop
 μ-loop kind count m r out₀ c₀ out c = count - c
@@ -36,10 +35,7 @@ shared-slice-read-derive-2 c = search needs
 derive-requires : tie.Need-derive-requires Inv-loop μ-loop
 derive-requires c κs =
     let g = c .before .before in
-    g .before .before .before .before .before .pre .3 (g .before .loop .c) (g .loop-test .taken)
-
-word-requires : tie.Need-word-requires Inv-loop μ-loop
-word-requires c κs = search needs
+    g .before .before .before .before .before .pre .0 .each (g .before .loop .c) (g .loop-test .taken)
 
 mul-out : tie.Need-mul-out Inv-loop μ-loop
 mul-out c = search needs
@@ -55,19 +51,19 @@ loop-less c = search needs
 
 loop-again : tie.Need-loop-again Inv-loop μ-loop
 loop-again c =
-    let h = c .before .before .before .before .before in
+    let h = c .before .before .before .before in
     let a = h .before .before .before .before .args in (
       search needs,
-      length-set (h .loop .out) (h .loop .c) (c .word .result) ∙ h .loop .inv .1,
-      stored-more (λ b v. heldIn v ≡ derivedOf (a .kind) (valueOf (getD (a .m .now) b 0)) (valueOf (getD (a .r .now) b 0)))
-          (h .loop .out) (h .loop .c) (c .word .result) (omega arith) (h .loop .inv .2) (c .word .ensures ∙ c .before .derive .ensures .holds),
+      length-set (h .loop .out) (h .loop .c) (c .derive .result) ∙ h .loop .inv .1,
+      stored-more (λ b v. held v ≡ derivedOf (a .kind) (valueOf (getD (a .m .now) b 0)) (valueOf (getD (a .r .now) b 0)))
+          (h .loop .out) (h .loop .c) (c .derive .result) (omega arith) (h .loop .inv .2) (c .derive .ensures .holds),
     )
 
 same-length : tie.Need-same-length Inv-loop μ-loop
 same-length c = c .before .loop .inv .1
 
 returns : tie.Need-returns Inv-loop μ-loop
-returns c b t = c .before .loop .inv .2 b (omega arith)
+returns c = record { long = omega (arith, c .before .loop .inv .1, c .before .before .before .before .before .pre .1); each = λ b t. c .before .loop .inv .2 b (omega arith) }
 
 pub derive-all-spec : {M : Type 1} → statement M
 derive-all-spec =
@@ -81,7 +77,6 @@ derive-all-spec =
     mul-derive-2
     shared-slice-read-derive-2
     derive-requires
-    word-requires
     mul-out
     slice-write-out
     add-c

@@ -1,0 +1,196 @@
+-- One entry of method 4: its sums over midpoints, the radius continued with the outer terms, and the entry that they end in.
+-- Method 7 starts with the same sums.
+use mathlib.Core.Path.{_≡_, sym, ap, _∙_, subst}
+use mathlib.Core.Bool.{true, false}
+use mathlib.Core.List.{List}
+use mathlib.Core.Logic.{inl, inr}
+use mathlib.Core.Option.{Option, none, bind}
+use Prim.Native.Nat.{ℕ, _+_, _*_, _<_}
+use lib.Dec.{ltb}
+use lib.IntN.{ℤ, pos, negℤ}
+use lib.ListN.{getD}
+use Rattle.rounding.specs.Format.{binary32}
+use Rattle.rounding.specs.Rounding.{up, down, negate}
+use Rattle.enclosure.specs.Arithmetic.{of}
+use Rattle.enclosure.specs.Cell.{Cell}
+use Rattle.enclosure.specs.Sums.{sum}
+use Rattle.enclosure.specs.Methods.{Method, Range, four, midTerm, innerTerm, outerTerm, total, radius₄, centre, ends, entry}
+use Rattle.binary32.specs.Number.{valueOf, held}
+use Rattle.binary32.specs.Operations.{Way, mul, with₂}
+use Rattle.binary32.specs.Order.{magnitudeOf}
+use Rattle.products.specs.declared.number.Number.{Number}
+use Rattle.products.specs.declared.centred.Centred.{Centred}
+use Rattle.products.specs.declared.sums.Sums.{Sums}
+use Rattle.products.specs.Number.{worth, IsNumber, Holds, Runs}
+use Rattle.products.specs.Running.{plusDown, Ended}
+use Rattle.products.specs.Centred.{minusMagnitudeOf, addsOf, zeroCentred, AllNumbers, Added, refusedCentred, CentredSum}
+use Rattle.products.specs.Derived.{outerOf}
+use Rattle.products.specs.MidRad.{midRadAt, entryFrom}
+use Rattle.products.proofs.Writing.{place-entry-from}
+use Rattle.products.proofs.Carrying.{holds-runs, holds-none, mirrored-is, negate-none, sum-stays}
+use Rattle.products.proofs.MidRadSteps.{mid-is, inner-is, outer-is}
+use Rattle.products.proofs.CentredSteps.{CentredHolds, OneNone, all-numbers, centred-runs, centred-none, centred-more, centred-none-yet, one-stays, radius-from, radius-more}
+use Rattle.products.proofs.Zeros.{up-same, centred-same, is-zero, minus-zero, adds-not, down-zero, up-zero, mid-zero, inner-zero, outer-zero}
+use Rattle.products.proofs.Ending.{ends-none, Closes, closes, Places}
+
+-- an entry's row i and column j, and the midpoints and radii of A (k columns) and of B (n columns)
+pub record Spot : Type 0 where
+  pub k : ℕ
+  pub n : ℕ
+  pub ma : List ℕ
+  pub ra : List ℕ
+  pub mb : List ℕ
+  pub rb : List ℕ
+  pub i : ℕ
+  pub j : ℕ
+
+module _ (p : Spot) where
+  -- ---- the patterns and the cells of pair l
+  abbrev pub a-mid : ℕ → ℕ
+  a-mid l = getD (p .ma) (p .i * p .k + l) 0
+
+  abbrev pub a-rad : ℕ → ℕ
+  a-rad l = getD (p .ra) (p .i * p .k + l) 0
+
+  abbrev pub b-mid : ℕ → ℕ
+  b-mid l = getD (p .mb) (l * p .n + p .j) 0
+
+  abbrev pub b-rad : ℕ → ℕ
+  b-rad l = getD (p .rb) (l * p .n + p .j) 0
+
+  abbrev pub left : ℕ → Cell
+  left l = midRadAt (p .ma) (p .ra) (p .i * p .k + l)
+
+  abbrev pub right : ℕ → Cell
+  right l = midRadAt (p .mb) (p .rb) (l * p .n + p .j)
+
+  -- what is read for it
+  abbrev pub Read : ℕ → ℕ → Type 0
+  Read l size = Places (p .k) (p .n) (p .i) (p .j) l (p .ma) (p .ra) (p .mb) (p .rb) size
+
+  abbrev pub entryBy : Method → ℕ → Option Range
+  entryBy method c = entryFrom method (p .k) (p .n) (p .ma) (p .ra) (p .mb) (p .rb) c
+
+  -- ---- the sums over midpoints after l pairs, and after one more: each a number or none
+  unfoldable pub middles : Way → ℕ → Option ℤ
+  middles way l = sum (way binary32 1) (λ l. midTerm (of binary32) (way binary32) (left l) (right l)) (pos 0) l
+
+  unfoldable pub inners : ℕ → Option ℤ
+  inners l = sum (up binary32 1) (λ l. innerTerm (of binary32) (left l) (right l)) (pos 0) l
+
+  unfoldable pub MiddleSum : ℕ → Centred → Type 0
+  MiddleSum l s = CentredSum (middles down l) (middles up l) (inners l) s
+
+  unfoldable pub MiddleNext : ℕ → Centred → Type 0
+  MiddleNext l s = CentredHolds (middles down (l + 1)) (middles up (l + 1)) (inners (l + 1)) s
+
+  -- one of them is none in the end
+  unfoldable pub MiddleNone : Type 0
+  MiddleNone = OneNone (middles down (p .k)) (middles up (p .k)) (inners (p .k))
+
+  pub middle-start : MiddleSum 0 zeroCentred
+  unfolding MiddleSum middles inners
+  middle-start = centred-none-yet _ _ _
+
+  pub middle-numbers : (l : ℕ) (s : Centred) → MiddleSum l s → AllNumbers s
+  unfolding MiddleSum
+  middle-numbers l s S = all-numbers s S
+
+  pub middle-next : (l size u : ℕ) (s r : Centred) → Read l size → MiddleSum l s → u ≡ minusMagnitudeOf (a-mid l) → Added s (a-mid l) (b-mid l) u (b-rad l) r → MiddleNext l r
+  unfolding MiddleSum MiddleNext middles inners
+  middle-next l size u s r P S e A =
+      centred-more _ _ _ (pos 0) (pos 0) (pos 0) l s r (a-mid l) (b-mid l) u (b-rad l) S A
+      (mid-is (a-mid l) (a-rad l) (b-mid l) (b-rad l) down (P .cell-first .mid) (P .cell-second .mid))
+      (mid-is (a-mid l) (a-rad l) (b-mid l) (b-rad l) up (P .cell-first .mid) (P .cell-second .mid))
+      (ap (λ t. with₂ (mul down) t (b-rad l)) e ∙ inner-is (a-mid l) (a-rad l) (b-mid l) (b-rad l) (P .cell-first .mid) (P .cell-second .rad))
+
+  pub middle-more : (l : ℕ) (r : Centred) → MiddleNext l r → refusedCentred r ≡ false → MiddleSum (l + 1) r
+  unfolding MiddleSum MiddleNext
+  middle-more l r H t = centred-runs _ _ _ r H t
+
+  pub middle-none : (l : ℕ) (r : Centred) → MiddleNext l r → l < p .k → refusedCentred r ≡ true → MiddleNone
+  unfolding MiddleNext MiddleNone middles inners
+  middle-none l r H h t = one-stays _ _ _ (pos 0) (pos 0) (pos 0) l (p .k) h (centred-none _ _ _ r H t)
+
+  -- a midpoint of A that is zero adds nothing
+  pub middle-skip : (l : ℕ) (s : Centred) → MiddleSum l s → ltb 0 (magnitudeOf (a-mid l)) ≡ false → MiddleSum (l + 1) s
+  unfolding MiddleSum middles inners
+  middle-skip l s S t =
+      let z = is-zero (a-mid l) t in
+      centred-same _ _ _ (pos 0) (pos 0) (pos 0) l s (mid-zero (left l) (right l) down down-zero z) (mid-zero (left l) (right l) up up-zero z) (inner-zero (left l) (right l) z) S
+
+  -- ---- the radius, continued from v with the outer terms
+  unfoldable pub outers : ℤ → ℕ → Option ℤ
+  outers v l = sum (up binary32 1) (λ l. outerTerm (of binary32) (left l) (right l)) v l
+
+  unfoldable pub OuterSum : ℤ → ℕ → Number → Type 0
+  OuterSum v l x = Runs (negate (outers v l)) x
+
+  unfoldable pub OuterNext : ℤ → ℕ → Number → Type 0
+  OuterNext v l x = Holds (negate (outers v (l + 1))) x
+
+  pub outer-start : (x : Number) → IsNumber x → OuterSum (negℤ (worth x)) 0 x
+  unfolding OuterSum outers
+  outer-start x N = radius-from _ x N
+
+  pub outer-number : (v : ℤ) (l : ℕ) (x : Number) → OuterSum v l x → IsNumber x
+  unfolding OuterSum
+  outer-number v l x S = S .number
+
+  pub outer-term : (l size u w : ℕ) → Read l size → u ≡ minusMagnitudeOf (a-rad l) → held w ≡ outerOf (valueOf (b-mid l)) (valueOf (b-rad l))
+      → with₂ (mul down) u w ≡ negate (outerTerm (of binary32) (left l) (right l))
+  outer-term l size u w P e h =
+      ap (λ t. with₂ (mul down) t w) e ∙ outer-is (a-mid l) (a-rad l) (b-mid l) (b-rad l) w (P .cell-first .rad) (P .cell-first .nonneg) h
+
+  pub outer-next : (l size u w : ℕ) (v : ℤ) (s r : Number) → Read l size → OuterSum v l s → u ≡ minusMagnitudeOf (a-rad l) → held w ≡ outerOf (valueOf (b-mid l)) (valueOf (b-rad l))
+      → Holds (plusDown (worth s) (with₂ (mul down) u w)) r → OuterNext v l r
+  unfolding OuterSum OuterNext outers
+  outer-next l size u w v s r P S e h H = radius-more _ v l s r (with₂ (mul down) u w) S (outer-term l size u w P e h) H
+
+  pub outer-more : (v : ℤ) (l : ℕ) (r : Number) → OuterNext v l r → ltb 653 (r .exp) ≡ false → OuterSum v (l + 1) r
+  unfolding OuterSum OuterNext
+  outer-more v l r H t = holds-runs _ r H t
+
+  pub outer-none : (v : ℤ) (l : ℕ) (r : Number) → OuterNext v l r → l < p .k → ltb 653 (r .exp) ≡ true → outers v (p .k) ≡ none
+  unfolding OuterNext outers
+  outer-none v l r H m t = sum-stays (up binary32 1) _ v l (p .k) m (negate-none _ (holds-none _ r H t))
+
+  -- a radius of A that is zero adds nothing where w is a number
+  pub outer-skip : (l u w : ℕ) (v : ℤ) (x : Number) → OuterSum v l x → u ≡ minusMagnitudeOf (a-rad l) → held w ≡ outerOf (valueOf (b-mid l)) (valueOf (b-rad l)) → addsOf u w ≡ false
+      → OuterSum v (l + 1) x
+  unfolding OuterSum outers
+  outer-skip l u w v x S e h t =
+      let z = adds-not u w t in
+      up-same _ v l (outer-zero (left l) (right l) w (minus-zero u (a-rad l) e (z .0)) (z .1) h) x S
+
+  -- ---- the entry, at place c by rows
+  pub radius-stays : MiddleNone → (next : ℤ → Option ℤ) → OneNone (middles down (p .k)) (middles up (p .k)) (bind (inners (p .k)) next)
+  unfolding MiddleNone bind
+  radius-stays (inl e) next = inl e
+  radius-stays (inr (inl e)) next = inr (inl e)
+  radius-stays (inr (inr e)) next = inr (inr (ap (λ m. bind m next) e))
+
+  pub radius-is : (s : Centred) → MiddleSum (p .k) s → (next : ℤ → Option ℤ) → bind (inners (p .k)) next ≡ next (negℤ (worth (s .radius)))
+  unfolding MiddleSum bind
+  radius-is s S next = ap (λ m. bind m next) (mirrored-is (inners (p .k)) (s .radius) (S .radius))
+
+  module _ (c : ℕ) (at : c ≡ p .i * p .n + p .j) (in-row : p .j < p .n) where
+    abbrev radius : Option ℤ
+    radius = bind (inners (p .k)) λ v. outers v (p .k)
+
+    is : entryBy four c ≡ ends (of binary32) radius (middles down (p .k)) (middles up (p .k))
+    unfolding entry radius₄ centre total middles inners outers
+    is = place-entry-from four (p .k) (p .n) (p .i) (p .j) c at in-row (p .ma) (p .ra) (p .mb) (p .rb)
+
+    pub four-middle : MiddleNone → entryBy four c ≡ none
+    four-middle o = is ∙ ends-none radius (middles down (p .k)) (middles up (p .k)) (radius-stays o (λ v. outers v (p .k)))
+
+    pub four-outer : (s : Centred) → MiddleSum (p .k) s → outers (negℤ (worth (s .radius))) (p .k) ≡ none → entryBy four c ≡ none
+    four-outer s S e = is ∙ ends-none radius (middles down (p .k)) (middles up (p .k)) (inr (inr (radius-is s S (λ v. outers v (p .k)) ∙ e)))
+
+    pub four-closes : (s : Centred) (x : Number) (e : Sums) → MiddleSum (p .k) s → OuterSum (negℤ (worth (s .radius))) (p .k) x → Ended (s .lower) (s .opposed) x e → Closes (entryBy four c) e
+    unfolding MiddleSum OuterSum
+    four-closes s x e S R E =
+        subst (λ m. Closes m e) (sym is)
+        (closes radius (middles down (p .k)) (middles up (p .k)) (s .lower) (s .opposed) x e (S .lower) (S .upper)
+        (subst (λ m. Runs (negate m) x) (sym (radius-is s S (λ v. outers v (p .k)))) R) E)

@@ -1,0 +1,166 @@
+-- Products of what patterns hold: the product of two numbers taken apart is exact, 24 of its 48 digits are its rounding, and it turns its sign with its significand.
+use mathlib.Core.Path.{_≡_, refl, sym, ap, ap₂, _∙_, subst}
+use mathlib.Core.Bool.{Bool, true, false, cond}
+use mathlib.Core.List.{[], _∷_}
+use mathlib.Core.Logic.{_⊎_, inl, inr, ⊎-elim}
+use mathlib.Core.Option.{none, some}
+use Prim.Native.Nat.{ℕ, _+_, _-_, _*_, _^_, _≤_, _<_}
+use native.Mathlib.Omega.{arith}
+use native.Mathlib.Nat.{eq-zero-or-pos}
+use lib.Pow.{pow-pos, pow-add}
+use lib.IntN.{ℤ, pos, negℤ, natAbs, _*ℤ_}
+use lib.Ieee.Nearest.{closest}
+use lib.Signed.{shrZ}
+use borrow.Author.Tests.{le-leb}
+use Rattle.algebra.proofs.Floor.{floor-low, floor-high}
+use Rattle.algebra.proofs.Linear.{reading, eq, lin-eq}
+use Rattle.rounding.specs.Format.{binary32, MAX}
+use Rattle.rounding.specs.Rounding.{down, near, signed}
+use Rattle.rounding.proofs.NearestLaws.{near-scale}
+use Rattle.rounding.proofs.Sign.{natAbs-neg}
+use Rattle.binary32.specs.Number.{valueOf, finite, finites}
+use Rattle.binary32.proofs.Held.{held-finite, held-none, finites-first, finites-second}
+use Rattle.products.specs.declared.number.Number.{Number}
+use Rattle.products.specs.declared.times.Product.{Product}
+use Rattle.products.specs.Number.{worth, IsNumber, Holds, Unpacked}
+use Rattle.products.specs.Exact.{Usual, Exact, ProductIs, Exactly, Shortened, ShortenedNear, Turned}
+use Rattle.products.proofs.Floors.{Full}
+use Rattle.products.proofs.Worths.{exp-low}
+use Rattle.products.proofs.ExactProducts.{exact-worths}
+use Rattle.products.proofs.Shortening.{cut-few, cut-long, cut-kind, over-low, over-high, over-exact, down-found, small-max, kept-holds}
+use Rattle.products.proofs.Nearing.{near-wide, nearest-few, nearest-long, signed-times, signed-abs}
+
+-- ---- of what two patterns hold
+held-number : (v : ℤ) (x : Number) → Holds (some v) x → IsNumber x × (worth x ≡ v)
+held-number v x h = (record { normal = h .part .normal; within = subst (λ t. natAbs t ≤ MAX binary32) (sym (h .is .0)) (h .is .1) }, h .is .0)
+
+unpacked-number : (p : ℕ) (x : Number) → finite p ≡ true → Unpacked p x → IsNumber x × (worth x ≡ valueOf p)
+unpacked-number p x t u = held-number (valueOf p) x (subst (λ m. Holds m x) (held-finite p t) u)
+
+unpacked-high : (p : ℕ) (x : Number) → finite p ≡ false → Unpacked p x → 1115 ≤ x .exp
+unpacked-high p x t u = subst (λ m. Holds m x) (held-none p t) u .is .1
+
+high-sum : (a b p : ℕ) → 1115 ≤ a → 64 ≤ b → a + b ≤ p → 1179 ≤ p
+high-sum a b p h k l = omega arith
+
+high-sum-2 : (a b p : ℕ) → 64 ≤ a → 1115 ≤ b → a + b ≤ p → 1179 ≤ p
+high-sum-2 a b p h k l = omega arith
+
+pub exactly-of : (a b : ℕ) (x y : Number) (p : Product) → Unpacked a x → Unpacked b y → ProductIs x y p → Exactly a b p
+exactly-of a b x y p ux uy i = record { numbers = numbers; none = λ h. high (finite a) (finite b) refl refl h }
+  where
+    numbers : finites a b ≡ true → Exact (valueOf a *ℤ valueOf b) p
+    numbers h =
+        let nx = unpacked-number a x (finites-first a b h) ux in
+        let ny = unpacked-number b y (finites-second a b h) uy in
+        subst (λ v. Exact v p) (ap₂ _*ℤ_ (nx .1) (ny .1)) (exact-worths x y p (nx .0) (ny .0) i)
+
+    high : (s t : Bool) → finite a ≡ s → finite b ≡ t → cond s t false ≡ false → 1179 ≤ p .exp
+    high true true e f h = absurd (subst (λ u. cond u (Unit {0}) ⊥) h tt)
+    high true false e f h = high-sum-2 (x .exp) (y .exp) (p .exp) (exp-low x (ux .part .normal)) (unpacked-high b y f uy) (i .low)
+    high false t e f h = high-sum (x .exp) (y .exp) (p .exp) (unpacked-high a x e ux) (exp-low y (uy .part .normal)) (i .low)
+
+-- ---- a usual product is not zero
+exact-full : (X : ℤ) (p : Product) → Exact X p → Usual (p .exp) → 2 ^ 47 ≤ natAbs (p .sig)
+exact-full X p i u = i .full (⊎-elim (λ e. absurd (no (i .none e) (u .0))) (λ l. l) (eq-zero-or-pos (natAbs (p .sig))))
+  where
+    no : p .exp < 752 → 926 ≤ p .exp → ⊥
+    no l k = omega arith
+
+small-j : (e : ℕ) → e < 1179 → e - 926 ≤ 252
+small-j e h = omega arith
+
+places-24 : (e : ℕ) → 926 ≤ e → 24 + e ≡ e - 926 + 950
+places-24 e h = omega arith
+
+-- ---- the first 24 digits, rounded down, of a product that is neither small nor large
+module _ {X : ℤ} {p : Product} {r : Number} (i : Exact X p) (u : Usual (p .exp)) (s : Shortened p r) where
+  abbrev c : ℤ
+  c = shrZ (p .sig) (2 ^ 24)
+
+  abbrev j : ℕ
+  j = p .exp - 926
+
+  full : 2 ^ 47 ≤ natAbs (p .sig)
+  full = exact-full X p i u
+
+  few : natAbs c ≤ 2 ^ 24
+  few = cut-few (p .sig) (i .few) full
+
+  places : 2 ^ (p .exp) * 2 ^ 24 ≡ 2 ^ j * 2 ^ 149 * 2 ^ 801
+  places = sym (pow-add 2 (p .exp) 24) ∙ ap (λ n. 2 ^ n) (sum (p .exp) (u .0)) ∙ pow-add 2 (j + 149) 801 ∙ ap (λ n. n * 2 ^ 801) (pow-add 2 j 149)
+    where
+      sum : (e : ℕ) → 926 ≤ e → e + 24 ≡ e - 926 + 149 + 801
+      sum e h = omega arith
+
+  kind : Full c ⊎ (c *ℤ pos (2 ^ j) *ℤ pos (2 ^ 149) ≡ X)
+  kind = ⊎-elim inl (λ e. inr (over-exact X (p .sig) c (2 ^ (p .exp)) (2 ^ 801) (2 ^ j) (2 ^ 149) (pow-pos 801) (pow-pos (p .exp)) (i .value) places e)) (cut-kind (p .sig) (i .few) full)
+
+  within : natAbs (c *ℤ pos (2 ^ j)) ≤ MAX binary32
+  within = small-max c j few (small-j (p .exp) (u .1))
+
+  found : down binary32 (2 ^ 149) X ≡ some (c *ℤ pos (2 ^ j))
+  found =
+      down-found X c (2 ^ 149) j (pow-pos 149)
+      (over-low X (p .sig) c (2 ^ (p .exp)) (2 ^ 801) (2 ^ j) (2 ^ 149) (pow-pos 801) (pow-pos (p .exp)) (i .value) places (floor-low (p .sig) (2 ^ 24) (pow-pos 24)))
+      (over-high X (p .sig) c (2 ^ (p .exp)) (2 ^ 801) (2 ^ j) (2 ^ 149) (pow-pos 801) (pow-pos (p .exp)) (i .value) places (floor-high (p .sig) (2 ^ 24) (pow-pos 24)))
+      kind few within
+
+  pub shortened-holds : Holds (down binary32 (2 ^ 149) X) r
+  shortened-holds = subst (λ m. Holds m r) (sym found)
+      (kept-holds r (p .exp) (c *ℤ pos (2 ^ j)) (s .exps) u (subst (λ t. natAbs t ≤ 2 ^ 24) (sym (s .sigs)) few) (subst (λ t. 2 ^ 23 ≤ natAbs t) (sym (s .sigs)) (cut-long (p .sig) (i .few) full))
+      (ap (λ t. t *ℤ pos (2 ^ j)) (s .sigs)) within)
+
+-- ---- and to nearest
+near-product : (X : ℤ) → near binary32 (2 ^ 950) (X *ℤ pos (2 ^ 801)) ≡ near binary32 (2 ^ 149) X
+near-product X = ap (near binary32 (2 ^ 950)) (turn (2 ^ 801)) ∙ near-scale binary32 (2 ^ 801) (2 ^ 149) (pow-pos 801) (pow-pos 149) X
+  where
+    turn : (a : ℕ) → X *ℤ pos a ≡ pos a *ℤ X
+    turn a = lin-eq (X ∷ pos a ∷ []) [] (search reading depth 20) (omega arith)
+
+module _ {X : ℤ} {p : Product} {r : Number} (i : Exact X p) (u : Usual (p .exp)) (s : ShortenedNear p r) where
+  abbrev near-c : ℕ
+  near-c = closest (natAbs (p .sig)) (2 ^ 24)
+
+  abbrev near-j : ℕ
+  near-j = p .exp - 926
+
+  abbrev near-v : ℤ
+  near-v = signed (p .sig) (near-c * 2 ^ near-j)
+
+  sig-abs : natAbs (r .sig) ≡ near-c
+  sig-abs = ap natAbs (s .sigs) ∙ signed-abs (p .sig) near-c
+
+  near-few : near-c ≤ 2 ^ 24
+  near-few = nearest-few (natAbs (p .sig)) (2 ^ 24) (pow-pos 24) (i .few)
+
+  near-within : natAbs near-v ≤ MAX binary32
+  near-within = subst (λ t. t ≤ MAX binary32) (sym (signed-abs (p .sig) (near-c * 2 ^ near-j))) (small-max (pos near-c) near-j near-few (small-j (p .exp) (u .1)))
+
+  near-found : near binary32 (2 ^ 149) X ≡ some near-v
+  near-found =
+      sym (near-product X) ∙ ap (near binary32 (2 ^ 950)) (sym (i .value))
+      ∙ near-wide 24 950 (p .sig) (p .exp) near-j (exact-full X p i u) (i .few) (places-24 (p .exp) (u .0))
+      ∙ ap (λ t. cond t (some near-v) none) (le-leb (natAbs near-v) (MAX binary32) near-within)
+
+  pub shortened-near-holds : Holds (near binary32 (2 ^ 149) X) r
+  shortened-near-holds = subst (λ m. Holds m r) (sym near-found)
+      (kept-holds r (p .exp) near-v (s .exps) u (subst (λ t. t ≤ 2 ^ 24) (sym sig-abs) near-few)
+      (subst (λ t. 2 ^ 23 ≤ t) (sym sig-abs) (nearest-long (natAbs (p .sig)) (2 ^ 24) (pow-pos 24) (exact-full X p i u)))
+      (ap (λ t. t *ℤ pos (2 ^ near-j)) (s .sigs) ∙ signed-times (p .sig) near-c (2 ^ near-j)) near-within)
+
+-- ---- the other sign
+pub turned-exact : {X : ℤ} {p r : Product} → Exact X p → Turned p r → Exact (negℤ X) r
+turned-exact {X} {p} {r} i t = record {
+  value = ap₂ (λ s n. s *ℤ pos (2 ^ n)) (t .sigs) (t .exps) ∙ turn (p .sig) X (2 ^ (p .exp)) (2 ^ 801) (i .value);
+  few = subst (λ n. n ≤ 2 ^ 48) (sym size) (i .few);
+  full = λ l. subst (λ n. 2 ^ 47 ≤ n) (sym size) (i .full (subst (λ n. 0 < n) size l));
+  some = λ l. subst (λ n. 752 ≤ n) (sym (t .exps)) (i .some (subst (λ n. 0 < n) size l));
+  none = λ e. subst (λ n. n < 752) (sym (t .exps)) (i .none (sym size ∙ e));
+}
+  where
+    size : natAbs (r .sig) ≡ natAbs (p .sig)
+    size = ap natAbs (t .sigs) ∙ natAbs-neg (p .sig)
+
+    turn : (s v : ℤ) (m K : ℕ) → s *ℤ pos m ≡ v *ℤ pos K → negℤ s *ℤ pos m ≡ negℤ v *ℤ pos K
+    turn s v m K h = lin-eq (s ∷ v ∷ pos m ∷ pos K ∷ []) (eq h ∷ []) (search reading depth 20) (omega arith)

@@ -1,0 +1,22 @@
+-- `products::nearest::Nearest::new` meets its contract: both numbers are zero.
+use mathlib.Core.Path.{ap₂}
+use borrow.Author.Needs.{needs}
+use Rattle.products.specs.declared.number.Number.{Number}
+use Rattle.products.specs.declared.nearest.Nearest.{Nearest}
+use Rattle.products.proofs.nearest.Nearest.new.Statement.{statement}
+use Rattle.products.proofs.nearest.Nearest.new.Tie as tie
+
+zero-requires : tie.Need-zero-requires
+zero-requires c κs = search needs
+
+zero-requires-2 : tie.Need-zero-requires-2
+zero-requires-2 c κs = search needs
+
+abbrev both : Number → Number → Nearest
+both x y = record { centre = x; radius = y }
+
+returns : tie.Need-returns
+returns c = ap₂ both (c .before .zero .ensures) (c .zero2 .ensures)
+
+pub new-spec : {M : Type 1} → statement M
+new-spec = tie.close (tie.spec zero-requires zero-requires-2 returns)

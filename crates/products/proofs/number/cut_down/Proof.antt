@@ -1,0 +1,89 @@
+-- `products::number::cut_down` meets its contract: the shift up does not overflow (`wide-abs`), and the exponent does not go below 0.
+use mathlib.Core.Path.{_≡_, ap, subst, _∙_}
+use Prim.Native.Nat.{_+_, _-_, _*_, _^_, _≤_}
+use native.Mathlib.Omega.{arith}
+use lib.Count.{leadingZeros}
+use lib.IntN.{ℤ, pos, _*ℤ_}
+use lib.Signed.{mag, shrZ}
+use mir.Syntax.{w64}
+use mir.Val.{toZ, ofZ}
+use mir.ValLaws.{toZ-ofZ}
+use Rattle.algebra.proofs.Machine.{mag-of-natAbs}
+use Rattle.binary32.proofs.Ints.{read}
+use Rattle.products.specs.Cuts.{room, OrLow}
+use Rattle.products.proofs.Leading.{Lead, lead-of, wide-abs}
+use Rattle.products.proofs.Cutting.{cut-found, room-is}
+use borrow.Author.Needs.{needs}
+use Rattle.products.proofs.number.cut_down.Statement.{statement}
+use Rattle.products.proofs.number.cut_down.Tie as tie
+
+module _ (c : tie.After-digits) where
+  abbrev s : tie.Start
+  s = c .before
+
+  abbrev w : ℤ
+  w = s .args .w
+
+  plain : toZ w64 (ofZ w64 w) ≡ w
+  plain = toZ-ofZ w64 w (s .fits .w)
+
+  found : c .digits .result ≡ mag w
+  found = c .digits .ensures ∙ ap mag plain
+
+  few : c .digits .result ≤ 2 ^ 61
+  few = omega (arith, found, mag-of-natAbs w {h = 2 ^ 61 + 1} (omega (arith, s .pre .0)))
+
+  zeros : leadingZeros 64 (c .digits .result * 4 + 3) ≡ room w
+  zeros = room-is w (c .digits .result) found
+
+  led : Lead (mag w) (room w)
+  led = lead-of w (omega (arith, s .pre .0))
+
+digits-requires : tie.Need-digits-requires
+digits-requires c κs = search needs
+
+mul-z : tie.Need-mul-z
+mul-z c = record { fits = omega (arith, few c) }
+
+add-z : tie.Need-add-z
+add-z c = record { fits = omega (arith, few c) }
+
+widened-requires : tie.Need-widened-requires
+widened-requires c κs = rw (plain c, zeros c) (led c .low, wide-abs (w c) (room (w c)) (led c))
+
+lowered-requires : tie.Need-lowered-requires
+lowered-requires c κs = search needs
+
+add-or-low : tie.Need-add-or-low
+add-or-low c = search needs
+
+sub-or-low : tie.Need-sub-or-low
+sub-or-low c = let d = c .before .before in omega (arith, zeros d, led d .low, s d .pre .1)
+
+or-low-requires : tie.Need-or-low-requires
+or-low-requires c κs = search needs
+
+returns : tie.Need-returns
+returns c =
+    let l = c .before in
+    let v = l .before in
+    let d = v .before in
+    cut-found (w d) (s d .args .exp) (leadingZeros 64 (d .digits .result * 4 + 3)) (v .widened .result) _ (c .or-low .result)
+    (zeros d) (led d .low) (s d .pre .1)
+    (subst (λ (t : ℤ). v .widened .result ≡ t *ℤ pos (2 ^ leadingZeros 64 (d .digits .result * 4 + 3))) (plain d) (v .widened .ensures))
+    (read (l .lowered .result) (l .lowered .ok) ∙ l .lowered .ensures ∙ ap (λ (t : ℤ). shrZ t (2 ^ 38)) (read (v .widened .result) (v .widened .ok)))
+    (subst (λ (t : ℤ). OrLow t (s d .args .exp + 2 - leadingZeros 64 (d .digits .result * 4 + 3)) (c .or-low .result)) (plain d) (c .or-low .ensures))
+
+pub cut-down-spec : {M : Type 1} → statement M
+cut-down-spec =
+    tie.close
+    (tie.spec
+    digits-requires
+    mul-z
+    add-z
+    widened-requires
+    lowered-requires
+    add-or-low
+    sub-or-low
+    or-low-requires
+    returns)

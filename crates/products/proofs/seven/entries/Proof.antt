@@ -1,0 +1,195 @@
+-- `products::seven::entries` meets its contract. The three inner loops keep the entry's sums so far, the outer ones the entries written and
+-- that none of them was refused. A refused sum or end leaves all loops with the place of its entry.
+mod Loops
+mod Reads
+mod Turns
+mod Radius
+mod Ends
+use mathlib.Core.Path.{_≡_, refl, sym, _∙_}
+use Prim.Native.Nat.{_+_, _*_}
+use native.Mathlib.Nat.{suc-mul, zero-mul}
+use native.Mathlib.Numerals.{add-one}
+use native.Mathlib.Omega.{arith}
+use Rattle.products.proofs.Fronts.{filled-none, filled-more, filled-from}
+use Rattle.products.proofs.Writing.{stop-none, stop-more, lower-is, upper-is}
+use Rattle.products.proofs.seven.entries.Statement.{statement}
+use Rattle.products.proofs.seven.entries.Tie as tie
+use Rattle.products.proofs.seven.entries.Proof.Loops.{Inv-loop2, μ-loop2, Inv-loop3, μ-loop3, Inv-loop4, μ-loop4, Inv-loop, μ-loop, Inv-search, μ-search}
+use Rattle.products.proofs.seven.entries.Proof.Loops.{In1, Head, head, N, E, sizes, place-out}
+use Rattle.products.proofs.seven.entries.Proof.Reads.{mul-a, add-a, mul-x, shared-slice-read-x, mul-b, add-b, mul-step-seven}
+use Rattle.products.proofs.seven.entries.Proof.Reads.{shared-slice-read-step-seven, mul-step-seven-2, shared-slice-read-step-seven-2, mul-a-2, add-a-2, mul-b-2, add-b-2}
+use Rattle.products.proofs.seven.entries.Proof.Reads.{mul-minus-magnitude, shared-slice-read-minus-magnitude, mul-w, shared-slice-read-w, mul-step-parts, shared-slice-read-step-parts, mul-step-parts-2}
+use Rattle.products.proofs.seven.entries.Proof.Reads.{shared-slice-read-step-parts-2, mul-magnitude, add-magnitude, mul-magnitude-2, shared-slice-read-magnitude, mul-magnitude-3, add-magnitude-2}
+use Rattle.products.proofs.seven.entries.Proof.Reads.{mul-magnitude-4, shared-slice-read-magnitude-2}
+use Rattle.products.proofs.seven.entries.Proof.Turns.{new-requires, loop2-holds, is-nonzero-requires, step-seven-requires, refused-requires, add-l, loop2-less}
+use Rattle.products.proofs.seven.entries.Proof.Turns.{loop2-again, loop3-holds, minus-magnitude-requires, adds-requires, step-parts-requires, refused-requires-2, add-l-2}
+use Rattle.products.proofs.seven.entries.Proof.Turns.{loop3-less, loop3-again}
+use Rattle.products.proofs.seven.entries.Proof.Radius.{loop4-holds, magnitude-requires, is-nonzero-requires-2, magnitude-requires-2, unpack-requires, unpack-requires-2, times-requires}
+use Rattle.products.proofs.seven.entries.Proof.Radius.{product-down-requires, plus-down-requires, is-none-requires, add-l-3, loop4-less, loop4-again}
+use Rattle.products.proofs.seven.entries.Proof.Ends.{closing, ends-requires, refused-requires-3, lower-requires, upper-requires, same-length, same-length-2, returns}
+use Rattle.products.proofs.seven.entries.Proof.Ends.{same-length-3, same-length-4, returns-2, same-length-5, same-length-6, returns-3, same-length-7, same-length-8, returns-4}
+use Rattle.products.proofs.seven.entries.Proof.Ends.{same-length-9, same-length-10, returns-5}
+
+search-holds : tie.Need-search-holds Inv-loop2 μ-loop2 Inv-loop3 μ-loop3 Inv-loop4 μ-loop4 Inv-loop μ-loop Inv-search μ-search
+search-holds c = (omega arith, sym (zero-mul _), refl, stop-none _, filled-none _ _, filled-none _ _)
+
+loop-holds : tie.Need-loop-holds Inv-loop2 μ-loop2 Inv-loop3 μ-loop3 Inv-loop4 μ-loop4 Inv-loop μ-loop Inv-search μ-search
+loop-holds c =
+    let inv = c .before .search .inv in
+    (omega arith, omega arith, inv .2, inv .3, record { long = refl; head = inv .4 .head; rest = refl }, record { long = refl; head = inv .5 .head; rest = refl })
+
+mul-lo : tie.Need-mul-lo Inv-loop2 μ-loop2 Inv-loop3 μ-loop3 Inv-loop4 μ-loop4 Inv-loop μ-loop Inv-search μ-search
+mul-lo c = omega (arith, place-out (c .before .before .before .before .before .before .before .before .before .before .before .before))
+
+slice-write-lo : tie.Need-slice-write-lo Inv-loop2 μ-loop2 Inv-loop3 μ-loop3 Inv-loop4 μ-loop4 Inv-loop μ-loop Inv-search μ-search
+slice-write-lo c = omega (arith, place-out (c .before .before .before .before .before .before .before .before .before .before .before .before))
+
+mul-up : tie.Need-mul-up Inv-loop2 μ-loop2 Inv-loop3 μ-loop3 Inv-loop4 μ-loop4 Inv-loop μ-loop Inv-search μ-search
+mul-up c = omega (arith, place-out (c .before .before .before .before .before .before .before .before .before .before .before .before .before))
+
+slice-write-up : tie.Need-slice-write-up Inv-loop2 μ-loop2 Inv-loop3 μ-loop3 Inv-loop4 μ-loop4 Inv-loop μ-loop Inv-search μ-search
+slice-write-up c = omega (arith, place-out (c .before .before .before .before .before .before .before .before .before .before .before .before .before))
+
+add-at : tie.Need-add-at Inv-loop2 μ-loop2 Inv-loop3 μ-loop3 Inv-loop4 μ-loop4 Inv-loop μ-loop Inv-search μ-search
+add-at c = omega (arith, place-out (c .before .before .before .before .before .before .before .before .before .before .before .before .before))
+
+add-j : tie.Need-add-j Inv-loop2 μ-loop2 Inv-loop3 μ-loop3 Inv-loop4 μ-loop4 Inv-loop μ-loop Inv-search μ-search
+add-j c = omega (arith, sizes (c .before .before .before .before .before .before .before .before .before .before .before .before .before .before .before .before))
+
+loop-less : tie.Need-loop-less Inv-loop2 μ-loop2 Inv-loop3 μ-loop3 Inv-loop4 μ-loop4 Inv-loop μ-loop Inv-search μ-search
+loop-less c = omega arith
+
+loop-again : tie.Need-loop-again Inv-loop2 μ-loop2 Inv-loop3 μ-loop3 Inv-loop4 μ-loop4 Inv-loop μ-loop Inv-search μ-search
+loop-again c =
+    let h : In1 = c .before .before .before .before .before .before .before .before .before .before .before .before .before in
+    let o = h .before .loop in
+    let z = place-out h in
+    let e = closing (c .before .before .before .before) .whole (sym (c .before .before .before .refused3 .ensures) ∙ c .before .before .if7 .left) in (
+      omega arith,
+      omega arith,
+      c .before .before .before .before .before .before .loop4 .inv .1,
+      stop-more (E (head h)) (o .at) _ (o .inv .3) e,
+      filled-more _ _ _ _ _ (omega arith) (c .before .lower .ensures ∙ lower-is (E (head h)) (o .at) _ e) (o .inv .4),
+      filled-more _ _ _ _ _ (omega arith) (c .upper .ensures ∙ upper-is (E (head h)) (o .at) _ e) (o .inv .5),
+    )
+
+add-i : tie.Need-add-i Inv-loop2 μ-loop2 Inv-loop3 μ-loop3 Inv-loop4 μ-loop4 Inv-loop μ-loop Inv-search μ-search
+add-i c = omega (arith, sizes (c .before .before .before))
+
+search-less : tie.Need-search-less Inv-loop2 μ-loop2 Inv-loop3 μ-loop3 Inv-loop4 μ-loop4 Inv-loop μ-loop Inv-search μ-search
+search-less c = omega arith
+
+search-again : tie.Need-search-again Inv-loop2 μ-loop2 Inv-loop3 μ-loop3 Inv-loop4 μ-loop4 Inv-loop μ-loop Inv-search μ-search
+search-again c =
+    let s : Head = c .before .before .before in
+    let next : (s .search .i + 1) * N s ≡ s .search .i * N s + N s = rw add-one (suc-mul (s .search .i) (N s)) in
+    let h = c .before .loop .inv in
+    let f = filled-from (s .search .at) _ _ _ _ _ (omega arith) (s .search .inv .4) (h .4) in
+    let g = filled-from (s .search .at) _ _ _ _ _ (omega arith) (s .search .inv .5) (h .5) in
+    (omega arith, omega arith, h .2, h .3, f, g)
+
+pub entries-spec : {M : Type 1} → statement M
+entries-spec =
+    tie.close
+    (tie.spec
+    Inv-loop2
+    μ-loop2
+    Inv-loop3
+    μ-loop3
+    Inv-loop4
+    μ-loop4
+    Inv-loop
+    μ-loop
+    Inv-search
+    μ-search
+    search-holds
+    loop-holds
+    new-requires
+    loop2-holds
+    mul-a
+    add-a
+    mul-x
+    shared-slice-read-x
+    is-nonzero-requires
+    mul-b
+    add-b
+    mul-step-seven
+    shared-slice-read-step-seven
+    mul-step-seven-2
+    shared-slice-read-step-seven-2
+    step-seven-requires
+    refused-requires
+    add-l
+    loop2-less
+    loop2-again
+    loop3-holds
+    mul-a-2
+    add-a-2
+    mul-b-2
+    add-b-2
+    mul-minus-magnitude
+    shared-slice-read-minus-magnitude
+    minus-magnitude-requires
+    mul-w
+    shared-slice-read-w
+    adds-requires
+    mul-step-parts
+    shared-slice-read-step-parts
+    mul-step-parts-2
+    shared-slice-read-step-parts-2
+    step-parts-requires
+    refused-requires-2
+    add-l-2
+    loop3-less
+    loop3-again
+    loop4-holds
+    mul-magnitude
+    add-magnitude
+    mul-magnitude-2
+    shared-slice-read-magnitude
+    magnitude-requires
+    is-nonzero-requires-2
+    mul-magnitude-3
+    add-magnitude-2
+    mul-magnitude-4
+    shared-slice-read-magnitude-2
+    magnitude-requires-2
+    unpack-requires
+    unpack-requires-2
+    times-requires
+    product-down-requires
+    plus-down-requires
+    is-none-requires
+    add-l-3
+    loop4-less
+    loop4-again
+    ends-requires
+    refused-requires-3
+    lower-requires
+    mul-lo
+    slice-write-lo
+    upper-requires
+    mul-up
+    slice-write-up
+    add-at
+    add-j
+    loop-less
+    loop-again
+    add-i
+    search-less
+    search-again
+    same-length
+    same-length-2
+    returns
+    same-length-3
+    same-length-4
+    returns-2
+    same-length-5
+    same-length-6
+    returns-3
+    same-length-7
+    same-length-8
+    returns-4
+    same-length-9
+    same-length-10
+    returns-5)

@@ -1,0 +1,175 @@
+-- The loops of `products::seven::entries`: their invariants, short names for what was passed, and the places that a turn reads and writes.
+use mathlib.Core.Path.{_≡_, _∙_}
+use mathlib.Core.List.{List}
+use mathlib.Core.Option.{Option}
+use Prim.Native.Nat.{ℕ, _+_, _-_, _*_, _≤_, _<_}
+use native.Mathlib.Omega.{arith}
+use lib.IntN.{negℤ}
+use lib.ListN.{length, getD}
+use Rattle.enclosure.specs.Methods.{Range, seven}
+use Rattle.products.specs.declared.sums.Place.the-variants.{Nowhere}
+use Rattle.products.specs.Number.{worth}
+use Rattle.products.specs.Entries.{stopOf}
+use Rattle.products.specs.MidRad.{entryFrom}
+use Rattle.products.proofs.Fronts.{Filled}
+use Rattle.products.proofs.Writing.{below, small, lowersOf, uppersOf}
+use Rattle.products.proofs.Ending.{places}
+use Rattle.products.proofs.FourEntry.{Spot, Read, MiddleSum}
+use Rattle.products.proofs.SevenEntry.{Made, PartSum, SharedSum}
+use Rattle.products.proofs.seven.entries.Tie as tie
+
+abbrev pub Inv-loop2 : tie.InvT-loop2
+Inv-loop2 m k n ma ra pa mb rb wb pb lo up place₀ at i j s₀ l₀ place s l = (l ≤ k) × (place ≡ Nowhere) × MiddleSum (record { k = k; n = n; ma = ma; ra = ra; mb = mb; rb = rb; i = i; j = j }) l s
+
+abbrev pub μ-loop2 : tie.MeasureT-loop2
+μ-loop2 m k n ma ra pa mb rb wb pb lo up place₀ at i j s₀ l₀ place s l = k - l
+
+abbrev pub Inv-loop3 : tie.InvT-loop3
+Inv-loop3 m k n ma ra pa mb rb wb pb lo up place₀ at i j s₀ l₀ place s l = (l ≤ k) × (place ≡ Nowhere) × PartSum (record { k = k; n = n; ma = ma; ra = ra; mb = mb; rb = rb; i = i; j = j }) s₀ l s
+
+abbrev pub μ-loop3 : tie.MeasureT-loop3
+μ-loop3 m k n ma ra pa mb rb wb pb lo up place₀ at i j s₀ l₀ place s l = k - l
+
+abbrev pub Inv-loop4 : tie.InvT-loop4
+Inv-loop4 m k n ma ra pa mb rb wb pb lo up place₀ at i j s radius₀ l₀ place radius l =
+    (l ≤ k) × (place ≡ Nowhere) × SharedSum (record { k = k; n = n; ma = ma; ra = ra; mb = mb; rb = rb; i = i; j = j }) (negℤ (worth (s .radius))) l radius
+
+abbrev pub μ-loop4 : tie.MeasureT-loop4
+μ-loop4 m k n ma ra pa mb rb wb pb lo up place₀ at i j s radius₀ l₀ place radius l = k - l
+
+abbrev pub Inv-loop : tie.InvT-loop
+Inv-loop m k n ma ra pa mb rb wb pb lo₀ up₀ place₀ at₀ i j₀ lo up place at j =
+    (j ≤ n) × (at ≡ at₀ + j) × (place ≡ Nowhere) × (stopOf (entryFrom seven k n ma ra mb rb) at ≡ at)
+    × Filled at (lowersOf (entryFrom seven k n ma ra mb rb)) lo₀ lo × Filled at (uppersOf (entryFrom seven k n ma ra mb rb)) up₀ up
+
+abbrev pub μ-loop : tie.MeasureT-loop
+μ-loop m k n ma ra pa mb rb wb pb lo₀ up₀ place₀ at₀ i j₀ lo up place at j = n - j
+
+abbrev pub Inv-search : tie.InvT-search
+Inv-search m k n ma ra pa mb rb wb pb lo₀ up₀ place₀ at₀ i₀ lo up place at i =
+    (i ≤ m) × (at ≡ i * n) × (place ≡ Nowhere) × (stopOf (entryFrom seven k n ma ra mb rb) at ≡ at)
+    × Filled at (lowersOf (entryFrom seven k n ma ra mb rb)) lo₀ lo × Filled at (uppersOf (entryFrom seven k n ma ra mb rb)) up₀ up
+
+abbrev pub μ-search : tie.MeasureT-search
+μ-search m k n ma ra pa mb rb wb pb lo₀ up₀ place₀ at₀ i₀ lo up place at i = m - i
+
+-- ---- a turn of each loop, the outer loop's head, and the start
+abbrev pub In4 : Type 0
+In4 = tie.In-loop4 Inv-loop2 μ-loop2 Inv-loop3 μ-loop3 Inv-loop4 μ-loop4 Inv-loop μ-loop Inv-search μ-search
+
+abbrev pub In3 : Type 0
+In3 = tie.In-loop3 Inv-loop2 μ-loop2 Inv-loop3 μ-loop3 Inv-loop4 μ-loop4 Inv-loop μ-loop Inv-search μ-search
+
+abbrev pub In2 : Type 0
+In2 = tie.In-loop2 Inv-loop2 μ-loop2 Inv-loop3 μ-loop3 Inv-loop4 μ-loop4 Inv-loop μ-loop Inv-search μ-search
+
+abbrev pub In1 : Type 0
+In1 = tie.In-loop Inv-loop2 μ-loop2 Inv-loop3 μ-loop3 Inv-loop4 μ-loop4 Inv-loop μ-loop Inv-search μ-search
+
+abbrev pub Head : Type 0
+Head = tie.At-search Inv-loop2 μ-loop2 Inv-loop3 μ-loop3 Inv-loop4 μ-loop4 Inv-loop μ-loop Inv-search μ-search
+
+abbrev pub Begin : Type 0
+Begin = tie.Start Inv-loop2 μ-loop2 Inv-loop3 μ-loop3 Inv-loop4 μ-loop4 Inv-loop μ-loop Inv-search μ-search
+
+abbrev pub begin : Head → Begin
+begin s = s .before .before .before .before .before .before .before .before .before .before
+
+abbrev pub head : In1 → Head
+head h = h .before .before .before
+
+-- ---- short names for what was passed
+abbrev pub M : Head → ℕ
+M s = begin s .args .m
+
+abbrev pub K : Head → ℕ
+K s = begin s .args .k
+
+abbrev pub N : Head → ℕ
+N s = begin s .args .n
+
+abbrev pub PA : Head → List ℕ
+PA s = begin s .args .pa .now
+
+abbrev pub WB : Head → List ℕ
+WB s = begin s .args .wb .now
+
+abbrev pub PB : Head → List ℕ
+PB s = begin s .args .pb .now
+
+pub sizes : (s : Head) → (M s ≤ 32) × (K s ≤ 32) × (N s ≤ 32)
+sizes s = (begin s .pre .0 .rows, begin s .pre .0 .inner, begin s .pre .0 .columns)
+
+abbrev pub E : Head → ℕ → Option Range
+E s = entryFrom seven (K s) (N s) (begin s .args .ma .now) (begin s .args .ra .now) (begin s .args .mb .now) (begin s .args .rb .now)
+
+-- ---- where a turn works
+abbrev pub spot : In1 → Spot
+spot h =
+    let a = begin (head h) .args in
+    record { k = a .k; n = a .n; ma = a .ma .now; ra = a .ra .now; mb = a .mb .now; rb = a .rb .now; i = head h .search .i; j = h .before .loop .j }
+
+-- what pair l of it reads
+pair : (h : In1) (l : ℕ) → l < K (head h) → Read (spot h) l (M (head h) * K (head h))
+pair h l m = places (M (head h)) (K (head h)) (N (head h)) _ _ l _ _ _ _ _ _ (begin (head h) .pre .0) (h .before .before .search-test .taken) (h .loop-test .taken) m
+
+pub made : (h : In1) (l : ℕ) → l < K (head h) → Made (spot h) l (getD (PA (head h)) (spot h .i * K (head h) + l) 0) (getD (PB (head h)) (l * N (head h) + spot h .j) 0)
+made h l m = record { first = begin (head h) .pre .1 .each _ (pair h l m .first); second = begin (head h) .pre .3 .each _ (pair h l m .second) }
+
+abbrev pub Within : In1 → ℕ → Type 0
+Within h l =
+    (spot h .i * K (head h) + l < 1024) × (l * N (head h) + spot h .j < 1024)
+    × (spot h .i * K (head h) + l < length (PA (head h))) × (l * N (head h) + spot h .j < length (WB (head h))) × (l * N (head h) + spot h .j < length (PB (head h)))
+
+bounds : (h : In1) (l : ℕ) → l < K (head h) → Within h l
+bounds h l m =
+    let p = pair h l m in
+    let q = p .first in
+    let r = p .second in
+    let x = begin (head h) .pre .1 .long in
+    let y = begin (head h) .pre .2 .long in
+    let z = begin (head h) .pre .3 .long in
+    (p .small-first, p .small-second, omega arith, omega arith, omega arith)
+
+-- the same of the pair that an inner turn is at
+abbrev pub of₂ : In2 → In1
+of₂ c = c .before .before .before
+
+pub pair₂ : (c : In2) → Read (spot (of₂ c)) (c .before .loop2 .l) (M (head (of₂ c)) * K (head (of₂ c)))
+pair₂ c = pair (of₂ c) _ (c .loop2-test .taken)
+
+pub bounds₂ : (c : In2) → Within (of₂ c) (c .before .loop2 .l)
+bounds₂ c = bounds (of₂ c) _ (c .loop2-test .taken)
+
+abbrev pub of₃ : In3 → In1
+of₃ c = c .before .before .before .before .before
+
+pub pair₃ : (c : In3) → Read (spot (of₃ c)) (c .before .loop3 .l) (M (head (of₃ c)) * K (head (of₃ c)))
+pair₃ c = pair (of₃ c) _ (c .loop3-test .taken)
+
+pub bounds₃ : (c : In3) → Within (of₃ c) (c .before .loop3 .l)
+bounds₃ c = bounds (of₃ c) _ (c .loop3-test .taken)
+
+abbrev pub of₄ : In4 → In1
+of₄ c = c .before .before .before .before .before .before .before .before
+
+pub bounds₄ : (c : In4) → Within (of₄ c) (c .before .loop4 .l)
+bounds₄ c = bounds (of₄ c) _ (c .loop4-test .taken)
+
+-- a turn leaves the results as long as they were
+pub kept : (h : In1) → (length (h .before .loop .lo) ≡ length (begin (head h) .args .lo .now)) × (length (h .before .loop .up) ≡ length (begin (head h) .args .up .now))
+kept h = (h .before .loop .inv .4 .long ∙ head h .search .inv .4 .long, h .before .loop .inv .5 .long ∙ head h .search .inv .5 .long)
+
+-- the place that it writes is below the entries' number, and so within both results
+pub place-out : (h : In1) →
+    let s : Head = head h in
+    (h .before .loop .at < M s * N s) × (h .before .loop .at < length (h .before .loop .lo)) × (h .before .loop .at < length (h .before .loop .up))
+    × (length (h .before .loop .lo) ≡ length (s .search .lo)) × (length (h .before .loop .up) ≡ length (s .search .up)) × (M s * N s ≤ 1024)
+place-out h =
+    let s : Head = head h in
+    let z = below (s .search .i) (M s) (h .before .loop .j) (N s) (omega arith) (omega arith) in
+    let e = kept h .0 in
+    let f = kept h .1 in
+    let u = begin s .pre .0 .lowers in
+    let v = begin s .pre .0 .uppers in
+    (omega arith, omega arith, omega arith, h .before .loop .inv .4 .long, h .before .loop .inv .5 .long, small (M s) (N s) (begin s .pre .0 .rows) (begin s .pre .0 .columns))

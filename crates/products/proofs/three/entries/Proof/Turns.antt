@@ -1,0 +1,177 @@
+-- The turns of the two loops over pairs of `products::three::entries`: what they call, what the sums are then, and that the invariants go on.
+use mathlib.Core.Path.{_≡_, sym, _∙_, subst}
+use mathlib.Core.Logic.{⊎-elim}
+use Prim.Native.Nat.{_+_, _*_}
+use native.Mathlib.Omega.{arith}
+use borrow.Author.Needs.{needs}
+use lib.IntN.{negℤ}
+use lib.ListN.{getD}
+use Rattle.binary32.specs.Number.{valueOf, held}
+use Rattle.products.specs.Number.{worth}
+use Rattle.products.specs.Derived.{outerOf, raisedOf, factorOf}
+use Rattle.products.proofs.Multiplying.{exactly-of}
+use Rattle.products.proofs.NearestSteps.{tiny-holds}
+use Rattle.products.proofs.FourEntry.{b-mid, b-rad, OuterSum, OuterNext, outer-start, outer-number, outer-next, outer-more, outer-skip}
+use Rattle.products.proofs.ThreeSteps.{FirstSum, FirstNext, first-start, first-numbers, first-next, first-more, first-skip, TinyNext, TinySum, tiny-next, tiny-sum, tiny-number}
+use Rattle.products.proofs.three.entries.Tie as tie
+use Rattle.products.proofs.three.entries.Proof.Loops.{Inv-loop2, μ-loop2, Inv-loop3, μ-loop3, Inv-loop, μ-loop, Inv-search, μ-search, In1, In2, In3, one2, one3, start, spot}
+use Rattle.products.proofs.three.entries.Proof.Reads.{pair2, bounds2, pair3, bounds3}
+
+-- ---- the first loop
+
+pub loop2-holds : tie.Need-loop2-holds Inv-loop2 μ-loop2 Inv-loop3 μ-loop3 Inv-loop μ-loop Inv-search μ-search
+loop2-holds c = (omega arith, c .before .before .loop .inv .2, subst (FirstSum (spot (c .before)) 0) (sym (c .new .ensures)) (first-start (spot (c .before))))
+
+pub adds-requires : tie.Need-adds-requires Inv-loop2 μ-loop2 Inv-loop3 μ-loop3 Inv-loop μ-loop Inv-search μ-search
+adds-requires c κs = search needs
+
+pub step-requires : tie.Need-step-requires Inv-loop2 μ-loop2 Inv-loop3 μ-loop3 Inv-loop μ-loop Inv-search μ-search
+step-requires c κs = first-numbers (spot (c .before .before .before .before .before .before .before .before)) _ _ (c .before .before .before .before .before .before .loop2 .inv .2)
+
+pub refused-requires : tie.Need-refused-requires Inv-loop2 μ-loop2 Inv-loop3 μ-loop3 Inv-loop μ-loop Inv-search μ-search
+refused-requires c κs = search needs
+
+pub add-l : tie.Need-add-l Inv-loop2 μ-loop2 Inv-loop3 μ-loop3 Inv-loop μ-loop Inv-search μ-search
+add-l c = omega (arith, bounds2 (c .before .before .before .before))
+
+pub loop2-less : tie.Need-loop2-less Inv-loop2 μ-loop2 Inv-loop3 μ-loop3 Inv-loop μ-loop Inv-search μ-search
+loop2-less c = omega (arith, (c .before .before .before .before) .loop2-test .taken)
+
+-- what is read of vb holds rB'
+scaled : (t : In2) →
+    let p = spot (one2 t) in
+    let l = t .before .loop2 .l in
+    held (getD (start (one2 t) .args .vb .now) (l * p .n + p .j) 0) ≡ raisedOf (factorOf (p .k)) (valueOf (b-mid p l)) (valueOf (b-rad p l))
+scaled t = start (one2 t) .pre .1 .each _ (pair2 t .second)
+
+-- the sums after a step, each a number or none
+pub first-after : (c : tie.After-step Inv-loop2 μ-loop2 Inv-loop3 μ-loop3 Inv-loop μ-loop Inv-search μ-search) →
+    let t : In2 = c .before .before .before .before .before .before in
+    FirstNext (spot (one2 t)) (t .before .loop2 .l) (c .step .result)
+first-after c =
+    let t : In2 = c .before .before .before .before .before .before in
+    let o = t .before .loop2 in
+    first-next (spot (one2 t)) (o .l) _ _ (o .s) (c .step .result) (pair2 t) (o .inv .2) (scaled t) (c .step .ensures)
+
+-- the sums after a turn, by a step or with a pair passed over
+first-turn : (c : tie.Joined1 Inv-loop2 μ-loop2 Inv-loop3 μ-loop3 Inv-loop μ-loop Inv-search μ-search) →
+    let t : In2 = c .before .before .before .before in
+    FirstSum (spot (one2 t)) (t .before .loop2 .l + 1) (c .if1 .s)
+first-turn c =
+    let t : In2 = c .before .before .before .before in
+    let p = spot (one2 t) in
+    let o = t .before .loop2 in
+    ⊎-elim {C = FirstSum p (o .l + 1) (c .if1 .s)}
+    (λ w. subst (FirstSum p (o .l + 1)) (sym (w .5)) (first-more p (o .l) _ (first-next p (o .l) _ _ (o .s) _ (pair2 t) (o .inv .2) (scaled t) (w .2 .ensures)) (sym (w .3 .ensures) ∙ w .4 .left)))
+    (λ w. subst (FirstSum p (o .l + 1)) (sym (w .1)) (first-skip p (o .l) _ (o .s) (o .inv .2) (scaled t) (sym (c .before .adds .ensures) ∙ w .0 .left)))
+    (c .if1 .came)
+
+pub loop2-again : tie.Need-loop2-again Inv-loop2 μ-loop2 Inv-loop3 μ-loop3 Inv-loop μ-loop Inv-search μ-search
+loop2-again c = (omega (arith, (c .before .before .before .before) .loop2-test .taken), (c .before .before .before .before) .before .loop2 .inv .1, first-turn c)
+
+-- ---- between the loops: all pairs, and 2^-125 more
+abbrev pub Out2 : Type 0
+Out2 = tie.After-loop2 Inv-loop2 μ-loop2 Inv-loop3 μ-loop3 Inv-loop μ-loop Inv-search μ-search
+
+pub first-all : (c : Out2) → FirstSum (spot (c .before .before .before)) (spot (c .before .before .before) .k) (c .before .loop2 .s)
+first-all c =
+    let h : In1 = c .before .before .before in
+    let all : c .before .loop2 .l ≡ spot h .k = omega arith in
+    subst (λ l. FirstSum (spot h) l (c .before .loop2 .s)) all (c .before .loop2 .inv .2)
+
+pub tiny-after : (c : tie.After-plus-down Inv-loop2 μ-loop2 Inv-loop3 μ-loop3 Inv-loop μ-loop Inv-search μ-search) →
+    let h : In1 = c .before .before .before .before .before in
+    TinyNext (spot h) (c .plus-down .result)
+tiny-after c =
+    let t : Out2 = c .before .before in
+    tiny-next (spot (t .before .before .before)) (t .before .loop2 .s) (c .before .minus-tiny .result) (c .plus-down .result) (first-all t) (c .before .minus-tiny .ensures) (c .plus-down .ensures)
+
+pub tiny-all : (c : tie.Else3 Inv-loop2 μ-loop2 Inv-loop3 μ-loop3 Inv-loop μ-loop Inv-search μ-search) →
+    let h : In1 = c .before .before .before .before .before .before .before in
+    TinySum (spot h) (c .before .before .plus-down .result)
+tiny-all c = tiny-sum (spot (c .before .before .before .before .before .before .before)) _ (tiny-after (c .before .before)) (sym (c .before .is-none .ensures) ∙ c .if3 .left)
+
+pub minus-tiny-requires : tie.Need-minus-tiny-requires Inv-loop2 μ-loop2 Inv-loop3 μ-loop3 Inv-loop μ-loop Inv-search μ-search
+minus-tiny-requires c κs = search needs
+
+pub plus-down-requires : tie.Need-plus-down-requires Inv-loop2 μ-loop2 Inv-loop3 μ-loop3 Inv-loop μ-loop Inv-search μ-search
+plus-down-requires c κs = (first-numbers (spot (c .before .before .before .before)) _ _ (c .before .before .loop2 .inv .2) .radius, tiny-holds (c .minus-tiny .result) (c .minus-tiny .ensures) .part)
+
+pub is-none-requires : tie.Need-is-none-requires Inv-loop2 μ-loop2 Inv-loop3 μ-loop3 Inv-loop μ-loop Inv-search μ-search
+is-none-requires c κs = search needs
+
+pub loop3-holds : tie.Need-loop3-holds Inv-loop2 μ-loop2 Inv-loop3 μ-loop3 Inv-loop μ-loop Inv-search μ-search
+loop3-holds c =
+    let h : In1 = c .before .before .before .before .before .before .before in
+    (omega arith, c .before .before .before .before .before .loop2 .inv .1, outer-start (spot h) _ (tiny-number (spot h) _ (tiny-all c)))
+
+-- ---- the second loop
+
+pub minus-magnitude-requires : tie.Need-minus-magnitude-requires Inv-loop2 μ-loop2 Inv-loop3 μ-loop3 Inv-loop μ-loop Inv-search μ-search
+minus-magnitude-requires c κs = search needs
+
+pub adds-requires-2 : tie.Need-adds-requires-2 Inv-loop2 μ-loop2 Inv-loop3 μ-loop3 Inv-loop μ-loop Inv-search μ-search
+adds-requires-2 c κs = search needs
+
+pub unpack-requires : tie.Need-unpack-requires Inv-loop2 μ-loop2 Inv-loop3 μ-loop3 Inv-loop μ-loop Inv-search μ-search
+unpack-requires c κs = search needs
+
+pub unpack-requires-2 : tie.Need-unpack-requires-2 Inv-loop2 μ-loop2 Inv-loop3 μ-loop3 Inv-loop μ-loop Inv-search μ-search
+unpack-requires-2 c κs = search needs
+
+pub times-requires : tie.Need-times-requires Inv-loop2 μ-loop2 Inv-loop3 μ-loop3 Inv-loop μ-loop Inv-search μ-search
+times-requires c κs = record { first = c .before .unpack .ensures .part; second = c .unpack2 .ensures .part }
+
+pub product-down-requires : tie.Need-product-down-requires Inv-loop2 μ-loop2 Inv-loop3 μ-loop3 Inv-loop μ-loop Inv-search μ-search
+product-down-requires c κs =
+    exactly-of _ _ (c .before .before .unpack .result) (c .before .unpack2 .result) (c .times .result) (c .before .before .unpack .ensures) (c .before .unpack2 .ensures) (c .times .ensures)
+
+pub plus-down-requires-2 : tie.Need-plus-down-requires-2 Inv-loop2 μ-loop2 Inv-loop3 μ-loop3 Inv-loop μ-loop Inv-search μ-search
+plus-down-requires-2 c κs =
+    let t : In3 = c .before .before .before .before .before .before .before .before .before in
+    (outer-number (spot (one3 t)) _ _ _ (t .before .loop3 .inv .2), c .product-down .ensures .part)
+
+pub is-none-requires-2 : tie.Need-is-none-requires-2 Inv-loop2 μ-loop2 Inv-loop3 μ-loop3 Inv-loop μ-loop Inv-search μ-search
+is-none-requires-2 c κs = search needs
+
+pub add-l-2 : tie.Need-add-l-2 Inv-loop2 μ-loop2 Inv-loop3 μ-loop3 Inv-loop μ-loop Inv-search μ-search
+add-l-2 c = omega (arith, bounds3 (c .before .before .before .before .before))
+
+pub loop3-less : tie.Need-loop3-less Inv-loop2 μ-loop2 Inv-loop3 μ-loop3 Inv-loop μ-loop Inv-search μ-search
+loop3-less c = omega (arith, (c .before .before .before .before .before) .loop3-test .taken)
+
+-- what is read of wb holds |mB| + rB
+wide : (t : In3) →
+    let p = spot (one3 t) in
+    let l = t .before .loop3 .l in
+    held (getD (start (one3 t) .args .wb .now) (l * p .n + p .j) 0) ≡ outerOf (valueOf (b-mid p l)) (valueOf (b-rad p l))
+wide t = start (one3 t) .pre .2 .each _ (pair3 t .second)
+
+-- the radius after a term more, a number or none
+pub outer-after : (c : tie.After-plus-down2 Inv-loop2 μ-loop2 Inv-loop3 μ-loop3 Inv-loop μ-loop Inv-search μ-search) →
+    let t : In3 = c .before .before .before .before .before .before .before .before .before .before in
+    OuterNext (spot (one3 t)) (negℤ (worth (t .before .before .before .before .plus-down .result))) (t .before .loop3 .l) (c .plus-down2 .result)
+outer-after c =
+    let t : In3 = c .before .before .before .before .before .before .before .before .before .before in
+    let o = t .before .loop3 in
+    let u = c .before .before .before .before .before .before .before .before .minus-magnitude in
+    outer-next (spot (one3 t)) (o .l) _ (u .result) _ _ (o .radius) (c .plus-down2 .result) (pair3 t) (o .inv .2) (u .ensures) (wide t)
+    (c .plus-down2 .ensures _ (c .before .product-down .ensures))
+
+-- the radius after a turn, with a term more or a pair passed over
+outer-turn : (c : tie.Joined4 Inv-loop2 μ-loop2 Inv-loop3 μ-loop3 Inv-loop μ-loop Inv-search μ-search) →
+    let t : In3 = c .before .before .before .before .before in
+    OuterSum (spot (one3 t)) (negℤ (worth (t .before .before .before .before .plus-down .result))) (t .before .loop3 .l + 1) (c .if4 .radius)
+outer-turn c =
+    let t : In3 = c .before .before .before .before .before in
+    let p = spot (one3 t) in
+    let v = negℤ (worth (t .before .before .before .before .plus-down .result)) in
+    let o = t .before .loop3 in
+    let u = c .before .before .before .minus-magnitude in
+    ⊎-elim {C = OuterSum p v (o .l + 1) (c .if4 .radius)}
+    (λ w. subst (OuterSum p v (o .l + 1)) (sym (w .8)) (outer-more p v (o .l) _ (outer-next p (o .l) _ (u .result) _ v (o .radius) _ (pair3 t) (o .inv .2) (u .ensures) (wide t) (w .5 .ensures _ (w .4 .ensures))) (sym (w .6 .ensures) ∙ w .7 .left)))
+    (λ w. subst (OuterSum p v (o .l + 1)) (sym (w .1)) (outer-skip p (o .l) (u .result) _ v (o .radius) (o .inv .2) (u .ensures) (wide t) (sym (c .before .adds2 .ensures) ∙ w .0 .left)))
+    (c .if4 .came)
+
+pub loop3-again : tie.Need-loop3-again Inv-loop2 μ-loop2 Inv-loop3 μ-loop3 Inv-loop μ-loop Inv-search μ-search
+loop3-again c = (omega (arith, (c .before .before .before .before .before) .loop3-test .taken), (c .before .before .before .before .before) .before .loop3 .inv .1, outer-turn c)

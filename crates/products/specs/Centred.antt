@@ -1,0 +1,67 @@
+-- The running sums of methods 3, 4 and 7. Definitions only, for the contracts of inner functions.
+use mathlib.Core.Bool.{Bool, true, cond}
+use mathlib.Core.Option.{Option, bind}
+use Prim.Native.Nat.{ℕ, _+_, _*_, _%_, _^_}
+use lib.Dec.{leb, ltb}
+use lib.IntN.{ℤ, _+ℤ_}
+use Rattle.rounding.specs.Format.{binary32}
+use Rattle.rounding.specs.Rounding.{up, down, near, negate}
+use Rattle.binary32.specs.Operations.{mul, with₂}
+use Rattle.binary32.specs.Order.{magnitudeOf}
+use Rattle.products.specs.declared.centred.Centred.{Centred}
+use Rattle.products.specs.declared.nearest.Nearest.{Nearest}
+use Rattle.products.specs.Number.{worth, IsNumber, Holds, Runs, zeroNumber}
+use Rattle.products.specs.Running.{plusDown}
+
+-- the pattern of -|p|, p's number
+abbrev pub minusMagnitudeOf : ℕ → ℕ
+minusMagnitudeOf p = p % 2 ^ 31 + 2 ^ 31
+
+-- u is not zero, or w is none
+unfoldable pub addsOf : ℕ → ℕ → Bool
+addsOf u w = cond (ltb 0 (magnitudeOf u)) true (leb (255 * 2 ^ 23) (magnitudeOf w))
+
+-- ---- methods 4 and 7: two centres and a radius
+
+abbrev pub zeroCentred : Centred
+zeroCentred = record { lower = zeroNumber; opposed = zeroNumber; radius = zeroNumber }
+
+pub record AllNumbers (s : Centred) : Type 0 where
+  pub lower : IsNumber (s .lower)
+  pub opposed : IsNumber (s .opposed)
+  pub radius : IsNumber (s .radius)
+
+-- r is s with x × y more in both centres, and u × v in what is the opposite of the radius
+pub record Added (s : Centred) (x y u v : ℕ) (r : Centred) : Type 0 where
+  pub lower : Holds (plusDown (worth (s .lower)) (with₂ (mul down) x y)) (r .lower)
+  pub opposed : Holds (plusDown (worth (s .opposed)) (negate (with₂ (mul up) x y))) (r .opposed)
+  pub radius : Holds (plusDown (worth (s .radius)) (with₂ (mul down) u v)) (r .radius)
+
+abbrev pub refusedCentred : Centred → Bool
+refusedCentred s = cond (ltb 653 (s .lower .exp)) true (cond (ltb 653 (s .opposed .exp)) true (ltb 653 (s .radius .exp)))
+
+-- s is the lower centre, the upper centre and the radius, the last two with the other sign, all numbers
+pub record CentredSum (low high rad : Option ℤ) (s : Centred) : Type 0 where
+  pub lower : Runs low (s .lower)
+  pub upper : Runs (negate high) (s .opposed)
+  pub radius : Runs (negate rad) (s .radius)
+
+-- ---- method 3: one centre, to nearest, and a radius
+
+abbrev pub zeroNearest : Nearest
+zeroNearest = record { centre = zeroNumber; radius = zeroNumber }
+
+pub record NearNumbers (s : Nearest) : Type 0 where
+  pub centre : IsNumber (s .centre)
+  pub radius : IsNumber (s .radius)
+
+pub record NearAdded (s : Nearest) (x y u v : ℕ) (r : Nearest) : Type 0 where
+  pub centre : Holds (bind (with₂ (mul near) x y) λ t. near binary32 1 (worth (s .centre) +ℤ t)) (r .centre)
+  pub radius : Holds (plusDown (worth (s .radius)) (with₂ (mul down) u v)) (r .radius)
+
+abbrev pub refusedNearest : Nearest → Bool
+refusedNearest s = cond (ltb 653 (s .centre .exp)) true (ltb 653 (s .radius .exp))
+
+pub record NearestSum (mid rad : Option ℤ) (s : Nearest) : Type 0 where
+  pub centre : Runs mid (s .centre)
+  pub radius : Runs (negate rad) (s .radius)

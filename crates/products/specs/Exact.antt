@@ -1,0 +1,55 @@
+-- Exact products of numbers taken apart. Definitions only, for the contracts of inner functions.
+use mathlib.Core.Path.{_≡_}
+use mathlib.Core.Bool.{true, false}
+use Prim.Native.Nat.{ℕ, _+_, _-_, _^_, _≤_, _<_}
+use lib.IntN.{ℤ, pos, negℤ, natAbs, _*ℤ_}
+use lib.Signed.{shrZ}
+use Rattle.binary32.specs.Number.{valueOf, finites}
+use Rattle.products.specs.declared.number.Number.{Number}
+use Rattle.products.specs.declared.times.Product.{Product}
+use Rattle.products.specs.Number.{worth, Part}
+use Rattle.products.specs.Cuts.{nearestOf}
+
+-- the exponents of products whose first 24 digits are a number: none of these is zero
+abbrev pub Usual : ℕ → Type 0
+Usual e = (926 ≤ e) × (e < 1179)
+
+-- p is X exactly, sig * 2 ^ exp / 2 ^ 801, in 48 digits; zero is below the usual ones
+pub record Exact (X : ℤ) (p : Product) : Type 0 where
+  pub value : p .sig *ℤ pos (2 ^ (p .exp)) ≡ X *ℤ pos (2 ^ 801)
+  pub few : natAbs (p .sig) ≤ 2 ^ 48
+  pub full : 0 < natAbs (p .sig) → 2 ^ 47 ≤ natAbs (p .sig)
+  pub some : 0 < natAbs (p .sig) → 752 ≤ p .exp
+  pub none : natAbs (p .sig) ≡ 0 → p .exp < 752
+
+-- two numbers to be multiplied, or none, and their product
+pub record Factors (x y : Number) : Type 0 where
+  pub first : Part x
+  pub second : Part y
+
+pub record ProductIs (x y : Number) (p : Product) : Type 0 where
+  pub value : p .sig *ℤ pos (2 ^ (p .exp)) ≡ worth x *ℤ worth y *ℤ pos (2 ^ 801)
+  pub few : natAbs (p .sig) ≤ 2 ^ 48
+  pub full : 0 < natAbs (p .sig) → 2 ^ 47 ≤ natAbs (p .sig)
+  pub low : x .exp + y .exp ≤ p .exp
+  pub high : p .exp ≤ x .exp + y .exp + 1
+
+-- p is the exact product of what the patterns a and b hold; where one holds none, p is above the usual ones
+pub record Exactly (a b : ℕ) (p : Product) : Type 0 where
+  pub numbers : finites a b ≡ true → Exact (valueOf a *ℤ valueOf b) p
+  pub none : finites a b ≡ false → 1179 ≤ p .exp
+
+-- 24 digits of it, rounded down
+pub record Shortened (p : Product) (r : Number) : Type 0 where
+  pub sigs : r .sig ≡ shrZ (p .sig) (2 ^ 24)
+  pub exps : r .exp ≡ p .exp - 526
+
+-- 24 digits of it, to nearest
+pub record ShortenedNear (p : Product) (r : Number) : Type 0 where
+  pub sigs : r .sig ≡ nearestOf (p .sig) (2 ^ 24)
+  pub exps : r .exp ≡ p .exp - 526
+
+-- the other sign
+pub record Turned (p r : Product) : Type 0 where
+  pub sigs : r .sig ≡ negℤ (p .sig)
+  pub exps : r .exp ≡ p .exp

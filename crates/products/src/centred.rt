@@ -1,0 +1,117 @@
+// The running sums of methods 4 and 7, a value that takes a pair of factors for the centre and one for the radius and comes back.
+// A step has a function for each loop that takes it: the compiler puts a function with one caller into its loop, and a step is too large to be put into several.
+ghost use mathlib.Core.Path.{_≡_};
+ghost use lib.Dec.{ltb};
+ghost use Rattle.binary32.specs.Order.{magnitudeOf};
+ghost use Rattle.products.specs.Centred.{AllNumbers, Added, refusedCentred, zeroCentred, minusMagnitudeOf, addsOf};
+use crate::number::Number;
+use crate::number::is_none;
+use crate::number::minus_size;
+use crate::number::zero;
+use crate::pattern::unpack;
+use crate::plus::plus_down;
+use crate::times::product_down;
+use crate::times::product_up;
+use crate::times::times;
+
+// The lower centre, and the opposites of the upper centre and of the radius: all are rounded down.
+pub struct Centred {
+    pub lower: Number,
+    pub opposed: Number,
+    pub radius: Number,
+}
+
+// The pattern of -|p|.
+pub fn minus_magnitude(p: u32) -> u32
+    ensures { λ r. ⌜ r ≡ minusMagnitudeOf p ⌝ }
+{
+    p % 0x8000_0000 + 0x8000_0000
+}
+
+// Whether a factor is not zero: a product with zero adds nothing.
+pub fn is_nonzero(p: u32) -> bool
+    ensures { λ r. ⌜ r ≡ ltb 0 (magnitudeOf p) ⌝ }
+{
+    0 < p % 0x8000_0000
+}
+
+// Whether u × w, where u is a number and w a number or none, adds something or is none.
+pub fn adds(u: u32, w: u32) -> bool
+    ensures { λ r. ⌜ r ≡ addsOf u w ⌝ }
+{
+    if is_nonzero(u) {
+        return true;
+    }
+    0x7F80_0000 <= w % 0x8000_0000
+}
+
+impl Centred {
+    pub fn new() -> Self
+        ensures { λ r. ⌜ r ≡ zeroCentred ⌝ }
+    {
+        Centred {
+            lower: zero(),
+            opposed: zero(),
+            radius: zero(),
+        }
+    }
+
+    // Method 4: x × y more in both centres, |x| × v in the radius.
+    pub fn step_four(self, x: u32, y: u32, v: u32) -> Centred
+        requires { ⌜ AllNumbers self ⌝ }
+        ensures { λ r. ⌜ Added self x y (minusMagnitudeOf x) v r ⌝ }
+    {
+        let f = unpack(x);
+        let u = minus_magnitude(x);
+        let p = times(f, unpack(y));
+        let q = times(minus_size(f), unpack(v));
+        Centred {
+            lower: plus_down(self.lower, product_down(p, x, y)),
+            opposed: plus_down(self.opposed, product_up(p, x, y)),
+            radius: plus_down(self.radius, product_down(q, u, v)),
+        }
+    }
+
+    // Method 7, with the midpoints: the same.
+    pub fn step_seven(self, x: u32, y: u32, v: u32) -> Centred
+        requires { ⌜ AllNumbers self ⌝ }
+        ensures { λ r. ⌜ Added self x y (minusMagnitudeOf x) v r ⌝ }
+    {
+        let f = unpack(x);
+        let u = minus_magnitude(x);
+        let p = times(f, unpack(y));
+        let q = times(minus_size(f), unpack(v));
+        Centred {
+            lower: plus_down(self.lower, product_down(p, x, y)),
+            opposed: plus_down(self.opposed, product_up(p, x, y)),
+            radius: plus_down(self.radius, product_down(q, u, v)),
+        }
+    }
+
+    // Method 7, with the parts: x × y more in both centres, u × v in the opposite of the radius.
+    pub fn step_parts(self, x: u32, y: u32, u: u32, v: u32) -> Centred
+        requires { ⌜ AllNumbers self ⌝ }
+        ensures { λ r. ⌜ Added self x y u v r ⌝ }
+    {
+        let p = times(unpack(x), unpack(y));
+        let q = times(unpack(u), unpack(v));
+        Centred {
+            lower: plus_down(self.lower, product_down(p, x, y)),
+            opposed: plus_down(self.opposed, product_up(p, x, y)),
+            radius: plus_down(self.radius, product_down(q, u, v)),
+        }
+    }
+
+    // Whether one of them is none.
+    pub fn refused(self) -> bool
+        ensures { λ r. ⌜ r ≡ refusedCentred self ⌝ }
+    {
+        if is_none(self.lower) {
+            return true;
+        }
+        if is_none(self.opposed) {
+            return true;
+        }
+        is_none(self.radius)
+    }
+}

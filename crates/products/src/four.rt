@@ -1,0 +1,76 @@
+// Method 4: the entries by rows, the centre rounded down for the lower end and up for the upper one, until the first that is refused.
+ghost use lib.ListN.{length};
+ghost use Prim.Native.Nat.{_*_};
+ghost use Rattle.enclosure.specs.Methods.{four};
+ghost use Rattle.products.specs.Derived.{Derived, outerOf};
+ghost use Rattle.products.specs.MidRad.{Sized, entryFrom};
+ghost use Rattle.products.specs.Entries.{Written};
+use crate::centred::Centred;
+use crate::centred::adds;
+use crate::centred::is_nonzero;
+use crate::centred::minus_magnitude;
+use crate::number::is_none;
+use crate::pattern::unpack;
+use crate::plus::plus_down;
+use crate::sums::Place;
+use crate::sums::ends;
+use crate::times::product_down;
+use crate::times::times;
+
+// From midpoints and radii; wb has |m| + r of B's cells.
+pub fn entries(
+    m: usize,
+    k: usize,
+    n: usize,
+    ma: &[u32],
+    ra: &[u32],
+    mb: &[u32],
+    rb: &[u32],
+    wb: &[u32],
+    lo: &mut [u32],
+    up: &mut [u32],
+) -> Place
+    requires { ⌜ Sized m k n (now ma) (now ra) (now mb) (now rb) (length (now lo)) (length (now up)) × Derived outerOf (k * n) (now mb) (now rb) (now wb) ⌝ }
+    ensures { λ r. ⌜ Written (entryFrom four k n (now (ma .entry)) (now (ra .entry)) (now (mb .entry)) (now (rb .entry))) m n (now (lo .entry)) (now (up .entry)) r (now (lo .exit)) (now (up .exit)) ⌝ }
+{
+    let mut place = Place::Nowhere;
+    let mut at = 0;
+    'search: for i in 0..m {
+        for j in 0..n {
+            let mut s = Centred::new();
+            for l in 0..k {
+                let a = i * k + l;
+                let x = ma[a];
+                if is_nonzero(x) {
+                    let b = l * n + j;
+                    s = s.step_four(x, mb[b], rb[b]);
+                    if s.refused() {
+                        place = Place::At(i, j);
+                        break 'search;
+                    }
+                }
+            }
+            let mut radius = s.radius;
+            for l in 0..k {
+                let u = minus_magnitude(ra[i * k + l]);
+                let w = wb[l * n + j];
+                if adds(u, w) {
+                    radius = plus_down(radius, product_down(times(unpack(u), unpack(w)), u, w));
+                    if is_none(radius) {
+                        place = Place::At(i, j);
+                        break 'search;
+                    }
+                }
+            }
+            let e = ends(s.lower, s.opposed, radius);
+            if e.refused() {
+                place = Place::At(i, j);
+                break 'search;
+            }
+            lo[at] = e.lower();
+            up[at] = e.upper();
+            at += 1;
+        }
+    }
+    place
+}

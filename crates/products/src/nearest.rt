@@ -1,0 +1,56 @@
+// The running sums of method 3, a value that takes a pair of factors for the centre and one for the radius and comes back.
+ghost use mathlib.Core.Path.{_≡_};
+ghost use Rattle.products.specs.Centred.{NearNumbers, NearAdded, refusedNearest, zeroNearest, minusMagnitudeOf};
+use crate::centred::minus_magnitude;
+use crate::number::Number;
+use crate::number::is_none;
+use crate::number::minus_size;
+use crate::number::zero;
+use crate::pattern::unpack;
+use crate::plus::plus_down;
+use crate::plus::plus_near;
+use crate::times::product_down;
+use crate::times::product_near;
+use crate::times::times;
+
+// The centre, to nearest, and the opposite of the radius.
+pub struct Nearest {
+    pub centre: Number,
+    pub radius: Number,
+}
+
+impl Nearest {
+    pub fn new() -> Self
+        ensures { λ r. ⌜ r ≡ zeroNearest ⌝ }
+    {
+        Nearest {
+            centre: zero(),
+            radius: zero(),
+        }
+    }
+
+    // x × y more in the centre, |x| × v in the radius.
+    pub fn step(self, x: u32, y: u32, v: u32) -> Nearest
+        requires { ⌜ NearNumbers self ⌝ }
+        ensures { λ r. ⌜ NearAdded self x y (minusMagnitudeOf x) v r ⌝ }
+    {
+        let f = unpack(x);
+        let u = minus_magnitude(x);
+        let p = times(f, unpack(y));
+        let q = times(minus_size(f), unpack(v));
+        Nearest {
+            centre: plus_near(self.centre, product_near(p, x, y)),
+            radius: plus_down(self.radius, product_down(q, u, v)),
+        }
+    }
+
+    // Whether one of them is none.
+    pub fn refused(self) -> bool
+        ensures { λ r. ⌜ r ≡ refusedNearest self ⌝ }
+    {
+        if is_none(self.centre) {
+            return true;
+        }
+        is_none(self.radius)
+    }
+}

@@ -1,0 +1,105 @@
+// A number taken apart, as sums are kept from their first step to the entry, and as factors are multiplied.
+ghost use mathlib.Core.Path.{_≡_};
+ghost use Prim.Native.Nat.{_^_, _≤_};
+ghost use lib.Dec.{leb, ltb};
+ghost use lib.IntN.{natAbs};
+ghost use Rattle.rounding.specs.Format.{binary32, MAX};
+ghost use Rattle.products.specs.Number.{worth, Normal, Opposite, MinusSize, zeroNumber, noNumber, minusTiny};
+ghost use Rattle.products.specs.Cuts.{CutDown, OrLow};
+use crate::shifts::digits;
+use crate::shifts::lowered;
+use crate::shifts::size;
+use crate::shifts::widened;
+
+// sig × 2^(exp - 400) units: 24 digits, or 2^24. Zero has the exponent 64, far below all others; none, a value far below all numbers, has 2000.
+pub struct Number {
+    pub sig: i64,
+    pub exp: u32,
+}
+
+pub fn zero() -> Number
+    ensures { λ r. ⌜ r ≡ zeroNumber ⌝ }
+{
+    Number { sig: 0, exp: 64 }
+}
+
+pub fn none() -> Number
+    ensures { λ r. ⌜ r ≡ noNumber ⌝ }
+{
+    Number {
+        sig: -0x80_0000,
+        exp: 2000,
+    }
+}
+
+// -2^-125: 2^23 × 2^(401 - 400) units, with the other sign.
+pub fn minus_tiny() -> Number
+    ensures { λ r. ⌜ r ≡ minusTiny ⌝ }
+{
+    Number {
+        sig: -0x80_0000,
+        exp: 401,
+    }
+}
+
+// Whether x, a number or none, is none.
+pub fn is_none(x: Number) -> bool
+    ensures { λ r. ⌜ r ≡ ltb 653 (x .exp) ⌝ }
+{
+    653 < x.exp
+}
+
+// Whether x is not beyond the largest number.
+pub fn fits(x: Number) -> bool
+    requires { ⌜ Normal x ⌝ }
+    ensures { λ r. ⌜ r ≡ leb (natAbs (worth x)) (MAX binary32) ⌝ }
+{
+    if x.exp < 653 {
+        return true;
+    }
+    if 653 < x.exp {
+        return false;
+    }
+    size(x.sig) < 0x100_0000
+}
+
+// -x
+pub fn opposite(x: Number) -> Number
+    requires { ⌜ Normal x ⌝ }
+    ensures { λ r. ⌜ Opposite x r ⌝ }
+{
+    Number {
+        sig: -x.sig,
+        exp: x.exp,
+    }
+}
+
+// -|x|
+pub fn minus_size(x: Number) -> Number
+    requires { ⌜ Normal x ⌝ }
+    ensures { λ r. ⌜ MinusSize x r ⌝ }
+{
+    if x.sig < 0 {
+        return x;
+    }
+    opposite(x)
+}
+
+// e, or the exponent of zero.
+pub fn or_low(w: i64, e: u32) -> u32
+    ensures { λ r. ⌜ OrLow w e r ⌝ }
+{
+    if w == 0 { 64 } else { e }
+}
+
+// w × 2^(exp - 436) units, rounded down to 24 digits.
+pub fn cut_down(w: i64, exp: u32) -> Number
+    requires { ⌜ (natAbs w ≤ 2 ^ 61) × (64 ≤ exp) × (exp ≤ 4000) ⌝ }
+    ensures { λ r. ⌜ CutDown w exp r ⌝ }
+{
+    let z = u64::leading_zeros(digits(w) * 4 + 3);
+    Number {
+        sig: lowered(widened(w, z), 38),
+        exp: or_low(w, exp + 2 - z),
+    }
+}

@@ -1,0 +1,82 @@
+// Method 3: the entries by rows, one centre to nearest for both ends, until the first that is refused.
+ghost use lib.ListN.{length};
+ghost use Prim.Native.Nat.{_*_};
+ghost use Rattle.enclosure.specs.Methods.{three};
+ghost use Rattle.products.specs.Derived.{Derived, outerOf, raisedOf, factorOf};
+ghost use Rattle.products.specs.MidRad.{Sized, entryFrom};
+ghost use Rattle.products.specs.Entries.{Written};
+use crate::centred::adds;
+use crate::centred::minus_magnitude;
+use crate::nearest::Nearest;
+use crate::number::is_none;
+use crate::number::minus_tiny;
+use crate::number::opposite;
+use crate::pattern::unpack;
+use crate::plus::plus_down;
+use crate::sums::Place;
+use crate::sums::ends;
+use crate::times::product_down;
+use crate::times::times;
+
+// From midpoints and radii; vb has rB' of B's cells, wb |m| + r. The radius gets 2^-125 between its two sums.
+pub fn entries(
+    m: usize,
+    k: usize,
+    n: usize,
+    ma: &[u32],
+    ra: &[u32],
+    mb: &[u32],
+    rb: &[u32],
+    vb: &[u32],
+    wb: &[u32],
+    lo: &mut [u32],
+    up: &mut [u32],
+) -> Place
+    requires { ⌜ Sized m k n (now ma) (now ra) (now mb) (now rb) (length (now lo)) (length (now up)) × Derived (raisedOf (factorOf k)) (k * n) (now mb) (now rb) (now vb) × Derived outerOf (k * n) (now mb) (now rb) (now wb) ⌝ }
+    ensures { λ r. ⌜ Written (entryFrom three k n (now (ma .entry)) (now (ra .entry)) (now (mb .entry)) (now (rb .entry))) m n (now (lo .entry)) (now (up .entry)) r (now (lo .exit)) (now (up .exit)) ⌝ }
+{
+    let mut place = Place::Nowhere;
+    let mut at = 0;
+    'search: for i in 0..m {
+        for j in 0..n {
+            let mut s = Nearest::new();
+            for l in 0..k {
+                let b = l * n + j;
+                let x = ma[i * k + l];
+                let v = vb[b];
+                if adds(x, v) {
+                    s = s.step(x, mb[b], v);
+                    if s.refused() {
+                        place = Place::At(i, j);
+                        break 'search;
+                    }
+                }
+            }
+            let mut radius = plus_down(s.radius, minus_tiny());
+            if is_none(radius) {
+                place = Place::At(i, j);
+                break 'search;
+            }
+            for l in 0..k {
+                let u = minus_magnitude(ra[i * k + l]);
+                let w = wb[l * n + j];
+                if adds(u, w) {
+                    radius = plus_down(radius, product_down(times(unpack(u), unpack(w)), u, w));
+                    if is_none(radius) {
+                        place = Place::At(i, j);
+                        break 'search;
+                    }
+                }
+            }
+            let e = ends(s.centre, opposite(s.centre), radius);
+            if e.refused() {
+                place = Place::At(i, j);
+                break 'search;
+            }
+            lo[at] = e.lower();
+            up[at] = e.upper();
+            at += 1;
+        }
+    }
+    place
+}

@@ -1,0 +1,143 @@
+// Products of numbers taken apart: exact in 48 digits, of which 24 are kept. A product that is small, large, zero or none goes by way of the patterns.
+ghost use mathlib.Core.Path.{_≡_};
+ghost use mathlib.Core.Bool.{cond, false};
+ghost use Prim.Native.Nat.{_^_, _≤_};
+ghost use lib.Dec.{ltb};
+ghost use lib.IntN.{natAbs};
+ghost use Rattle.rounding.specs.Rounding.{down, up, near, negate};
+ghost use Rattle.binary32.specs.Operations.{mul, with₂};
+ghost use Rattle.products.specs.Number.{Holds};
+ghost use Rattle.products.specs.Cuts.{nearestOf};
+ghost use Rattle.products.specs.Exact.{Factors, ProductIs, Exactly, Shortened, ShortenedNear, Turned};
+use crate::number::Number;
+use crate::pattern::unpack;
+use crate::shifts::digits;
+use crate::shifts::lowered;
+use crate::shifts::multiplied;
+use crate::shifts::odd;
+use crate::shifts::twice;
+use binary32::order::negate;
+use binary32::partial::mul_down;
+use binary32::partial::mul_near;
+
+// An exact product: sig × 2^(exp - 950) units, 48 digits.
+pub struct Product {
+    pub sig: i64,
+    pub exp: u32,
+}
+
+// x × y, exactly.
+pub fn times(x: Number, y: Number) -> Product
+    requires { ⌜ Factors x y ⌝ }
+    ensures { λ r. ⌜ ProductIs x y r ⌝ }
+{
+    let p = multiplied(x.sig, y.sig);
+    if digits(p) < 0x8000_0000_0000 {
+        return Product {
+            sig: twice(p),
+            exp: x.exp + y.exp,
+        };
+    }
+    Product {
+        sig: p,
+        exp: x.exp + y.exp + 1,
+    }
+}
+
+// Whether 24 digits of a product with the exponent e are a number, rounded either way.
+pub fn is_usual(e: u32) -> bool
+    ensures { λ r. ⌜ r ≡ cond (ltb e 926) false (ltb e 1179) ⌝ }
+{
+    if e < 926 {
+        return false;
+    }
+    e < 1179
+}
+
+// Its first 24 digits, rounded down.
+pub fn shortened(p: Product) -> Number
+    requires { ⌜ (natAbs (p .sig) ≤ 2 ^ 48) × (926 ≤ p .exp) ⌝ }
+    ensures { λ r. ⌜ Shortened p r ⌝ }
+{
+    Number {
+        sig: lowered(p.sig, 24),
+        exp: p.exp - 526,
+    }
+}
+
+// -p
+pub fn turned(p: Product) -> Product
+    requires { ⌜ natAbs (p .sig) ≤ 2 ^ 48 ⌝ }
+    ensures { λ r. ⌜ Turned p r ⌝ }
+{
+    Product {
+        sig: -p.sig,
+        exp: p.exp,
+    }
+}
+
+// a × b, rounded down, by way of the patterns.
+fn rare_down(a: u32, b: u32) -> Number
+    ensures { λ r. ⌜ Holds (with₂ (mul down) a b) r ⌝ }
+{
+    unpack(mul_down(a, b))
+}
+
+// a × b, to nearest, by way of the patterns.
+fn rare_near(a: u32, b: u32) -> Number
+    ensures { λ r. ⌜ Holds (with₂ (mul near) a b) r ⌝ }
+{
+    unpack(mul_near(a, b))
+}
+
+// The product p of a and b, rounded down.
+pub fn product_down(p: Product, a: u32, b: u32) -> Number
+    requires { ⌜ Exactly a b p ⌝ }
+    ensures { λ r. ⌜ Holds (with₂ (mul down) a b) r ⌝ }
+{
+    if is_usual(p.exp) {
+        return shortened(p);
+    }
+    rare_down(a, b)
+}
+
+// The opposite of the product p of a and b, rounded up.
+pub fn product_up(p: Product, a: u32, b: u32) -> Number
+    requires { ⌜ Exactly a b p ⌝ }
+    ensures { λ r. ⌜ Holds (negate (with₂ (mul up) a b)) r ⌝ }
+{
+    if is_usual(p.exp) {
+        return shortened(turned(p));
+    }
+    rare_down(negate(a), b)
+}
+
+// t / 2^24 to the nearest, the even one of two.
+fn near_digits(t: i64) -> i64
+    requires { ⌜ natAbs t ≤ 2 ^ 48 ⌝ }
+    ensures { λ r. ⌜ r ≡ nearestOf t (2 ^ 24) ⌝ }
+{
+    lowered(t + 0x7F_FFFF + odd(lowered(t, 24)), 24)
+}
+
+// The first 24 digits, to nearest.
+fn shortened_near(p: Product) -> Number
+    requires { ⌜ (natAbs (p .sig) ≤ 2 ^ 48) × (926 ≤ p .exp) ⌝ }
+    ensures { λ r. ⌜ ShortenedNear p r ⌝ }
+{
+    Number {
+        sig: near_digits(p.sig),
+        exp: p.exp - 526,
+    }
+}
+
+// The product p of a and b, to nearest.
+pub fn product_near(p: Product, a: u32, b: u32) -> Number
+    requires { ⌜ Exactly a b p ⌝ }
+    ensures { λ r. ⌜ Holds (with₂ (mul near) a b) r ⌝ }
+{
+    if is_usual(p.exp) {
+        return shortened_near(p);
+    }
+    rare_near(a, b)
+}
