@@ -9,7 +9,7 @@ use Rattle.rounding.specs.Rounding.{ceil, lo, hi, up, down}
 use Rattle.rounding.specs.Pattern.{val, place}
 use Rattle.enclosure.specs.Sums.{sum}
 use Rattle.enclosure.specs.Conversion.{mid, rad}
-use Rattle.enclosure.specs.Methods.{entry, ends, radius₄, centre, total, innerTerm, outerTerm, midTerm}
+use Rattle.enclosure.specs.Methods.{entry, ends, radius₄, centre, total, innerTerm, outerRadius, outerTerm, midTerm}
 use Rattle.refusals.specs.Report.{reportOf, namedOf}
 use Rattle.binary32.specs.Number.{valueOf}
 use Rattle.binary32.specs.Operations.{answer}
@@ -53,5 +53,5 @@ four : printedOf (52 ∷ sheet 0x3F800000 0x40000000 ++ sheet 0xBF800000 0x40400
 unfolding printedOf sheetsText digitValue lengthOfA productLine cellLine cellLines digit digits placesTo productOf readAs
     u16At u32At blank recordOf framed fitOf unitsOf amountOf widenedOf judgeOf visitOf walk chainOf readOf putIn sliceAfter recordBytes
     outcomeOf resultAfter checkOf checkShapes checkMethod methodOf checkSizes checkLengths checkOperands checkLent longEnough checkBoth checkCells first
-    stopOf tabulate entryAt entryOf cellAt entry radius₄ centre total sum innerTerm outerTerm midTerm faultOf answer valueOf mid rad up down lo hi ceil expo size MAX val place ends bind
+    stopOf tabulate entryAt entryOf cellAt entry radius₄ centre total sum innerTerm outerRadius outerTerm midTerm faultOf answer valueOf mid rad up down lo hi ceil expo size MAX val place ends bind
 four = refl
