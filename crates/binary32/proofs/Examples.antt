@@ -1,17 +1,15 @@
 -- Worked examples on patterns, as one computed table: what the definition gives, and what 01 says. Assumes nothing.
 use mathlib.Core.Path.{_≡_, refl}
 use mathlib.Core.List.{List, [], _∷_, map}
-use mathlib.Core.Option.{bind}
 use Prim.Native.Nat.{ℕ}
 use lib.Ieee.{size}
-use Rattle.algebra.specs.Extremes.{minℤ, maxℤ}
 use Rattle.rounding.specs.Format.{MAX, expo}
 use Rattle.rounding.specs.Rounding.{ceil, lo, hi, nr, up, down, near}
 use Rattle.rounding.specs.Pattern.{val, place}
 use Rattle.binary32.specs.declared.Rounded.{Rounded}
 use Rattle.binary32.specs.declared.Rounded.the-variants.{Number, NotFinite, Overflow}
-use Rattle.binary32.specs.Number.{valueOf, held, negated}
-use Rattle.binary32.specs.Operations.{with₂, answerOf, answer, refusalOf, addDown, addUp, addNear, subDown, subUp}
+use Rattle.binary32.specs.Number.{valueOf, negated}
+use Rattle.binary32.specs.Operations.{answer, refusalOf, addDown, addUp, addNear, subDown, subUp}
 use Rattle.binary32.specs.Operations.{mulDown, mulUp, mulNear, midpointUp}
 use Rattle.binary32.specs.Order.{magnitudeOf, leastOf, greatestOf}
 

@@ -1,5 +1,5 @@
 -- Laws of what a pattern holds: an operation on patterns is the operation on the numbers that they hold, and a number's pattern holds it.
-use mathlib.Core.Path.{_≡_, refl, sym, ap, ap₂, _∙_, subst}
+use mathlib.Core.Path.{_≡_, refl, sym, ap, ap₂, _∙_}
 use mathlib.Core.Bool.{Bool, true, false, cond}
 use mathlib.Core.Option.{Option, none, some, bind}
 use Prim.Native.Nat.{ℕ, suc, _+_, _*_, _%_, _^_, _≤_, _<_}
@@ -53,18 +53,6 @@ module _ (op : ℤ → ℤ → Option ℤ) (a b : ℕ) where
   unfolding with₂ bind
   with-some t =
       ap₂ (λ u v. bind u λ x. bind v λ y. op x y) (held-finite a (finites-first a b t)) (held-finite b (finites-second a b t))
-
-  pub with-none : finites a b ≡ false → with₂ op a b ≡ none
-  unfolding with₂ held bind
-  with-none t = go (finite a) (finite b) t
-    where
-      go : (x y : Bool) → cond x y false ≡ false → bind (cond x (some (valueOf a)) none) (λ u. bind (cond y (some (valueOf b)) none) λ v. op u v) ≡ none
-      go true true e = absurd (no (sym e))
-        where
-          no : false ≡ true → ⊥
-          no e = subst (λ x. cond x ⊥ (Unit {0})) e tt
-      go true false e = refl
-      go false y e = refl
 
 -- ---- a number's pattern is finite and has its value; a finite pattern's value is a number
 

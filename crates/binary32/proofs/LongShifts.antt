@@ -1,6 +1,6 @@
 -- A shift down past all digits and one more gives what a shift by 62 gives.
 use mathlib.Core.Path.{_≡_, sym, ap, ap₂, _∙_, subst}
-use Prim.Native.Nat.{ℕ, suc, _+_, _-_, _*_, _/_, _%_, _^_, _<_, min}
+use Prim.Native.Nat.{ℕ, suc, _+_, _*_, _/_, _%_, _^_, _<_, min}
 use native.Mathlib.Omega.{arith, min-cases}
 use native.Mathlib.Nat.{div-eq-of-lt, mod-eq-of-lt}
 use lib.Pow.{pow-mono}

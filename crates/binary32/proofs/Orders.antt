@@ -10,16 +10,16 @@ use lib.Dec.{T, leb, lit<}
 use lib.IntN.{ℤ, pos, negℤ}
 use lib.Signed.{leZ, leZ-yes}
 use Rattle.algebra.specs.Order.{_≼_, _≺_}
-use Rattle.algebra.specs.Extremes.{minℤ, maxℤ}
+use Rattle.algebra.specs.Extremes.{minℤ}
 use Rattle.algebra.proofs.Linear.{reading, le, lt, lin-lt}
 use Rattle.algebra.proofs.Order.{≼-refl, ≼-of-≺, not-≺}
 use Rattle.algebra.proofs.Natural.{of-le, to-le, of-lt}
 use Rattle.rounding.specs.Format.{binary32, MAX, Num}
 use Rattle.rounding.specs.Pattern.{val}
 use Rattle.rounding.proofs.Pattern.{val-le, val-le-back, val-injective}
-use Rattle.rounding.proofs.Sign.{neg-le, of-neg-le, pos-le-neg, neg-le-pos, num-le, num-ge}
-use Rattle.binary32.specs.Number.{signedBy, valueOf, patternOf, holdDown, holdUp}
-use Rattle.binary32.specs.Order.{keyOf, atMost, leastOf, greatestOf}
+use Rattle.rounding.proofs.Sign.{neg-le, of-neg-le, pos-le-neg, neg-le-pos, num-ge}
+use Rattle.binary32.specs.Number.{signedBy, valueOf, patternOf, holdDown}
+use Rattle.binary32.specs.Order.{keyOf, atMost, leastOf}
 use Rattle.binary32.proofs.Held.{Fits, pattern-value}
 
 -- ---- tests
@@ -84,7 +84,7 @@ key-order a b = same-test (leZ (keyOf a) (keyOf b)) (atMost a b) (λ t. up (leZ-
         signed-order (leb (2 ^ 31) a) (leb (2 ^ 31) b) (val binary32 m) (val binary32 n) m n
         (val-le-back binary32) (val-le-back binary32) none-left none-left h
 
--- ---- the infinities are beyond all numbers
+-- ---- minus infinity is below all numbers
 
 far : MAX binary32 < 2 ^ 23 * 2 ^ 254
 unfolding MAX
@@ -93,22 +93,15 @@ far = lit< tt
 below : (M K : ℕ) (v : ℤ) → M < K → negℤ (pos M) ≼ v → negℤ (pos K) ≺ v
 below M K v h k = lin-lt (pos M ∷ pos K ∷ v ∷ []) (lt (of-lt h) ∷ le k ∷ []) (search reading depth 20) (omega arith)
 
-above : (M K : ℕ) (v : ℤ) → M < K → v ≼ pos M → v ≺ pos K
-above M K v h k = lin-lt (pos M ∷ pos K ∷ v ∷ []) (lt (of-lt h) ∷ le k ∷ []) (search reading depth 20) (omega arith)
-
 pub below-all : {v : ℤ} → Num binary32 v → valueOf 0xFF800000 ≺ v
 unfolding valueOf val
 below-all {v} n = below (MAX binary32) (2 ^ 23 * 2 ^ 254) v far (num-ge n)
-
-pub above-all : {v : ℤ} → Num binary32 v → v ≺ valueOf 0x7F800000
-unfolding valueOf val
-above-all {v} n = above (MAX binary32) (2 ^ 23 * 2 ^ 254) v far (num-le n)
 
 cond-same : (t : Bool) (n : ℕ) → cond t n n ≡ n
 cond-same true n = refl
 cond-same false n = refl
 
--- ---- of two that were rounded down the lesser, of two that were rounded up the greater: one that holds none is taken
+-- ---- of two that were rounded down the lesser: one that holds none is taken
 
 pub least-hold : (x y : Option ℤ) → Fits x → Fits y
     → leastOf (holdDown x) (holdDown y) ≡ holdDown (bind x λ u. bind y λ v. some (minℤ u v))
@@ -123,21 +116,5 @@ least-hold (some u) (some v) f g =
     ap₂ (λ a b. cond (leZ a b) (patternOf u) (patternOf v)) (pattern-value (f u refl)) (pattern-value (g v refl)) ∙ go (leZ u v)
   where
     go : (t : Bool) → cond t (patternOf u) (patternOf v) ≡ patternOf (cond t u v)
-    go true = refl
-    go false = refl
-
-pub greatest-hold : (x y : Option ℤ) → Fits x → Fits y
-    → greatestOf (holdUp x) (holdUp y) ≡ holdUp (bind x λ u. bind y λ v. some (maxℤ u v))
-unfolding greatestOf maxℤ Fits bind
-greatest-hold none none f g = cond-same (atMost 0x7F800000 0x7F800000) 0x7F800000
-greatest-hold none (some v) f g =
-    ap (λ t. cond t (patternOf v) 0x7F800000) (leZ-false (subst (λ w. w ≺ valueOf 0x7F800000) (sym (pattern-value (g v refl))) (above-all (g v refl))))
-greatest-hold (some u) none f g =
-    let n : u ≼ valueOf 0x7F800000 = ≼-of-≺ (above-all (f u refl)) in
-    ap (λ t. cond t 0x7F800000 (patternOf u)) (leZ-true (subst (λ w. w ≼ valueOf 0x7F800000) (sym (pattern-value (f u refl))) n))
-greatest-hold (some u) (some v) f g =
-    ap₂ (λ a b. cond (leZ a b) (patternOf v) (patternOf u)) (pattern-value (f u refl)) (pattern-value (g v refl)) ∙ go (leZ u v)
-  where
-    go : (t : Bool) → cond t (patternOf v) (patternOf u) ≡ patternOf (cond t v u)
     go true = refl
     go false = refl

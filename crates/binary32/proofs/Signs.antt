@@ -1,6 +1,5 @@
 -- The three roundings of w * 2 ^ e / 2 ^ K, w of either sign, as the patterns of the significands w / 2 ^ t rounded three ways.
 use mathlib.Core.Path.{_≡_, sym, ap, _∙_}
-use mathlib.Core.Logic.{_⊎_, inl, inr}
 use Prim.Native.Nat.{ℕ, suc, _+_, _-_, _*_, _/_, _^_, _≤_, _<_, min}
 use native.Mathlib.Omega.{arith}
 use lib.Pow.{pow-pos}

@@ -15,7 +15,7 @@ use Rattle.rounding.specs.Format.{binary32, MAX}
 use Rattle.rounding.specs.Rounding.{up, down, negate}
 use Rattle.enclosure.specs.Sums.{sum}
 use Rattle.products.specs.declared.number.Number.{Number}
-use Rattle.products.specs.Number.{worth, Holds, Runs, IsNumber, Part, zeroNumber}
+use Rattle.products.specs.Number.{worth, Holds, Runs, IsNumber, zeroNumber}
 use Rattle.products.specs.Running.{plusDown}
 use Rattle.products.proofs.Packing.{exp-high}
 use Rattle.products.proofs.Limits.{number-holds}
@@ -40,9 +40,6 @@ holds-none (some v) x h t = true-false (sym t ∙ le-ltb 653 (x .exp) (exp-high 
 
 pub runs-holds : (m : Option ℤ) (x : Number) → Runs m x → Holds m x
 runs-holds m x r = subst (λ t. Holds t x) (sym (r .is)) (number-holds (r .number))
-
-pub runs-part : {m : Option ℤ} (x : Number) → Runs m x → Part x
-runs-part {m} x r = runs-holds m x r .part
 
 -- the start of a sum
 zero-worth : worth zeroNumber ≡ pos 0

@@ -1,7 +1,7 @@
 -- `binary32::exact::product` meets its contract: of two finite patterns `times` has the product, else there is none.
 use mathlib.Core.Path.{_≡_, sym, _∙_}
 use mathlib.Core.Bool.{true}
-use Prim.Native.Nat.{_-_, _^_}
+use Prim.Native.Nat.{_^_}
 use lib.IntN.{_*ℤ_}
 use Rattle.binary32.specs.Number.{finites}
 use Rattle.binary32.specs.Operations.{mul}

@@ -1,6 +1,6 @@
 -- `binary32::funnel::cut` meets its contract: zero by itself, else by one shift of the 61 digits that are left of its leading zeros (`cut-large`, `cut-low`).
 use mathlib.Core.Path.{_≡_, ap, ap₂, sym, subst, _∙_}
-use Prim.Native.Nat.{ℕ, _-_, _*_, _^_, _<_}
+use Prim.Native.Nat.{ℕ, _-_, _^_, _<_}
 use native.Mathlib.Omega.{arith}
 use lib.Count.{leadingZeros}
 use lib.IntN.{ℤ, pos, natAbs, _*ℤ_}
