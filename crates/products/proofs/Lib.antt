@@ -24,6 +24,7 @@ pub mod NearShifts
 pub mod NearCuts
 pub mod Marks
 pub mod NearSum
+pub mod Negatives
 pub mod Limits
 -- their products
 pub mod Found

@@ -99,7 +99,7 @@ exp-high x p = by-contra (x .exp) 653 (λ (g : 653 < x .exp). no (fits-beyond x 
     no e = subst (λ t. cond t ⊥ (Unit {0})) e tt
 
 -- ---- a number taken apart is a number of binary32
-worth-form : (x : Number) → Normal x → Form binary32 (natAbs (worth x))
+pub worth-form : (x : Number) → Normal x → Form binary32 (natAbs (worth x))
 worth-form x n = ⊎-elim high low (le-or-lt 400 (x .exp))
   where
     high : 400 ≤ x .exp → Form binary32 (natAbs (worth x))

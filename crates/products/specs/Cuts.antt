@@ -2,7 +2,7 @@
 use mathlib.Core.Path.{_≡_}
 use mathlib.Core.Bool.{Bool, true, false, cond}
 use mathlib.Core.Option.{Option, none, some}
-use Prim.Native.Nat.{ℕ, _+_, _-_, _*_, _/_, _^_, _≤_, _<_}
+use Prim.Native.Nat.{ℕ, _+_, _-_, _*_, _/_, _^_, _≤_, _<_, min}
 use lib.Dec.{leb, ltb}
 use lib.Count.{leadingZeros}
 use lib.IntN.{ℤ, pos, negsuc, natAbs, _+ℤ_, _*ℤ_}
@@ -12,6 +12,7 @@ use Rattle.algebra.specs.Order.{_≼_}
 use Rattle.rounding.specs.Format.{binary32, MAX, Form}
 use Rattle.rounding.specs.Rounding.{down, near, signed}
 use Rattle.products.specs.declared.number.Number.{Number}
+use Rattle.products.specs.declared.summands.Aligned.{Aligned}
 use Rattle.products.specs.Number.{worth, Normal}
 
 -- ---- rounding down with no upper limit
@@ -78,6 +79,11 @@ later x y = choose (ltb (x .exp) (y .exp)) y x
 
 -- ---- the steps
 
+-- w is the sum over the larger exponent, 36 places up: what the shift of the later one loses is rounded down
+pub record AlignedIs (x y : Number) (r : Aligned) : Type 0 where
+  pub exps : r .exp ≡ earlier x y .exp
+  pub sums : r .w ≡ earlier x y .sig *ℤ pos (2 ^ 36) +ℤ shrZ (later x y .sig *ℤ pos (2 ^ 36)) (2 ^ min (earlier x y .exp - later x y .exp) 61)
+
 -- how far w can be shifted up to have 62 digits
 unfoldable pub room : ℤ → ℕ
 room w = leadingZeros 64 (mag w * 4 + 3)
@@ -91,6 +97,17 @@ pub record CutDown (w : ℤ) (exp : ℕ) (r : Number) : Type 0 where
   pub sigs : r .sig ≡ shrZ (w *ℤ pos (2 ^ room w)) (2 ^ 38)
   pub none : w ≡ pos 0 → r .exp ≡ 64
   pub some : 0 < natAbs w → r .exp + room w ≡ exp + 2
+
+-- w has all its digits and is below zero, or is zero
+pub record Filled (w : ℤ) : Type 0 where
+  pub below : w ≼ pos 0
+  pub few : natAbs w ≤ 2 ^ 61
+  pub full : 0 < natAbs w → 2 ^ 59 ≤ natAbs w
+
+-- w * 2 ^ exp in 24 digits, rounded down, for w that is filled
+pub record CutNegative (w : ℤ) (exp : ℕ) (r : Number) : Type 0 where
+  pub carry : 2 ^ 60 < natAbs w → (r .sig ≡ shrZ w (2 ^ 37)) × (r .exp ≡ exp + 1)
+  pub plain : natAbs w ≤ 2 ^ 60 → (r .sig ≡ shrZ w (2 ^ 36)) × (r .exp ≡ exp)
 
 -- t / m to the nearest
 abbrev pub nearestOf : ℤ → ℕ → ℤ

@@ -5,7 +5,7 @@ use Prim.Native.Nat.{ℕ, _*_, _^_, _≤_, _<_}
 use lib.IntN.{ℤ, pos, negsuc, negℤ, natAbs, _*ℤ_}
 use lib.Signed.{shrZ}
 use Rattle.algebra.specs.Absolute.{abs}
-use Rattle.algebra.specs.Order.{_≺_}
+use Rattle.algebra.specs.Order.{_≼_, _≺_}
 use Rattle.rounding.specs.Format.{binary32, MAX}
 use Rattle.binary32.specs.Number.{held}
 use Rattle.products.specs.declared.number.Number.{Number}
@@ -36,6 +36,10 @@ minusTiny = record { sig = negsuc 8388607; exp = 401 }
 pub record IsNumber (x : Number) : Type 0 where
   pub normal : Normal x
   pub within : natAbs (worth x) ≤ MAX binary32
+
+-- x is not above zero
+abbrev pub Below : Number → Type 0
+Below x = worth x ≼ pos 0
 
 -- x is in normal form and no larger than none
 pub record Part (x : Number) : Type 0 where

@@ -2,13 +2,13 @@
 ghost use mathlib.Core.Path.{_≡_};
 ghost use Rattle.products.specs.Centred.{NearNumbers, NearAdded, refusedNearest, zeroNearest, minusMagnitudeOf};
 use crate::centred::minus_magnitude;
+use crate::near::plus_near;
 use crate::number::Number;
 use crate::number::is_none;
 use crate::number::minus_size;
 use crate::number::zero;
 use crate::pattern::unpack;
 use crate::plus::plus_down;
-use crate::plus::plus_near;
 use crate::times::product_down;
 use crate::times::product_near;
 use crate::times::times;

@@ -1,97 +1,51 @@
-// Sums of numbers taken apart: a shift, an addition, a count of leading zeros and a shift. A sum is a whole number of units, so that it has no subnormal case.
+// Sums of numbers taken apart, rounded down: a shift, an addition, a count of leading zeros and a shift. A sum is a whole number of units, so that it has no subnormal case.
 ghost use mathlib.Core.Option.{Option, bind};
-ghost use Prim.Native.Nat.{_^_, _≤_, _<_};
-ghost use mathlib.Core.Path.{_≡_};
-ghost use lib.IntN.{ℤ, natAbs, _+ℤ_};
+ghost use Prim.Native.Nat.{_≤_};
+ghost use lib.IntN.{ℤ, _+ℤ_};
 ghost use Rattle.rounding.specs.Format.{binary32};
-ghost use Rattle.rounding.specs.Rounding.{down, near};
-ghost use Rattle.products.specs.Number.{worth, Normal, IsNumber, Holds, Part};
-ghost use Rattle.products.specs.Cuts.{Summands, SumDown, SumNear, limited, limitedNear, earlier, later, nearestOf, CutNear, Marked};
+ghost use Rattle.rounding.specs.Rounding.{down};
+ghost use Rattle.products.specs.Number.{worth, Normal, IsNumber, Below, Holds, Part};
+ghost use Rattle.products.specs.Cuts.{Summands, SumDown, CutNegative, Filled, limited};
 use crate::number::Number;
 use crate::number::cut_down;
 use crate::number::fits;
 use crate::number::none;
-use crate::number::or_low;
-use crate::shifts::added;
-use crate::shifts::cap;
-use crate::shifts::digits;
 use crate::shifts::lowered;
-use crate::shifts::odd;
-use crate::shifts::raised;
-use crate::shifts::widened;
-
-// Of the two the one with the larger exponent; x where they are equal.
-fn first(x: Number, y: Number) -> Number
-    ensures { λ r. ⌜ r ≡ earlier x y ⌝ }
-{
-    if x.exp < y.exp {
-        return y;
-    }
-    x
-}
-
-// The other one.
-fn second(x: Number, y: Number) -> Number
-    ensures { λ r. ⌜ r ≡ later x y ⌝ }
-{
-    if x.exp < y.exp {
-        return x;
-    }
-    y
-}
+use crate::summands::align;
 
 // x + y, rounded down to 24 digits, with no upper limit.
 fn add_down(x: Number, y: Number) -> Number
     requires { ⌜ Summands x y ⌝ }
     ensures { λ r. ⌜ SumDown x y r ⌝ }
 {
-    let b = first(x, y);
-    let s = second(x, y);
-    let d = cap(b.exp - s.exp);
-    cut_down(added(raised(b.sig), lowered(raised(s.sig), d)), b.exp)
+    let s = align(x, y);
+    cut_down(s.w, s.exp)
 }
 
-// t / 2^38 to the nearest, the even one of two.
-fn nearest(t: i64) -> i64
-    requires { ⌜ natAbs t ≤ 2 ^ 62 ⌝ }
-    ensures { λ r. ⌜ r ≡ nearestOf t (2 ^ 38) ⌝ }
+// w × 2^(exp - 436) units, rounded down to 24 digits, for w from -2^61 to -2^59 or 0: no leading zeros are counted.
+fn cut_negative(w: i64, exp: u32) -> Number
+    requires { ⌜ Filled w × (exp ≤ 4000) ⌝ }
+    ensures { λ r. ⌜ CutNegative w exp r ⌝ }
 {
-    lowered(t + 0x1F_FFFF_FFFF + odd(lowered(t, 38)), 38)
-}
-
-// w × 2^(exp - 436) units, rounded to nearest, to 24 digits.
-fn cut_near(w: i64, exp: u32) -> Number
-    requires { ⌜ (natAbs w < 2 ^ 62) × (64 ≤ exp) × (exp ≤ 4000) ⌝ }
-    ensures { λ r. ⌜ CutNear w exp r ⌝ }
-{
-    let z = u64::leading_zeros(digits(w) * 4 + 3);
+    if w < -0x1000_0000_0000_0000 {
+        return Number {
+            sig: lowered(w, 37),
+            exp: exp + 1,
+        };
+    }
     Number {
-        sig: nearest(widened(w, z)),
-        exp: or_low(w, exp + 2 - z),
+        sig: lowered(w, 36),
+        exp: exp,
     }
 }
 
-// t / 2^n rounded down, and made odd where digits were lost.
-fn marked(t: i64, n: u32) -> i64
-    requires { ⌜ (natAbs t ≤ 2 ^ 60) × (n ≤ 61) ⌝ }
-    ensures { λ r. ⌜ Marked t (2 ^ n) r ⌝ }
+// x + y where neither is above zero, so that nothing cancels; rounded down to 24 digits, with no upper limit.
+fn add_negative(x: Number, y: Number) -> Number
+    requires { ⌜ Summands x y × Below x × Below y ⌝ }
+    ensures { λ r. ⌜ SumDown x y r ⌝ }
 {
-    let v = lowered(t, n);
-    if widened(v, n) == t {
-        return v;
-    }
-    lowered(v, 1) * 2 + 1
-}
-
-// x + y, rounded to nearest, to 24 digits, with no upper limit.
-fn add_near(x: Number, y: Number) -> Number
-    requires { ⌜ Summands x y ⌝ }
-    ensures { λ r. ⌜ SumNear x y r ⌝ }
-{
-    let b = first(x, y);
-    let s = second(x, y);
-    let d = cap(b.exp - s.exp);
-    cut_near(added(raised(b.sig), marked(raised(s.sig), d)), b.exp)
+    let s = align(x, y);
+    cut_negative(s.w, s.exp)
 }
 
 // A value of 24 digits that is beyond the largest number or near it, rounded down.
@@ -122,17 +76,6 @@ fn limit_down(x: Number) -> Number
     limit(x)
 }
 
-// A value of 24 digits, to nearest: none beyond the largest number.
-fn limit_near(x: Number) -> Number
-    requires { ⌜ Normal x × (x .exp ≤ 4002) ⌝ }
-    ensures { λ r. ⌜ Holds (limitedNear (worth x)) r ⌝ }
-{
-    if fits(x) {
-        return x;
-    }
-    none()
-}
-
 // The sum s and a partial result y more, rounded down.
 pub fn plus_down(s: Number, y: Number) -> Number
     requires { ⌜ IsNumber s × Part y ⌝ }
@@ -141,10 +84,10 @@ pub fn plus_down(s: Number, y: Number) -> Number
     limit_down(add_down(s, y))
 }
 
-// The same, to nearest.
-pub fn plus_near(s: Number, y: Number) -> Number
-    requires { ⌜ IsNumber s × Part y ⌝ }
-    ensures { λ r. ⌜ ((t : Option ℤ) → Holds t y → Holds (bind t λ v. near binary32 1 (worth s +ℤ v)) r) ⌝ }
+// The same where neither is above zero.
+pub fn plus_negative(s: Number, y: Number) -> Number
+    requires { ⌜ IsNumber s × Part y × Below s × Below y ⌝ }
+    ensures { λ r. ⌜ ((t : Option ℤ) → Holds t y → Holds (bind t λ v. down binary32 1 (worth s +ℤ v)) r) ⌝ }
 {
-    limit_near(add_near(s, y))
+    limit_down(add_negative(s, y))
 }

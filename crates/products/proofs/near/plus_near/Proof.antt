@@ -1,8 +1,8 @@
--- `products::plus::plus_near` meets its contract: by `near-plus-holds`.
+-- `products::near::plus_near` meets its contract: by `near-plus-holds`.
 use Rattle.products.proofs.Partials.{summands, near-plus-holds}
 use borrow.Author.Needs.{needs}
-use Rattle.products.proofs.plus.plus_near.Statement.{statement}
-use Rattle.products.proofs.plus.plus_near.Tie as tie
+use Rattle.products.proofs.near.plus_near.Statement.{statement}
+use Rattle.products.proofs.near.plus_near.Tie as tie
 
 add-near-requires : tie.Need-add-near-requires
 add-near-requires c κs = summands (c .args .s) (c .args .y) (c .pre .0) (c .pre .1)

@@ -1,4 +1,4 @@
--- `products::plus::nearest` meets its contract: by `near-shift`.
+-- `products::near::nearest` meets its contract: by `near-shift`.
 use mathlib.Core.Path.{refl, sym, subst}
 use Prim.Native.Nat.{_+_, _-_, _^_, _≤_, _<_}
 use native.Mathlib.Omega.{arith}
@@ -6,8 +6,8 @@ use lib.IntN.{ℤ, natAbs}
 use Rattle.products.proofs.Halves.{shr-38}
 use Rattle.products.proofs.NearShifts.{first-fits, quotient, second-fits, near-shift}
 use borrow.Author.Needs.{needs}
-use Rattle.products.proofs.plus.nearest.Statement.{statement}
-use Rattle.products.proofs.plus.nearest.Tie as tie
+use Rattle.products.proofs.near.nearest.Statement.{statement}
+use Rattle.products.proofs.near.nearest.Tie as tie
 
 few : (c : tie.Start) → natAbs (c .args .t) + (2 ^ 37 - 1) + 1 < 2 ^ 63
 few c = omega (arith, c .pre)

@@ -1,4 +1,4 @@
--- `products::plus::marked` meets its contract: the test, of the bits, says whether the quotient is exact.
+-- `products::near::marked` meets its contract: the test, of the bits, says whether the quotient is exact.
 use mathlib.Core.Path.{_≡_, ap, _∙_, subst, sym}
 use Prim.Native.Nat.{_*_, _^_, _≤_}
 use native.Mathlib.Omega.{arith}
@@ -14,8 +14,8 @@ use Rattle.binary32.proofs.Ints.{read}
 use Rattle.binary32.proofs.Rests.{shr-less}
 use Rattle.products.proofs.Halves.{shr-back, double-few, marked-kept, marked-lost}
 use borrow.Author.Needs.{needs}
-use Rattle.products.proofs.plus.marked.Statement.{statement}
-use Rattle.products.proofs.plus.marked.Tie as tie
+use Rattle.products.proofs.near.marked.Statement.{statement}
+use Rattle.products.proofs.near.marked.Tie as tie
 
 module _ (c : tie.After-lowered) where
   abbrev s : tie.Start

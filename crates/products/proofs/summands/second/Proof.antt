@@ -1,7 +1,7 @@
--- `products::plus::second` meets its contract: by its test, which is that of `later`.
+-- `products::summands::second` meets its contract: by its test, which is that of `later`.
 use Rattle.products.proofs.Ordering.{second-x, second-y}
-use Rattle.products.proofs.plus.second.Statement.{statement}
-use Rattle.products.proofs.plus.second.Tie as tie
+use Rattle.products.proofs.summands.second.Statement.{statement}
+use Rattle.products.proofs.summands.second.Tie as tie
 
 returns : tie.Need-returns
 returns c =

@@ -1,4 +1,4 @@
--- `products::plus::add_near` meets its contract: `first` and `second` put the summands in order, and their sum is that of `near-sum-found`.
+-- `products::near::add_near` meets its contract: `first` and `second` put the summands in order, and their sum is that of `near-sum-found`.
 use mathlib.Core.Path.{_≡_, ap, sym, subst, _∙_}
 use Prim.Native.Nat.{ℕ, _+_, _-_, _^_, _≤_, _<_, min}
 use lib.Pow.{pow-pos}
@@ -16,8 +16,8 @@ use Rattle.products.proofs.FarShifts.{raised-abs}
 use Rattle.products.proofs.Marks.{marked-few}
 use Rattle.products.proofs.Found.{near-sum-found}
 use borrow.Author.Needs.{needs}
-use Rattle.products.proofs.plus.add_near.Statement.{statement}
-use Rattle.products.proofs.plus.add_near.Tie as tie
+use Rattle.products.proofs.near.add_near.Statement.{statement}
+use Rattle.products.proofs.near.add_near.Tie as tie
 
 -- the summands in order
 module _ (c : tie.After-second) where

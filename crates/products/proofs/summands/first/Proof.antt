@@ -1,7 +1,7 @@
--- `products::plus::first` meets its contract: by its test, which is that of `earlier`.
+-- `products::summands::first` meets its contract: by its test, which is that of `earlier`.
 use Rattle.products.proofs.Ordering.{first-y, first-x}
-use Rattle.products.proofs.plus.first.Statement.{statement}
-use Rattle.products.proofs.plus.first.Tie as tie
+use Rattle.products.proofs.summands.first.Statement.{statement}
+use Rattle.products.proofs.summands.first.Tie as tie
 
 returns : tie.Need-returns
 returns c =

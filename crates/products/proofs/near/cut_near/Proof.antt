@@ -1,4 +1,4 @@
--- `products::plus::cut_near` meets its contract: the shift up does not overflow (`wide-abs`), and the exponent does not go below 0.
+-- `products::near::cut_near` meets its contract: the shift up does not overflow (`wide-abs`), and the exponent does not go below 0.
 use mathlib.Core.Path.{_≡_, ap, subst, _∙_}
 use Prim.Native.Nat.{_+_, _-_, _*_, _^_, _<_}
 use native.Mathlib.Omega.{arith}
@@ -15,8 +15,8 @@ use Rattle.products.specs.Cuts.{room, OrLow}
 use Rattle.products.proofs.Leading.{Lead, lead-of, wide-abs}
 use Rattle.products.proofs.Cutting.{near-cut-found, room-is}
 use borrow.Author.Needs.{needs}
-use Rattle.products.proofs.plus.cut_near.Statement.{statement}
-use Rattle.products.proofs.plus.cut_near.Tie as tie
+use Rattle.products.proofs.near.cut_near.Statement.{statement}
+use Rattle.products.proofs.near.cut_near.Tie as tie
 
 module _ (c : tie.After-digits) where
   abbrev s : tie.Start

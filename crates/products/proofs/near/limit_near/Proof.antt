@@ -1,11 +1,11 @@
--- `products::plus::limit_near` meets its contract: by `limit-near-fits` and `limit-near-over`.
+-- `products::near::limit_near` meets its contract: by `limit-near-fits` and `limit-near-over`.
 use mathlib.Core.Path.{sym, _∙_, subst}
 use Rattle.products.specs.Number.{worth, Holds}
 use Rattle.products.specs.Cuts.{limitedNear}
 use Rattle.products.proofs.Limits.{limit-near-fits, limit-near-over}
 use borrow.Author.Needs.{needs}
-use Rattle.products.proofs.plus.limit_near.Statement.{statement}
-use Rattle.products.proofs.plus.limit_near.Tie as tie
+use Rattle.products.proofs.near.limit_near.Statement.{statement}
+use Rattle.products.proofs.near.limit_near.Tie as tie
 
 fits-requires : tie.Need-fits-requires
 fits-requires c κs = search needs

@@ -1,0 +1,84 @@
+// Sums of numbers taken apart, to nearest: as those rounded down, with a last digit that stands for what the first shift lost.
+ghost use mathlib.Core.Option.{Option, bind};
+ghost use Prim.Native.Nat.{_^_, _≤_, _<_};
+ghost use mathlib.Core.Path.{_≡_};
+ghost use lib.IntN.{ℤ, natAbs, _+ℤ_};
+ghost use Rattle.rounding.specs.Format.{binary32};
+ghost use Rattle.rounding.specs.Rounding.{near};
+ghost use Rattle.products.specs.Number.{worth, Normal, IsNumber, Holds, Part};
+ghost use Rattle.products.specs.Cuts.{Summands, SumNear, limitedNear, nearestOf, CutNear, Marked};
+use crate::number::Number;
+use crate::number::fits;
+use crate::number::none;
+use crate::number::or_low;
+use crate::shifts::added;
+use crate::shifts::cap;
+use crate::shifts::digits;
+use crate::shifts::lowered;
+use crate::shifts::odd;
+use crate::shifts::raised;
+use crate::shifts::widened;
+use crate::summands::first;
+use crate::summands::second;
+
+// t / 2^38 to the nearest, the even one of two.
+fn nearest(t: i64) -> i64
+    requires { ⌜ natAbs t ≤ 2 ^ 62 ⌝ }
+    ensures { λ r. ⌜ r ≡ nearestOf t (2 ^ 38) ⌝ }
+{
+    lowered(t + 0x1F_FFFF_FFFF + odd(lowered(t, 38)), 38)
+}
+
+// w × 2^(exp - 436) units, rounded to nearest, to 24 digits.
+fn cut_near(w: i64, exp: u32) -> Number
+    requires { ⌜ (natAbs w < 2 ^ 62) × (64 ≤ exp) × (exp ≤ 4000) ⌝ }
+    ensures { λ r. ⌜ CutNear w exp r ⌝ }
+{
+    let z = u64::leading_zeros(digits(w) * 4 + 3);
+    Number {
+        sig: nearest(widened(w, z)),
+        exp: or_low(w, exp + 2 - z),
+    }
+}
+
+// t / 2^n rounded down, and made odd where digits were lost.
+fn marked(t: i64, n: u32) -> i64
+    requires { ⌜ (natAbs t ≤ 2 ^ 60) × (n ≤ 61) ⌝ }
+    ensures { λ r. ⌜ Marked t (2 ^ n) r ⌝ }
+{
+    let v = lowered(t, n);
+    if widened(v, n) == t {
+        return v;
+    }
+    lowered(v, 1) * 2 + 1
+}
+
+// x + y, rounded to nearest, to 24 digits, with no upper limit.
+fn add_near(x: Number, y: Number) -> Number
+    requires { ⌜ Summands x y ⌝ }
+    ensures { λ r. ⌜ SumNear x y r ⌝ }
+{
+    let b = first(x, y);
+    let s = second(x, y);
+    let d = cap(b.exp - s.exp);
+    cut_near(added(raised(b.sig), marked(raised(s.sig), d)), b.exp)
+}
+
+// A value of 24 digits, to nearest: none beyond the largest number.
+fn limit_near(x: Number) -> Number
+    requires { ⌜ Normal x × (x .exp ≤ 4002) ⌝ }
+    ensures { λ r. ⌜ Holds (limitedNear (worth x)) r ⌝ }
+{
+    if fits(x) {
+        return x;
+    }
+    none()
+}
+
+// The sum s and a partial result y more, to nearest.
+pub fn plus_near(s: Number, y: Number) -> Number
+    requires { ⌜ IsNumber s × Part y ⌝ }
+    ensures { λ r. ⌜ ((t : Option ℤ) → Holds t y → Holds (bind t λ v. near binary32 1 (worth s +ℤ v)) r) ⌝ }
+{
+    limit_near(add_near(s, y))
+}

@@ -1,0 +1,48 @@
+// Two summands over one exponent, the larger of theirs.
+ghost use mathlib.Core.Path.{_≡_};
+ghost use Rattle.products.specs.Cuts.{Summands, AlignedIs, earlier, later};
+use crate::number::Number;
+use crate::shifts::added;
+use crate::shifts::cap;
+use crate::shifts::lowered;
+use crate::shifts::raised;
+
+// Of the two the one with the larger exponent; x where they are equal.
+pub fn first(x: Number, y: Number) -> Number
+    ensures { λ r. ⌜ r ≡ earlier x y ⌝ }
+{
+    if x.exp < y.exp {
+        return y;
+    }
+    x
+}
+
+// The other one.
+pub fn second(x: Number, y: Number) -> Number
+    ensures { λ r. ⌜ r ≡ later x y ⌝ }
+{
+    if x.exp < y.exp {
+        return x;
+    }
+    y
+}
+
+// w × 2^(exp - 436) units
+pub struct Aligned {
+    pub w: i64,
+    pub exp: u32,
+}
+
+// x + y: exact, or of at least 58 digits and rounded down.
+pub fn align(x: Number, y: Number) -> Aligned
+    requires { ⌜ Summands x y ⌝ }
+    ensures { λ r. ⌜ AlignedIs x y r ⌝ }
+{
+    let b = first(x, y);
+    let s = second(x, y);
+    let d = cap(b.exp - s.exp);
+    Aligned {
+        w: added(raised(b.sig), lowered(raised(s.sig), d)),
+        exp: b.exp,
+    }
+}
