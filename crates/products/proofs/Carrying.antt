@@ -10,12 +10,14 @@ use native.Mathlib.Omega.{arith}
 use lib.Dec.{ltb}
 use lib.IntN.{ℤ, pos, negℤ, natAbs, _+ℤ_, _*ℤ_, negℤ-negℤ}
 use borrow.Author.Tests.{lt-ltb, le-ltb}
+use Rattle.algebra.specs.Order.{_≼_}
 use Rattle.algebra.proofs.Linear.{reading, lin-eq}
+use Rattle.algebra.proofs.Order.{≼-refl}
 use Rattle.rounding.specs.Format.{binary32, MAX}
 use Rattle.rounding.specs.Rounding.{up, down, negate}
 use Rattle.enclosure.specs.Sums.{sum}
 use Rattle.products.specs.declared.number.Number.{Number}
-use Rattle.products.specs.Number.{worth, Holds, Runs, IsNumber, zeroNumber}
+use Rattle.products.specs.Number.{worth, Below, Holds, Runs, IsNumber, zeroNumber}
 use Rattle.products.specs.Running.{plusDown}
 use Rattle.products.proofs.Packing.{exp-high}
 use Rattle.products.proofs.Limits.{number-holds}
@@ -57,6 +59,9 @@ zero-runs = record {
   where
     no : 0 < 0 → ⊥
     no h = omega arith
+
+pub zero-below : Below zeroNumber
+zero-below = subst (λ t. t ≼ pos 0) (sym zero-worth) (≼-refl (pos 0))
 
 -- ---- a term more
 module _ (add : ℤ → Option ℤ) (f : ℕ → Option ℤ) (s : ℤ) where

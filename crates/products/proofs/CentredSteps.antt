@@ -12,24 +12,27 @@ use Rattle.enclosure.specs.Sums.{sum}
 use Rattle.binary32.specs.Operations.{mul, with₂}
 use Rattle.products.specs.declared.number.Number.{Number}
 use Rattle.products.specs.declared.centred.Centred.{Centred}
-use Rattle.products.specs.Number.{worth, IsNumber, Holds, Runs}
+use Rattle.binary32.specs.Order.{magnitudeOf}
+use Rattle.products.specs.Number.{worth, IsNumber, Below, Holds, Runs}
 use Rattle.products.specs.Running.{plusDown}
 use Rattle.products.specs.Centred.{zeroCentred, AllNumbers, Added, refusedCentred, CentredSum}
 use Rattle.products.proofs.Or.{or-first, or-second, or-cases}
-use Rattle.products.proofs.Carrying.{holds-runs, holds-none, zero-runs, negate-none, down-more, up-more, sum-stays}
+use Rattle.products.proofs.Carrying.{holds-runs, holds-none, zero-runs, zero-below, negate-none, down-more, up-more, sum-stays}
+use Rattle.products.proofs.Radii.{grown-below}
 
 -- the same where each of the three is a number or none
 pub record CentredHolds (low high rad : Option ℤ) (s : Centred) : Type 0 where
   pub lower : Holds low (s .lower)
   pub upper : Holds (negate high) (s .opposed)
   pub radius : Holds (negate rad) (s .radius)
+  pub below : Below (s .radius)
 
 -- one of three partial results is none
 abbrev pub OneNone : Option ℤ → Option ℤ → Option ℤ → Type 0
 OneNone low high rad = (low ≡ none) ⊎ ((high ≡ none) ⊎ (rad ≡ none))
 
 pub all-numbers : {low high rad : Option ℤ} (s : Centred) → CentredSum low high rad s → AllNumbers s
-all-numbers s h = record { lower = h .lower .number; opposed = h .upper .number; radius = h .radius .number }
+all-numbers s h = record { lower = h .lower .number; opposed = h .upper .number; radius = h .radius .number; below = h .below }
 
 -- ---- a test of the three
 module _ (low high rad : Option ℤ) (s : Centred) (h : CentredHolds low high rad s) where
@@ -40,6 +43,7 @@ module _ (low high rad : Option ℤ) (s : Centred) (h : CentredHolds low high ra
         lower = holds-runs low (s .lower) (h .lower) (or-first (ltb 653 (s .lower .exp)) _ e);
         upper = holds-runs (negate high) (s .opposed) (h .upper) (or-first (ltb 653 (s .opposed .exp)) (ltb 653 (s .radius .exp)) f);
         radius = holds-runs (negate rad) (s .radius) (h .radius) (or-second (ltb 653 (s .opposed .exp)) (ltb 653 (s .radius .exp)) f);
+        below = h .below;
       }
 
   pub centred-none : refusedCentred s ≡ true → OneNone low high rad
@@ -56,13 +60,14 @@ module _ (low high rad : Option ℤ) (s : Centred) (h : CentredHolds low high ra
 -- ---- the three sums of terms f, g and h, from a, b and c
 module _ (f g h : ℕ → Option ℤ) (a b c : ℤ) where
   pub centred-more : (l : ℕ) (s r : Centred) (x y u v : ℕ) → CentredSum (sum (down binary32 1) f a l) (sum (up binary32 1) g b l) (sum (up binary32 1) h c l) s → Added s x y u v r
-      → f l ≡ with₂ (mul down) x y → g l ≡ with₂ (mul up) x y → with₂ (mul down) u v ≡ negate (h l)
+      → f l ≡ with₂ (mul down) x y → g l ≡ with₂ (mul up) x y → h l ≡ with₂ (mul up) (magnitudeOf u) (magnitudeOf v)
       → CentredHolds (sum (down binary32 1) f a (l + 1)) (sum (up binary32 1) g b (l + 1)) (sum (up binary32 1) h c (l + 1)) r
   centred-more l s r x y u v S A e d q =
       record {
         lower = down-more f a l (s .lower) (r .lower) (with₂ (mul down) x y) (S .lower) e (A .lower);
         upper = up-more g b l (s .opposed) (r .opposed) (with₂ (mul up) x y) (S .upper) d (A .opposed);
-        radius = up-more h c l (s .radius) (r .radius) (h l) (S .radius) refl (subst (λ t. Holds (plusDown (worth (s .radius)) t) (r .radius)) q (A .radius));
+        radius = up-more h c l (s .radius) (r .radius) (with₂ (mul up) (magnitudeOf u) (magnitudeOf v)) (S .radius) q (A .radius);
+        below = grown-below (s .radius) u v (r .radius) (S .below) (A .radius);
       }
 
   -- a refusal stays
@@ -75,7 +80,7 @@ module _ (f g h : ℕ → Option ℤ) (a b c : ℤ) where
 -- sums of no terms
 pub centred-none-yet : (f g h : ℕ → Option ℤ) → CentredSum (sum (down binary32 1) f (pos 0) 0) (sum (up binary32 1) g (pos 0) 0) (sum (up binary32 1) h (pos 0) 0) zeroCentred
 unfolding sum
-centred-none-yet f g h = record { lower = zero-runs; upper = zero-runs; radius = zero-runs }
+centred-none-yet f g h = record { lower = zero-runs; upper = zero-runs; radius = zero-runs; below = zero-below }
 
 -- sums that go on from numbers
 pub centred-from : (f g h : ℕ → Option ℤ) (low high rad : Option ℤ) (s : Centred) → CentredSum low high rad s
@@ -86,6 +91,7 @@ centred-from f g h low high rad s S =
       lower = record { is = refl; number = S .lower .number };
       upper = record { is = ap some (negℤ-negℤ (worth (s .opposed))); number = S .upper .number };
       radius = record { is = ap some (negℤ-negℤ (worth (s .radius))); number = S .radius .number };
+      below = S .below;
     }
 
 -- ---- a radius alone, kept with the other sign

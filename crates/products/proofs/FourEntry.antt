@@ -21,16 +21,18 @@ use Rattle.binary32.specs.Order.{magnitudeOf}
 use Rattle.products.specs.declared.number.Number.{Number}
 use Rattle.products.specs.declared.centred.Centred.{Centred}
 use Rattle.products.specs.declared.sums.Sums.{Sums}
-use Rattle.products.specs.Number.{worth, IsNumber, Holds, Runs}
-use Rattle.products.specs.Running.{plusDown, Ended}
-use Rattle.products.specs.Centred.{minusMagnitudeOf, addsOf, zeroCentred, AllNumbers, Added, refusedCentred, CentredSum}
+use Rattle.products.specs.Number.{worth, IsNumber, Below, Holds, Runs}
+use Rattle.products.specs.Running.{Ended}
+use Rattle.products.specs.Centred.{addsOf, zeroCentred, AllNumbers, Added, Grown, refusedCentred, CentredSum}
 use Rattle.products.specs.Derived.{outerOf}
 use Rattle.products.specs.MidRad.{midRadAt, entryFrom}
 use Rattle.products.proofs.Writing.{place-entry-from}
-use Rattle.products.proofs.Carrying.{holds-runs, holds-none, mirrored-is, negate-none, sum-stays}
+use Rattle.products.proofs.Carrying.{holds-runs, holds-none, mirrored-is, negate-none, up-more, sum-stays}
+use Rattle.products.proofs.CornerTerms.{zero-value}
+use Rattle.products.proofs.Radii.{grown-below}
 use Rattle.products.proofs.MidRadSteps.{mid-is, inner-is, outer-is}
-use Rattle.products.proofs.CentredSteps.{CentredHolds, OneNone, all-numbers, centred-runs, centred-none, centred-more, centred-none-yet, one-stays, radius-from, radius-more}
-use Rattle.products.proofs.Zeros.{up-same, centred-same, is-zero, minus-zero, adds-not, down-zero, up-zero, mid-zero, inner-zero, outer-zero}
+use Rattle.products.proofs.CentredSteps.{CentredHolds, OneNone, all-numbers, centred-runs, centred-none, centred-more, centred-none-yet, one-stays, radius-from}
+use Rattle.products.proofs.Zeros.{up-same, centred-same, is-zero, adds-not, down-zero, up-zero, mid-zero, inner-zero, outer-zero}
 use Rattle.products.proofs.Ending.{ends-none, Closes, closes, Places}
 
 -- an entry's row i and column j, and the midpoints and radii of A (k columns) and of B (n columns)
@@ -96,13 +98,13 @@ module _ (p : Spot) where
   unfolding MiddleSum
   middle-numbers l s S = all-numbers s S
 
-  pub middle-next : (l size u : ℕ) (s r : Centred) → Read l size → MiddleSum l s → u ≡ minusMagnitudeOf (a-mid l) → Added s (a-mid l) (b-mid l) u (b-rad l) r → MiddleNext l r
+  pub middle-next : (l size : ℕ) (s r : Centred) → Read l size → MiddleSum l s → Added s (a-mid l) (b-mid l) (a-mid l) (b-rad l) r → MiddleNext l r
   unfolding MiddleSum MiddleNext middles inners
-  middle-next l size u s r P S e A =
-      centred-more _ _ _ (pos 0) (pos 0) (pos 0) l s r (a-mid l) (b-mid l) u (b-rad l) S A
+  middle-next l size s r P S A =
+      centred-more _ _ _ (pos 0) (pos 0) (pos 0) l s r (a-mid l) (b-mid l) (a-mid l) (b-rad l) S A
       (mid-is (a-mid l) (a-rad l) (b-mid l) (b-rad l) down (P .cell-first .mid) (P .cell-second .mid))
       (mid-is (a-mid l) (a-rad l) (b-mid l) (b-rad l) up (P .cell-first .mid) (P .cell-second .mid))
-      (ap (λ t. with₂ (mul down) t (b-rad l)) e ∙ inner-is (a-mid l) (a-rad l) (b-mid l) (b-rad l) (P .cell-first .mid) (P .cell-second .rad))
+      (inner-is (a-mid l) (a-rad l) (b-mid l) (b-rad l) (P .cell-first .mid) (P .cell-second .rad) (P .cell-second .nonneg))
 
   pub middle-more : (l : ℕ) (r : Centred) → MiddleNext l r → refusedCentred r ≡ false → MiddleSum (l + 1) r
   unfolding MiddleSum MiddleNext
@@ -124,44 +126,41 @@ module _ (p : Spot) where
   outers v l = sum (up binary32 1) (λ l. outerTerm (of binary32) (left l) (right l)) v l
 
   unfoldable pub OuterSum : ℤ → ℕ → Number → Type 0
-  OuterSum v l x = Runs (negate (outers v l)) x
+  OuterSum v l x = Runs (negate (outers v l)) x × Below x
 
   unfoldable pub OuterNext : ℤ → ℕ → Number → Type 0
-  OuterNext v l x = Holds (negate (outers v (l + 1))) x
+  OuterNext v l x = Holds (negate (outers v (l + 1))) x × Below x
 
-  pub outer-start : (x : Number) → IsNumber x → OuterSum (negℤ (worth x)) 0 x
+  pub outer-start : (x : Number) → IsNumber x → Below x → OuterSum (negℤ (worth x)) 0 x
   unfolding OuterSum outers
-  outer-start x N = radius-from _ x N
+  outer-start x N B = (radius-from _ x N, B)
 
-  pub outer-number : (v : ℤ) (l : ℕ) (x : Number) → OuterSum v l x → IsNumber x
+  pub outer-number : (v : ℤ) (l : ℕ) (x : Number) → OuterSum v l x → IsNumber x × Below x
   unfolding OuterSum
-  outer-number v l x S = S .number
+  outer-number v l x S = (S .0 .number, S .1)
 
-  pub outer-term : (l size u w : ℕ) → Read l size → u ≡ minusMagnitudeOf (a-rad l) → held w ≡ outerOf (valueOf (b-mid l)) (valueOf (b-rad l))
-      → with₂ (mul down) u w ≡ negate (outerTerm (of binary32) (left l) (right l))
-  outer-term l size u w P e h =
-      ap (λ t. with₂ (mul down) t w) e ∙ outer-is (a-mid l) (a-rad l) (b-mid l) (b-rad l) w (P .cell-first .rad) (P .cell-first .nonneg) h
+  pub outer-term : (l size w : ℕ) → Read l size → held w ≡ outerOf (valueOf (b-mid l)) (valueOf (b-rad l))
+      → outerTerm (of binary32) (left l) (right l) ≡ with₂ (mul up) (magnitudeOf (a-rad l)) (magnitudeOf w)
+  outer-term l size w P h = outer-is (a-mid l) (a-rad l) (b-mid l) (b-rad l) w (P .cell-first .rad) (P .cell-first .nonneg) (P .cell-second .nonneg) h
 
-  pub outer-next : (l size u w : ℕ) (v : ℤ) (s r : Number) → Read l size → OuterSum v l s → u ≡ minusMagnitudeOf (a-rad l) → held w ≡ outerOf (valueOf (b-mid l)) (valueOf (b-rad l))
-      → Holds (plusDown (worth s) (with₂ (mul down) u w)) r → OuterNext v l r
+  pub outer-next : (l size w : ℕ) (v : ℤ) (s r : Number) → Read l size → OuterSum v l s → held w ≡ outerOf (valueOf (b-mid l)) (valueOf (b-rad l)) → Grown s (a-rad l) w r → OuterNext v l r
   unfolding OuterSum OuterNext outers
-  outer-next l size u w v s r P S e h H = radius-more _ v l s r (with₂ (mul down) u w) S (outer-term l size u w P e h) H
+  outer-next l size w v s r P S h G = (up-more _ v l s r _ (S .0) (outer-term l size w P h) G, grown-below s (a-rad l) w r (S .1) G)
 
   pub outer-more : (v : ℤ) (l : ℕ) (r : Number) → OuterNext v l r → ltb 653 (r .exp) ≡ false → OuterSum v (l + 1) r
   unfolding OuterSum OuterNext
-  outer-more v l r H t = holds-runs _ r H t
+  outer-more v l r H t = (holds-runs _ r (H .0) t, H .1)
 
   pub outer-none : (v : ℤ) (l : ℕ) (r : Number) → OuterNext v l r → l < p .k → ltb 653 (r .exp) ≡ true → outers v (p .k) ≡ none
   unfolding OuterNext outers
-  outer-none v l r H m t = sum-stays (up binary32 1) _ v l (p .k) m (negate-none _ (holds-none _ r H t))
+  outer-none v l r H m t = sum-stays (up binary32 1) _ v l (p .k) m (negate-none _ (holds-none _ r (H .0) t))
 
   -- a radius of A that is zero adds nothing where w is a number
-  pub outer-skip : (l u w : ℕ) (v : ℤ) (x : Number) → OuterSum v l x → u ≡ minusMagnitudeOf (a-rad l) → held w ≡ outerOf (valueOf (b-mid l)) (valueOf (b-rad l)) → addsOf u w ≡ false
-      → OuterSum v (l + 1) x
+  pub outer-skip : (l w : ℕ) (v : ℤ) (x : Number) → OuterSum v l x → held w ≡ outerOf (valueOf (b-mid l)) (valueOf (b-rad l)) → addsOf (a-rad l) w ≡ false → OuterSum v (l + 1) x
   unfolding OuterSum outers
-  outer-skip l u w v x S e h t =
-      let z = adds-not u w t in
-      up-same _ v l (outer-zero (left l) (right l) w (minus-zero u (a-rad l) e (z .0)) (z .1) h) x S
+  outer-skip l w v x S h t =
+      let z = adds-not (a-rad l) w t in
+      (up-same _ v l (outer-zero (left l) (right l) w (zero-value (a-rad l) (z .0)) (z .1) h) x (S .0), S .1)
 
   -- ---- the entry, at place c by rows
   pub radius-stays : MiddleNone → (next : ℤ → Option ℤ) → OneNone (middles down (p .k)) (middles up (p .k)) (bind (inners (p .k)) next)
@@ -193,4 +192,4 @@ module _ (p : Spot) where
     four-closes s x e S R E =
         subst (λ m. Closes m e) (sym is)
         (closes radius (middles down (p .k)) (middles up (p .k)) (s .lower) (s .opposed) x e (S .lower) (S .upper)
-        (subst (λ m. Runs (negate m) x) (sym (radius-is s S (λ v. outers v (p .k)))) R) E)
+        (subst (λ m. Runs (negate m) x) (sym (radius-is s S (λ v. outers v (p .k)))) (R .0)) E)

@@ -55,7 +55,7 @@ pub mod EntryExt
 pub mod Chosen
 pub mod MidRads
 -- the sums of methods 3, 4 and 7
-pub mod Minus
+pub mod Radii
 pub mod MidRadSteps
 pub mod CentredSteps
 pub mod Ending

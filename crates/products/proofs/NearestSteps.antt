@@ -7,11 +7,13 @@ use Prim.Native.Nat.{ℕ, _^_, _≤_}
 use native.Mathlib.Omega.{arith}
 use lib.Dec.{ltb, lit≤}
 use lib.IntN.{ℤ, pos, negℤ, _+ℤ_, _*ℤ_, negℤ-negℤ}
+use Rattle.algebra.specs.Order.{_≼_}
+use Rattle.rounding.proofs.Sign.{neg-le-pos}
 use Rattle.rounding.specs.Format.{binary32, MAX}
 use Rattle.rounding.specs.Rounding.{up, negate}
 use Rattle.products.specs.declared.number.Number.{Number}
 use Rattle.products.specs.declared.nearest.Nearest.{Nearest}
-use Rattle.products.specs.Number.{worth, Holds, Runs, Opposite, minusTiny}
+use Rattle.products.specs.Number.{worth, Below, Holds, Runs, Opposite, minusTiny}
 use Rattle.products.specs.Running.{plusDown}
 use Rattle.products.specs.Centred.{refusedNearest, NearestSum}
 use Rattle.products.proofs.Carrying.{holds-runs, holds-none, negate-none, mirror-plus, mirrored-is}
@@ -22,6 +24,7 @@ use Rattle.products.proofs.Or.{or-first, or-second, or-cases}
 pub record NearestHolds (mid rad : Option ℤ) (s : Nearest) : Type 0 where
   pub centre : Holds mid (s .centre)
   pub radius : Holds (negate rad) (s .radius)
+  pub below : Below (s .radius)
 
 -- ---- a test of the two
 module _ (mid rad : Option ℤ) (s : Nearest) (h : NearestHolds mid rad s) where
@@ -30,6 +33,7 @@ module _ (mid rad : Option ℤ) (s : Nearest) (h : NearestHolds mid rad s) where
       record {
         centre = holds-runs mid (s .centre) (h .centre) (or-first (ltb 653 (s .centre .exp)) (ltb 653 (s .radius .exp)) e);
         radius = holds-runs (negate rad) (s .radius) (h .radius) (or-second (ltb 653 (s .centre .exp)) (ltb 653 (s .radius .exp)) e);
+        below = h .below;
       }
 
   pub near-none : refusedNearest s ≡ true → (mid ≡ none) ⊎ (rad ≡ none)
@@ -69,6 +73,9 @@ tiny-holds x e = subst (Holds (some (negℤ (pos tiny)))) (sym e) (record {
 
     no : _≡_ {A = ℕ} 8388608 0 → ⊥
     no h = omega arith
+
+pub tiny-below : (x : Number) → x ≡ minusTiny → Below x
+tiny-below x e = subst Below (sym e) (subst (λ t. t ≼ pos 0) (sym tiny-worth) (neg-le-pos tiny 0))
 
 -- with 2^-125 more, rounded up
 unfoldable pub tinied : Option ℤ → Option ℤ

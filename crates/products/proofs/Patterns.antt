@@ -58,7 +58,7 @@ unfolding valueOf
 magnitude-value p =
     low-value (p % 2 ^ 31) (mod-low p) ∙ ap (λ n. pos (val binary32 n)) (mod-eq-of-lt (mod-low p)) ∙ sym (abs-signed (leb (2 ^ 31) p) (val binary32 (p % 2 ^ 31)))
 
-magnitude-test : (p : ℕ) → finite (magnitudeOf p) ≡ finite p
+pub magnitude-test : (p : ℕ) → finite (magnitudeOf p) ≡ finite p
 magnitude-test p = ap (λ n. ltb n (255 * 2 ^ 23)) (mod-eq-of-lt (mod-low p))
 
 pub magnitude-finite : (p : ℕ) → Finite p → Finite (magnitudeOf p)

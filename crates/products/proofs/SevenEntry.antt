@@ -1,6 +1,6 @@
 -- One entry of method 7: the sums over midpoints, continued with the parts' products and the outer terms, the radius then with the parts' magnitudes,
 -- and the entry that they end in.
-use mathlib.Core.Path.{_≡_, sym, ap, ap₂, _∙_, subst}
+use mathlib.Core.Path.{_≡_, sym, ap, _∙_, subst}
 use mathlib.Core.Bool.{true, false}
 use mathlib.Core.Logic.{inl, inr}
 use mathlib.Core.Option.{Option, none, some, bind}
@@ -13,14 +13,13 @@ use Rattle.enclosure.specs.Arithmetic.{of}
 use Rattle.enclosure.specs.Sums.{sum}
 use Rattle.enclosure.specs.Methods.{seven, partTerm, sharedTerm, total, radius₄, radius₇, centre, centre₇, ends, entry}
 use Rattle.binary32.specs.Number.{valueOf, held}
-use Rattle.binary32.specs.Operations.{Way, mul, with₂}
-use Rattle.binary32.specs.Order.{magnitudeOf}
+use Rattle.binary32.specs.Operations.{Way}
 use Rattle.products.specs.declared.number.Number.{Number}
 use Rattle.products.specs.declared.centred.Centred.{Centred}
 use Rattle.products.specs.declared.sums.Sums.{Sums}
 use Rattle.products.specs.Number.{worth, IsNumber, Holds, Runs}
-use Rattle.products.specs.Running.{plusDown, Ended}
-use Rattle.products.specs.Centred.{minusMagnitudeOf, AllNumbers, Added, refusedCentred, CentredSum}
+use Rattle.products.specs.Running.{Ended}
+use Rattle.products.specs.Centred.{AllNumbers, Added, Shrunk, refusedCentred, CentredSum}
 use Rattle.products.specs.Derived.{outerOf, partOf}
 use Rattle.products.proofs.Writing.{place-entry-from}
 use Rattle.products.proofs.Carrying.{holds-runs, holds-none, mirrored-is, negate-none, sum-stays}
@@ -64,14 +63,14 @@ module _ (p : Spot) where
   unfolding PartSum
   part-numbers s l r S = all-numbers r S
 
-  pub part-next : (s : Centred) (l size a b u w : ℕ) (r t : Centred) → Read p l size → Made l a b → u ≡ minusMagnitudeOf (a-rad p l) → held w ≡ outerOf (valueOf (b-mid p l)) (valueOf (b-rad p l))
-      → PartSum s l r → Added r a b u w t → PartNext s l t
+  pub part-next : (s : Centred) (l size a b w : ℕ) (r t : Centred) → Read p l size → Made l a b → held w ≡ outerOf (valueOf (b-mid p l)) (valueOf (b-rad p l))
+      → PartSum s l r → Added r a b (a-rad p l) w t → PartNext s l t
   unfolding PartSum PartNext parts outers
-  part-next s l size a b u w r t P M e h S A =
-      centred-more _ _ _ _ _ _ l r t a b u w S A
+  part-next s l size a b w r t P M h S A =
+      centred-more _ _ _ _ _ _ l r t a b (a-rad p l) w S A
       (part-is (a-mid p l) (a-rad p l) (b-mid p l) (b-rad p l) down a b (M .first) (M .second))
       (part-is (a-mid p l) (a-rad p l) (b-mid p l) (b-rad p l) up a b (M .first) (M .second))
-      (outer-term p l size u w P e h)
+      (outer-term p l size w P h)
 
   pub part-more : (s : Centred) (l : ℕ) (r : Centred) → PartNext s l r → refusedCentred r ≡ false → PartSum s (l + 1) r
   unfolding PartSum PartNext
@@ -99,11 +98,9 @@ module _ (p : Spot) where
   unfolding SharedSum
   shared-number v l x S = S .number
 
-  pub shared-next : (v : ℤ) (l a b u w : ℕ) (s r : Number) → Made l a b → u ≡ magnitudeOf a → w ≡ magnitudeOf b → SharedSum v l s
-      → Holds (plusDown (worth s) (with₂ (mul down) u w)) r → SharedNext v l r
+  pub shared-next : (v : ℤ) (l a b : ℕ) (s r : Number) → Made l a b → SharedSum v l s → Shrunk s a b r → SharedNext v l r
   unfolding SharedSum SharedNext shareds
-  shared-next v l a b u w s r M e f S H =
-      radius-more _ v l s r (with₂ (mul down) u w) S (ap₂ (with₂ (mul down)) e f ∙ shared-is (a-mid p l) (a-rad p l) (b-mid p l) (b-rad p l) a b (M .first) (M .second)) H
+  shared-next v l a b s r M S H = radius-more _ v l s r _ S (shared-is (a-mid p l) (a-rad p l) (b-mid p l) (b-rad p l) a b (M .first) (M .second)) H
 
   pub shared-more : (v : ℤ) (l : ℕ) (r : Number) → SharedNext v l r → ltb 653 (r .exp) ≡ false → SharedSum v (l + 1) r
   unfolding SharedSum SharedNext

@@ -20,11 +20,11 @@ use Rattle.binary32.specs.Operations.{Way}
 use Rattle.binary32.specs.Order.{magnitudeOf}
 use Rattle.products.specs.declared.number.Number.{Number}
 use Rattle.products.specs.declared.centred.Centred.{Centred}
-use Rattle.products.specs.Centred.{minusMagnitudeOf, addsOf}
+use Rattle.products.specs.Centred.{addsOf}
 use Rattle.products.specs.Derived.{outerOf}
 use Rattle.products.proofs.CornerTerms.{zero-value, zero-left}
 use Rattle.products.proofs.Patterns.{held-is}
-use Rattle.products.proofs.Zeros.{up-same, centred-same, magnitude-zero, minus-zero, adds-not, down-zero, up-zero, outer-zero}
+use Rattle.products.proofs.Zeros.{up-same, centred-same, magnitude-zero, adds-not, down-zero, up-zero, outer-zero}
 use Rattle.products.proofs.FourEntry.{Spot, a-mid, a-rad, b-mid, b-rad, left, right, outers}
 use Rattle.products.proofs.SevenEntry.{Made, parts, PartSum, shareds, SharedSum}
 
@@ -61,21 +61,19 @@ module _ (a b : Cell) (z : part (a .mid) (a .rad) ≡ pos 0) where
 -- ---- sums that pass a pair over
 module _ (p : Spot) where
   -- a radius of A that is zero adds nothing where w is a number
-  pub part-skip : (s : Centred) (l u w : ℕ) (r : Centred) → u ≡ minusMagnitudeOf (a-rad p l) → held w ≡ outerOf (valueOf (b-mid p l)) (valueOf (b-rad p l)) → PartSum p s l r
-      → addsOf u w ≡ false → PartSum p s (l + 1) r
+  pub part-skip : (s : Centred) (l w : ℕ) (r : Centred) → held w ≡ outerOf (valueOf (b-mid p l)) (valueOf (b-rad p l)) → PartSum p s l r → addsOf (a-rad p l) w ≡ false → PartSum p s (l + 1) r
   unfolding PartSum parts outers
-  part-skip s l u w r e h S t =
-      let n = adds-not u w t in
-      let z = minus-zero u (a-rad p l) e (n .0) in
+  part-skip s l w r h S t =
+      let n = adds-not (a-rad p l) w t in
+      let z = zero-value (a-rad p l) (n .0) in
       let q = part-zero (valueOf (a-mid p l)) z in
       let a = left p l in
       let b = right p l in
       centred-same _ _ _ _ _ _ l r (part-term-zero a b q down down-zero) (part-term-zero a b q up up-zero) (outer-zero a b w z (n .1) h) S
 
   -- a part of A that is zero adds nothing
-  pub shared-skip : (v : ℤ) (l a b u : ℕ) (x : Number) → Made p l a b → u ≡ magnitudeOf a → SharedSum p v l x → ltb 0 (magnitudeOf u) ≡ false → SharedSum p v (l + 1) x
+  pub shared-skip : (v : ℤ) (l a b : ℕ) (x : Number) → Made p l a b → SharedSum p v l x → ltb 0 (magnitudeOf a) ≡ false → SharedSum p v (l + 1) x
   unfolding SharedSum shareds
-  shared-skip v l a b u x M e S t =
-      let z = magnitude-zero u t in
-      let q = held-zero a (M .first) (omega arith) in
+  shared-skip v l a b x M S t =
+      let q = held-zero a (M .first) (magnitude-zero a t) in
       up-same _ v l (shared-term-zero (left p l) (right p l) q) x S

@@ -6,6 +6,7 @@ use mathlib.Core.Option.{Option, none, some, bind}
 use Prim.Native.Nat.{ℕ, _+_, _*_, _<_}
 use lib.Dec.{ltb}
 use lib.IntN.{ℤ, pos, negℤ, _+ℤ_}
+use Rattle.rounding.proofs.Sign.{neg-le-pos}
 use Rattle.rounding.specs.Format.{binary32}
 use Rattle.rounding.specs.Rounding.{up, down, near, negate}
 use Rattle.enclosure.specs.Arithmetic.{of}
@@ -16,16 +17,17 @@ use Rattle.binary32.specs.Operations.{mul, with₂}
 use Rattle.products.specs.declared.number.Number.{Number}
 use Rattle.products.specs.declared.nearest.Nearest.{Nearest}
 use Rattle.products.specs.declared.sums.Sums.{Sums}
-use Rattle.products.specs.Number.{worth, IsNumber, Holds, Runs, Opposite, minusTiny}
+use Rattle.products.specs.Number.{worth, IsNumber, Below, Holds, Runs, Opposite, minusTiny}
 use Rattle.products.specs.Running.{plusDown, Ended}
-use Rattle.products.specs.Centred.{zeroNearest, NearNumbers, NearAdded, refusedNearest, NearestSum, minusMagnitudeOf, addsOf}
+use Rattle.products.specs.Centred.{zeroNearest, NearNumbers, NearAdded, refusedNearest, NearestSum, addsOf}
 use Rattle.products.specs.Derived.{raisedOf, factorOf}
 use Rattle.products.proofs.Writing.{place-entry-from}
-use Rattle.products.proofs.Carrying.{holds-runs, holds-none, zero-runs, mirrored-is, negate-none, any-more, sum-stays}
+use Rattle.products.proofs.Carrying.{holds-runs, holds-none, zero-runs, zero-below, mirrored-is, negate-none, any-more, up-more, sum-stays}
+use Rattle.products.proofs.Radii.{plus-below, grown-below}
 use Rattle.products.proofs.CornerTerms.{zero-value}
 use Rattle.products.proofs.Zeros.{near-same, up-same, adds-not, near-zero, mid-zero, raised-zero}
 use Rattle.products.proofs.MidRadSteps.{mid-is, raised-is}
-use Rattle.products.proofs.CentredSteps.{OneNone, radius-more}
+use Rattle.products.proofs.CentredSteps.{OneNone}
 use Rattle.products.proofs.NearestSteps.{NearestHolds, near-runs, near-none, opposite-runs, tiny, tiny-holds, tinied, tiny-more}
 use Rattle.products.proofs.Ending.{ends-none, Closes, closes}
 use Rattle.products.proofs.FourEntry.{Spot, a-mid, a-rad, b-mid, b-rad, left, right, Read, entryBy, middles, outers, OuterSum}
@@ -52,21 +54,22 @@ module _ (p : Spot) where
 
   pub first-start : FirstSum 0 zeroNearest
   unfolding FirstSum middles raiseds sum
-  first-start = record { centre = zero-runs; radius = zero-runs }
+  first-start = record { centre = zero-runs; radius = zero-runs; below = zero-below }
 
   pub first-numbers : (l : ℕ) (s : Nearest) → FirstSum l s → NearNumbers s
   unfolding FirstSum
-  first-numbers l s S = record { centre = S .centre .number; radius = S .radius .number }
+  first-numbers l s S = record { centre = S .centre .number; radius = S .radius .number; below = S .below }
 
   pub first-next : (l size v : ℕ) (s r : Nearest) → Read p l size → FirstSum l s → held v ≡ raisedOf (factorOf (p .k)) (valueOf (b-mid p l)) (valueOf (b-rad p l))
-      → NearAdded s (a-mid p l) (b-mid p l) (minusMagnitudeOf (a-mid p l)) v r → FirstNext l r
+      → NearAdded s (a-mid p l) (b-mid p l) (a-mid p l) v r → FirstNext l r
   unfolding FirstSum FirstNext middles raiseds
   first-next l size v s r P S d A =
       let mid = mid-is (a-mid p l) (a-rad p l) (b-mid p l) (b-rad p l) near (P .cell-first .mid) (P .cell-second .mid) in
-      let rad = raised-is (a-mid p l) (a-rad p l) (b-mid p l) (b-rad p l) (p .k) v (P .cell-first .mid) d in
+      let rad = raised-is (a-mid p l) (a-rad p l) (b-mid p l) (b-rad p l) (p .k) v (P .cell-first .mid) (P .cell-second .nonneg) d in
       record {
         centre = any-more _ (pos 0) (near binary32 1) l (s .centre) (r .centre) (with₂ (mul near) (a-mid p l) (b-mid p l)) (S .centre) mid (A .centre);
-        radius = radius-more _ (pos 0) l (s .radius) (r .radius) (with₂ (mul down) (minusMagnitudeOf (a-mid p l)) v) (S .radius) rad (A .radius);
+        radius = up-more _ (pos 0) l (s .radius) (r .radius) _ (S .radius) rad (A .radius);
+        below = grown-below (s .radius) (a-mid p l) v (r .radius) (S .below) (A .radius);
       }
 
   pub first-more : (l : ℕ) (r : Nearest) → FirstNext l r → refusedNearest r ≡ false → FirstSum (l + 1) r
@@ -82,6 +85,7 @@ module _ (p : Spot) where
       record {
         centre = near-same _ (pos 0) l (mid-zero (left p l) (right p l) near near-zero m) (s .centre) (S .centre);
         radius = up-same _ (pos 0) l (raised-zero (left p l) (right p l) (p .k) v m (z .1) d) (s .radius) (S .radius);
+        below = S .below;
       }
 
   pub first-none : (l : ℕ) (r : Nearest) → FirstNext l r → l < p .k → refusedNearest r ≡ true → FirstNone
@@ -94,29 +98,31 @@ module _ (p : Spot) where
 
   -- ---- the radius with 2^-125 more
   unfoldable pub TinyNext : Number → Type 0
-  TinyNext x = Holds (negate (tinied (raiseds (p .k)))) x
+  TinyNext x = Holds (negate (tinied (raiseds (p .k)))) x × Below x
 
   unfoldable pub TinySum : Number → Type 0
-  TinySum x = Runs (negate (tinied (raiseds (p .k)))) x
+  TinySum x = Runs (negate (tinied (raiseds (p .k)))) x × Below x
 
   unfoldable pub TinyNone : Type 0
   TinyNone = tinied (raiseds (p .k)) ≡ none
 
   pub tiny-next : (s : Nearest) (y x : Number) → FirstSum (p .k) s → y ≡ minusTiny → ((t : Option ℤ) → Holds t y → Holds (plusDown (worth (s .radius)) t) x) → TinyNext x
   unfolding FirstSum TinyNext
-  tiny-next s y x S e H = tiny-more (raiseds (p .k)) (s .radius) x (S .radius) (H (some (negℤ (pos tiny))) (tiny-holds y e))
+  tiny-next s y x S e H =
+      let h = H (some (negℤ (pos tiny))) (tiny-holds y e) in
+      (tiny-more (raiseds (p .k)) (s .radius) x (S .radius) h, plus-below (s .radius) x (some (negℤ (pos tiny))) (S .below) (neg-le-pos tiny 0) h)
 
   pub tiny-sum : (x : Number) → TinyNext x → ltb 653 (x .exp) ≡ false → TinySum x
   unfolding TinyNext TinySum
-  tiny-sum x H t = holds-runs _ x H t
+  tiny-sum x H t = (holds-runs _ x (H .0) t, H .1)
 
   pub tiny-none : (x : Number) → TinyNext x → ltb 653 (x .exp) ≡ true → TinyNone
   unfolding TinyNext TinyNone
-  tiny-none x H t = negate-none (tinied (raiseds (p .k))) (holds-none _ x H t)
+  tiny-none x H t = negate-none (tinied (raiseds (p .k))) (holds-none _ x (H .0) t)
 
-  pub tiny-number : (x : Number) → TinySum x → IsNumber x
+  pub tiny-number : (x : Number) → TinySum x → IsNumber x × Below x
   unfolding TinySum
-  tiny-number x S = S .number
+  tiny-number x S = (S .0 .number, S .1)
 
   -- ---- the entry, at place c by rows
   module _ (c : ℕ) (at : c ≡ p .i * p .n + p .j) (in-row : p .j < p .n) where
@@ -149,7 +155,7 @@ module _ (p : Spot) where
 
     radius-is : (y : Number) → TinySum y → radius ≡ outers p (negℤ (worth y)) (p .k)
     unfolding TinySum bind
-    radius-is y S = ap continued (mirrored-is (tinied (raiseds (p .k))) y S)
+    radius-is y S = ap continued (mirrored-is (tinied (raiseds (p .k))) y (S .0))
 
     pub three-outer : (y : Number) → TinySum y → outers p (negℤ (worth y)) (p .k) ≡ none → entryBy p three c ≡ none
     three-outer y S e = is ∙ ends-none radius middle middle (inr (inr (radius-is y S ∙ e)))
@@ -159,4 +165,4 @@ module _ (p : Spot) where
     unfolding FirstSum OuterSum
     three-closes s y o x e F S O R E =
         subst (λ m. Closes m e) (sym is)
-        (closes radius middle middle (s .centre) o x e (F .centre) (opposite-runs middle (s .centre) o (F .centre) O) (subst (λ m. Runs (negate m) x) (sym (radius-is y S)) R) E)
+        (closes radius middle middle (s .centre) o x e (F .centre) (opposite-runs middle (s .centre) o (F .centre) O) (subst (λ m. Runs (negate m) x) (sym (radius-is y S)) (R .0)) E)

@@ -3,7 +3,7 @@ use mathlib.Core.Path.{_≡_, sym, ap, _∙_}
 use mathlib.Core.Bool.{false}
 use mathlib.Core.List.{[], _∷_}
 use mathlib.Core.Option.{Option, some, bind}
-use Prim.Native.Nat.{ℕ, _+_, _*_, _%_, _^_}
+use Prim.Native.Nat.{ℕ, _+_, _*_, _^_}
 use native.Mathlib.Omega.{arith}
 use lib.Dec.{leb, ltb, lit<}
 use lib.Pow.{pow-pos}
@@ -26,7 +26,7 @@ use Rattle.binary32.specs.Order.{magnitudeOf}
 use Rattle.products.specs.declared.number.Number.{Number}
 use Rattle.products.specs.declared.centred.Centred.{Centred}
 use Rattle.products.specs.Number.{worth, Runs}
-use Rattle.products.specs.Centred.{minusMagnitudeOf, addsOf, CentredSum}
+use Rattle.products.specs.Centred.{addsOf, CentredSum}
 use Rattle.products.specs.Derived.{outerOf, raisedOf, factorOf}
 use Rattle.products.proofs.Packing.{num-of}
 use Rattle.products.proofs.Carrying.{sum-next, mirrored-is}
@@ -73,6 +73,7 @@ centred-same f g h a b c l s e d q S =
       lower = down-same f a l e (s .lower) (S .lower);
       upper = up-same g b l d (s .opposed) (S .upper);
       radius = up-same h c l q (s .radius) (S .radius);
+      below = S .below;
     }
 
 -- ---- what the tests for zero tell
@@ -81,13 +82,6 @@ magnitude-zero p t = let h = ltb-false 0 (magnitudeOf p) t in omega arith
 
 pub is-zero : (p : ℕ) → ltb 0 (magnitudeOf p) ≡ false → valueOf p ≡ pos 0
 is-zero p t = zero-value p (magnitude-zero p t)
-
--- the sign is left out
-pub minus-zero : (u r : ℕ) → u ≡ minusMagnitudeOf r → magnitudeOf u ≡ 0 → valueOf r ≡ pos 0
-minus-zero u r e z = zero-value r (sym (same r) ∙ ap magnitudeOf (sym e) ∙ z)
-  where
-    same : (r : ℕ) → (r % 2 ^ 31 + 2 ^ 31) % 2 ^ 31 ≡ r % 2 ^ 31
-    same r = omega arith
 
 pub adds-not : (u w : ℕ) → addsOf u w ≡ false → (magnitudeOf u ≡ 0) × Finite w
 unfolding addsOf

@@ -1,21 +1,28 @@
 -- The running sums of methods 3, 4 and 7. Definitions only, for the contracts of inner functions.
 use mathlib.Core.Bool.{Bool, true, cond}
 use mathlib.Core.Option.{Option, bind}
-use Prim.Native.Nat.{ℕ, _+_, _*_, _%_, _^_}
+use Prim.Native.Nat.{ℕ, _*_, _^_}
 use lib.Dec.{leb, ltb}
 use lib.IntN.{ℤ, _+ℤ_}
 use Rattle.rounding.specs.Format.{binary32}
 use Rattle.rounding.specs.Rounding.{up, down, near, negate}
 use Rattle.binary32.specs.Operations.{mul, with₂}
 use Rattle.binary32.specs.Order.{magnitudeOf}
+use Rattle.products.specs.declared.number.Number.{Number}
 use Rattle.products.specs.declared.centred.Centred.{Centred}
 use Rattle.products.specs.declared.nearest.Nearest.{Nearest}
-use Rattle.products.specs.Number.{worth, IsNumber, Holds, Runs, zeroNumber}
+use Rattle.products.specs.Number.{worth, IsNumber, Below, Holds, Runs, zeroNumber}
 use Rattle.products.specs.Running.{plusDown}
 
--- the pattern of -|p|, p's number
-abbrev pub minusMagnitudeOf : ℕ → ℕ
-minusMagnitudeOf p = p % 2 ^ 31 + 2 ^ 31
+-- ---- a radius, kept with the other sign, so that it is not above zero and is rounded down
+
+-- r is x with |u| × |v| more
+abbrev pub Grown : Number → ℕ → ℕ → Number → Type 0
+Grown x u v r = Holds (plusDown (worth x) (negate (with₂ (mul up) (magnitudeOf u) (magnitudeOf v)))) r
+
+-- r is x with |u| × |v| less
+abbrev pub Shrunk : Number → ℕ → ℕ → Number → Type 0
+Shrunk x u v r = Holds (plusDown (worth x) (with₂ (mul down) (magnitudeOf u) (magnitudeOf v))) r
 
 -- u is not zero, or w is none
 unfoldable pub addsOf : ℕ → ℕ → Bool
@@ -30,12 +37,13 @@ pub record AllNumbers (s : Centred) : Type 0 where
   pub lower : IsNumber (s .lower)
   pub opposed : IsNumber (s .opposed)
   pub radius : IsNumber (s .radius)
+  pub below : Below (s .radius)
 
--- r is s with x × y more in both centres, and u × v in what is the opposite of the radius
+-- r is s with x × y more in both centres, and |u| × |v| in the radius
 pub record Added (s : Centred) (x y u v : ℕ) (r : Centred) : Type 0 where
   pub lower : Holds (plusDown (worth (s .lower)) (with₂ (mul down) x y)) (r .lower)
   pub opposed : Holds (plusDown (worth (s .opposed)) (negate (with₂ (mul up) x y))) (r .opposed)
-  pub radius : Holds (plusDown (worth (s .radius)) (with₂ (mul down) u v)) (r .radius)
+  pub radius : Grown (s .radius) u v (r .radius)
 
 abbrev pub refusedCentred : Centred → Bool
 refusedCentred s = cond (ltb 653 (s .lower .exp)) true (cond (ltb 653 (s .opposed .exp)) true (ltb 653 (s .radius .exp)))
@@ -45,6 +53,7 @@ pub record CentredSum (low high rad : Option ℤ) (s : Centred) : Type 0 where
   pub lower : Runs low (s .lower)
   pub upper : Runs (negate high) (s .opposed)
   pub radius : Runs (negate rad) (s .radius)
+  pub below : Below (s .radius)
 
 -- ---- method 3: one centre, to nearest, and a radius
 
@@ -54,10 +63,11 @@ zeroNearest = record { centre = zeroNumber; radius = zeroNumber }
 pub record NearNumbers (s : Nearest) : Type 0 where
   pub centre : IsNumber (s .centre)
   pub radius : IsNumber (s .radius)
+  pub below : Below (s .radius)
 
 pub record NearAdded (s : Nearest) (x y u v : ℕ) (r : Nearest) : Type 0 where
   pub centre : Holds (bind (with₂ (mul near) x y) λ t. near binary32 1 (worth (s .centre) +ℤ t)) (r .centre)
-  pub radius : Holds (plusDown (worth (s .radius)) (with₂ (mul down) u v)) (r .radius)
+  pub radius : Grown (s .radius) u v (r .radius)
 
 abbrev pub refusedNearest : Nearest → Bool
 refusedNearest s = cond (ltb 653 (s .centre .exp)) true (ltb 653 (s .radius .exp))
@@ -65,3 +75,4 @@ refusedNearest s = cond (ltb 653 (s .centre .exp)) true (ltb 653 (s .radius .exp
 pub record NearestSum (mid rad : Option ℤ) (s : Nearest) : Type 0 where
   pub centre : Runs mid (s .centre)
   pub radius : Runs (negate rad) (s .radius)
+  pub below : Below (s .radius)

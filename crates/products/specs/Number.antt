@@ -65,12 +65,6 @@ pub record Opposite (x r : Number) : Type 0 where
   pub worths : worth r ≡ negℤ (worth x)
   pub same : r .exp ≡ x .exp
 
--- the sign of what is below zero
-pub record MinusSize (x r : Number) : Type 0 where
-  pub normal : Normal r
-  pub worths : worth r ≡ negℤ (abs (worth x))
-  pub same : r .exp ≡ x .exp
-
 -- x is the number m: a sum that goes on
 pub record Runs (m : Option ℤ) (x : Number) : Type 0 where
   pub is : m ≡ some (worth x)

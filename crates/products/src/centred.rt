@@ -3,29 +3,23 @@
 ghost use mathlib.Core.Path.{_≡_};
 ghost use lib.Dec.{ltb};
 ghost use Rattle.binary32.specs.Order.{magnitudeOf};
-ghost use Rattle.products.specs.Centred.{AllNumbers, Added, refusedCentred, zeroCentred, minusMagnitudeOf, addsOf};
+ghost use Rattle.products.specs.Centred.{AllNumbers, Added, refusedCentred, zeroCentred, addsOf};
 use crate::number::Number;
 use crate::number::is_none;
-use crate::number::minus_size;
 use crate::number::zero;
 use crate::pattern::unpack;
 use crate::plus::plus_down;
+use crate::plus::plus_negative;
 use crate::times::product_down;
 use crate::times::product_up;
 use crate::times::times;
+use binary32::order::magnitude;
 
 // The lower centre, and the opposites of the upper centre and of the radius: all are rounded down.
 pub struct Centred {
     pub lower: Number,
     pub opposed: Number,
     pub radius: Number,
-}
-
-// The pattern of -|p|.
-pub fn minus_magnitude(p: u32) -> u32
-    ensures { λ r. ⌜ r ≡ minusMagnitudeOf p ⌝ }
-{
-    p % 0x8000_0000 + 0x8000_0000
 }
 
 // Whether a factor is not zero: a product with zero adds nothing.
@@ -56,49 +50,51 @@ impl Centred {
         }
     }
 
-    // Method 4: x × y more in both centres, |x| × v in the radius.
+    // Method 4: x × y more in both centres, |x| × |v| in the radius.
     pub fn step_four(self, x: u32, y: u32, v: u32) -> Centred
         requires { ⌜ AllNumbers self ⌝ }
-        ensures { λ r. ⌜ Added self x y (minusMagnitudeOf x) v r ⌝ }
+        ensures { λ r. ⌜ Added self x y x v r ⌝ }
     {
-        let f = unpack(x);
-        let u = minus_magnitude(x);
-        let p = times(f, unpack(y));
-        let q = times(minus_size(f), unpack(v));
+        let u = magnitude(x);
+        let w = magnitude(v);
+        let p = times(unpack(x), unpack(y));
+        let q = times(unpack(u), unpack(w));
         Centred {
             lower: plus_down(self.lower, product_down(p, x, y)),
             opposed: plus_down(self.opposed, product_up(p, x, y)),
-            radius: plus_down(self.radius, product_down(q, u, v)),
+            radius: plus_negative(self.radius, product_up(q, u, w)),
         }
     }
 
     // Method 7, with the midpoints: the same.
     pub fn step_seven(self, x: u32, y: u32, v: u32) -> Centred
         requires { ⌜ AllNumbers self ⌝ }
-        ensures { λ r. ⌜ Added self x y (minusMagnitudeOf x) v r ⌝ }
+        ensures { λ r. ⌜ Added self x y x v r ⌝ }
     {
-        let f = unpack(x);
-        let u = minus_magnitude(x);
-        let p = times(f, unpack(y));
-        let q = times(minus_size(f), unpack(v));
+        let u = magnitude(x);
+        let w = magnitude(v);
+        let p = times(unpack(x), unpack(y));
+        let q = times(unpack(u), unpack(w));
         Centred {
             lower: plus_down(self.lower, product_down(p, x, y)),
             opposed: plus_down(self.opposed, product_up(p, x, y)),
-            radius: plus_down(self.radius, product_down(q, u, v)),
+            radius: plus_negative(self.radius, product_up(q, u, w)),
         }
     }
 
-    // Method 7, with the parts: x × y more in both centres, u × v in the opposite of the radius.
+    // Method 7, with the parts: x × y more in both centres, |u| × |v| in the radius.
     pub fn step_parts(self, x: u32, y: u32, u: u32, v: u32) -> Centred
         requires { ⌜ AllNumbers self ⌝ }
         ensures { λ r. ⌜ Added self x y u v r ⌝ }
     {
+        let t = magnitude(u);
+        let w = magnitude(v);
         let p = times(unpack(x), unpack(y));
-        let q = times(unpack(u), unpack(v));
+        let q = times(unpack(t), unpack(w));
         Centred {
             lower: plus_down(self.lower, product_down(p, x, y)),
             opposed: plus_down(self.opposed, product_up(p, x, y)),
-            radius: plus_down(self.radius, product_down(q, u, v)),
+            radius: plus_negative(self.radius, product_up(q, t, w)),
         }
     }
 

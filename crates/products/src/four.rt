@@ -8,14 +8,10 @@ ghost use Rattle.products.specs.Entries.{Written};
 use crate::centred::Centred;
 use crate::centred::adds;
 use crate::centred::is_nonzero;
-use crate::centred::minus_magnitude;
 use crate::number::is_none;
-use crate::pattern::unpack;
-use crate::plus::plus_down;
+use crate::radius::outer_four;
 use crate::sums::Place;
 use crate::sums::ends;
-use crate::times::product_down;
-use crate::times::times;
 
 // From midpoints and radii; wb has |m| + r of B's cells.
 pub fn entries(
@@ -52,10 +48,10 @@ pub fn entries(
             }
             let mut radius = s.radius;
             for l in 0..k {
-                let u = minus_magnitude(ra[i * k + l]);
+                let u = ra[i * k + l];
                 let w = wb[l * n + j];
                 if adds(u, w) {
-                    radius = plus_down(radius, product_down(times(unpack(u), unpack(w)), u, w));
+                    radius = outer_four(radius, u, w);
                     if is_none(radius) {
                         place = Place::At(i, j);
                         break 'search;

@@ -25,6 +25,7 @@ mod nearest;
 mod number;
 mod pattern;
 mod plus;
+mod radius;
 mod seven;
 mod shifts;
 mod summands;

@@ -1,17 +1,16 @@
 // The running sums of method 3, a value that takes a pair of factors for the centre and one for the radius and comes back.
 ghost use mathlib.Core.Path.{_≡_};
-ghost use Rattle.products.specs.Centred.{NearNumbers, NearAdded, refusedNearest, zeroNearest, minusMagnitudeOf};
-use crate::centred::minus_magnitude;
+ghost use Rattle.products.specs.Centred.{NearNumbers, NearAdded, refusedNearest, zeroNearest};
 use crate::near::plus_near;
 use crate::number::Number;
 use crate::number::is_none;
-use crate::number::minus_size;
 use crate::number::zero;
 use crate::pattern::unpack;
-use crate::plus::plus_down;
-use crate::times::product_down;
+use crate::plus::plus_negative;
 use crate::times::product_near;
+use crate::times::product_up;
 use crate::times::times;
+use binary32::order::magnitude;
 
 // The centre, to nearest, and the opposite of the radius.
 pub struct Nearest {
@@ -29,18 +28,18 @@ impl Nearest {
         }
     }
 
-    // x × y more in the centre, |x| × v in the radius.
+    // x × y more in the centre, |x| × |v| in the radius.
     pub fn step(self, x: u32, y: u32, v: u32) -> Nearest
         requires { ⌜ NearNumbers self ⌝ }
-        ensures { λ r. ⌜ NearAdded self x y (minusMagnitudeOf x) v r ⌝ }
+        ensures { λ r. ⌜ NearAdded self x y x v r ⌝ }
     {
-        let f = unpack(x);
-        let u = minus_magnitude(x);
-        let p = times(f, unpack(y));
-        let q = times(minus_size(f), unpack(v));
+        let u = magnitude(x);
+        let w = magnitude(v);
+        let p = times(unpack(x), unpack(y));
+        let q = times(unpack(u), unpack(w));
         Nearest {
             centre: plus_near(self.centre, product_near(p, x, y)),
-            radius: plus_down(self.radius, product_down(q, u, v)),
+            radius: plus_negative(self.radius, product_up(q, u, w)),
         }
     }
 

@@ -4,7 +4,7 @@ ghost use Prim.Native.Nat.{_^_, _≤_};
 ghost use lib.Dec.{leb, ltb};
 ghost use lib.IntN.{natAbs};
 ghost use Rattle.rounding.specs.Format.{binary32, MAX};
-ghost use Rattle.products.specs.Number.{worth, Normal, Opposite, MinusSize, zeroNumber, noNumber, minusTiny};
+ghost use Rattle.products.specs.Number.{worth, Normal, Opposite, zeroNumber, noNumber, minusTiny};
 ghost use Rattle.products.specs.Cuts.{CutDown, OrLow};
 use crate::shifts::digits;
 use crate::shifts::lowered;
@@ -72,17 +72,6 @@ pub fn opposite(x: Number) -> Number
         sig: -x.sig,
         exp: x.exp,
     }
-}
-
-// -|x|
-pub fn minus_size(x: Number) -> Number
-    requires { ⌜ Normal x ⌝ }
-    ensures { λ r. ⌜ MinusSize x r ⌝ }
-{
-    if x.sig < 0 {
-        return x;
-    }
-    opposite(x)
 }
 
 // e, or the exponent of zero.

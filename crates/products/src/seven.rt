@@ -8,15 +8,10 @@ ghost use Rattle.products.specs.Entries.{Written};
 use crate::centred::Centred;
 use crate::centred::adds;
 use crate::centred::is_nonzero;
-use crate::centred::minus_magnitude;
 use crate::number::is_none;
-use crate::pattern::unpack;
-use crate::plus::plus_down;
+use crate::radius::shared_seven;
 use crate::sums::Place;
 use crate::sums::ends;
-use crate::times::product_down;
-use crate::times::times;
-use binary32::order::magnitude;
 
 // From midpoints and radii; pa and pb have the parts of A's and B's cells, wb |m| + r of B's.
 pub fn entries(
@@ -56,7 +51,7 @@ pub fn entries(
             for l in 0..k {
                 let a = i * k + l;
                 let b = l * n + j;
-                let u = minus_magnitude(ra[a]);
+                let u = ra[a];
                 let w = wb[b];
                 if adds(u, w) {
                     s = s.step_parts(pa[a], pb[b], u, w);
@@ -68,10 +63,9 @@ pub fn entries(
             }
             let mut radius = s.radius;
             for l in 0..k {
-                let u = magnitude(pa[i * k + l]);
+                let u = pa[i * k + l];
                 if is_nonzero(u) {
-                    let v = magnitude(pb[l * n + j]);
-                    radius = plus_down(radius, product_down(times(unpack(u), unpack(v)), u, v));
+                    radius = shared_seven(radius, u, pb[l * n + j]);
                     if is_none(radius) {
                         place = Place::At(i, j);
                         break 'search;

@@ -6,17 +6,14 @@ ghost use Rattle.products.specs.Derived.{Derived, outerOf, raisedOf, fac
 ghost use Rattle.products.specs.MidRad.{Sized, entryFrom};
 ghost use Rattle.products.specs.Entries.{Written};
 use crate::centred::adds;
-use crate::centred::minus_magnitude;
 use crate::nearest::Nearest;
 use crate::number::is_none;
 use crate::number::minus_tiny;
 use crate::number::opposite;
-use crate::pattern::unpack;
-use crate::plus::plus_down;
+use crate::plus::plus_negative;
+use crate::radius::outer_three;
 use crate::sums::Place;
 use crate::sums::ends;
-use crate::times::product_down;
-use crate::times::times;
 
 // From midpoints and radii; vb has rB' of B's cells, wb |m| + r. The radius gets 2^-125 between its two sums.
 pub fn entries(
@@ -52,16 +49,16 @@ pub fn entries(
                     }
                 }
             }
-            let mut radius = plus_down(s.radius, minus_tiny());
+            let mut radius = plus_negative(s.radius, minus_tiny());
             if is_none(radius) {
                 place = Place::At(i, j);
                 break 'search;
             }
             for l in 0..k {
-                let u = minus_magnitude(ra[i * k + l]);
+                let u = ra[i * k + l];
                 let w = wb[l * n + j];
                 if adds(u, w) {
-                    radius = plus_down(radius, product_down(times(unpack(u), unpack(w)), u, w));
+                    radius = outer_three(radius, u, w);
                     if is_none(radius) {
                         place = Place::At(i, j);
                         break 'search;

@@ -17,10 +17,9 @@ use Rattle.products.proofs.four.entries.Tie as tie
 use Rattle.products.proofs.four.entries.Proof.Loops.{Inv-loop2, μ-loop2, Inv-loop3, μ-loop3, Inv-loop, μ-loop, Inv-search, μ-search}
 use Rattle.products.proofs.four.entries.Proof.Loops.{In1, Head, head, M, N, E, sizes, place-out}
 use Rattle.products.proofs.four.entries.Proof.Reads.{mul-a, add-a, mul-x, shared-slice-read-x, mul-b, add-b, mul-step-four, shared-slice-read-step-four, mul-step-four-2}
-use Rattle.products.proofs.four.entries.Proof.Reads.{shared-slice-read-step-four-2, mul-minus-magnitude, add-minus-magnitude, mul-minus-magnitude-2, shared-slice-read-minus-magnitude, mul-w, add-w, mul-w-2, shared-slice-read-w}
+use Rattle.products.proofs.four.entries.Proof.Reads.{shared-slice-read-step-four-2, mul-u, add-u, mul-u-2, shared-slice-read-u, mul-w, add-w, mul-w-2, shared-slice-read-w}
 use Rattle.products.proofs.four.entries.Proof.Turns.{new-requires, loop2-holds, is-nonzero-requires, step-four-requires, refused-requires, add-l, loop2-less, loop2-again}
-use Rattle.products.proofs.four.entries.Proof.Turns.{loop3-holds, minus-magnitude-requires, adds-requires, unpack-requires, unpack-requires-2, times-requires, product-down-requires}
-use Rattle.products.proofs.four.entries.Proof.Turns.{plus-down-requires, is-none-requires, add-l-2, loop3-less, loop3-again}
+use Rattle.products.proofs.four.entries.Proof.Turns.{loop3-holds, adds-requires, outer-four-requires, is-none-requires, add-l-2, loop3-less, loop3-again}
 use Rattle.products.proofs.four.entries.Proof.Ends.{closing, ends-requires, refused-requires-2, lower-requires, upper-requires, same-length-3, same-length-4, returns-2}
 use Rattle.products.proofs.four.entries.Proof.Ends.{same-length-5, same-length-6, returns-3, same-length-7, same-length-8, returns-4}
 
@@ -127,21 +126,16 @@ entries-spec =
     loop2-less
     loop2-again
     loop3-holds
-    mul-minus-magnitude
-    add-minus-magnitude
-    mul-minus-magnitude-2
-    shared-slice-read-minus-magnitude
-    minus-magnitude-requires
+    mul-u
+    add-u
+    mul-u-2
+    shared-slice-read-u
     mul-w
     add-w
     mul-w-2
     shared-slice-read-w
     adds-requires
-    unpack-requires
-    unpack-requires-2
-    times-requires
-    product-down-requires
-    plus-down-requires
+    outer-four-requires
     is-none-requires
     add-l-2
     loop3-less

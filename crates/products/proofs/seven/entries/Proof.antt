@@ -18,14 +18,13 @@ use Rattle.products.proofs.seven.entries.Proof.Loops.{Inv-loop2, μ-loo
 use Rattle.products.proofs.seven.entries.Proof.Loops.{In1, Head, head, N, E, sizes, place-out}
 use Rattle.products.proofs.seven.entries.Proof.Reads.{mul-a, add-a, mul-x, shared-slice-read-x, mul-b, add-b, mul-step-seven}
 use Rattle.products.proofs.seven.entries.Proof.Reads.{shared-slice-read-step-seven, mul-step-seven-2, shared-slice-read-step-seven-2, mul-a-2, add-a-2, mul-b-2, add-b-2}
-use Rattle.products.proofs.seven.entries.Proof.Reads.{mul-minus-magnitude, shared-slice-read-minus-magnitude, mul-w, shared-slice-read-w, mul-step-parts, shared-slice-read-step-parts, mul-step-parts-2}
-use Rattle.products.proofs.seven.entries.Proof.Reads.{shared-slice-read-step-parts-2, mul-magnitude, add-magnitude, mul-magnitude-2, shared-slice-read-magnitude, mul-magnitude-3, add-magnitude-2}
-use Rattle.products.proofs.seven.entries.Proof.Reads.{mul-magnitude-4, shared-slice-read-magnitude-2}
+use Rattle.products.proofs.seven.entries.Proof.Reads.{mul-u, shared-slice-read-u, mul-w, shared-slice-read-w, mul-step-parts, shared-slice-read-step-parts, mul-step-parts-2}
+use Rattle.products.proofs.seven.entries.Proof.Reads.{shared-slice-read-step-parts-2, mul-u-2, add-u, mul-u-3, shared-slice-read-u-2, mul-shared-seven, add-shared-seven}
+use Rattle.products.proofs.seven.entries.Proof.Reads.{mul-shared-seven-2, shared-slice-read-shared-seven}
 use Rattle.products.proofs.seven.entries.Proof.Turns.{new-requires, loop2-holds, is-nonzero-requires, step-seven-requires, refused-requires, add-l, loop2-less}
-use Rattle.products.proofs.seven.entries.Proof.Turns.{loop2-again, loop3-holds, minus-magnitude-requires, adds-requires, step-parts-requires, refused-requires-2, add-l-2}
+use Rattle.products.proofs.seven.entries.Proof.Turns.{loop2-again, loop3-holds, adds-requires, step-parts-requires, refused-requires-2, add-l-2}
 use Rattle.products.proofs.seven.entries.Proof.Turns.{loop3-less, loop3-again}
-use Rattle.products.proofs.seven.entries.Proof.Radius.{loop4-holds, magnitude-requires, is-nonzero-requires-2, magnitude-requires-2, unpack-requires, unpack-requires-2, times-requires}
-use Rattle.products.proofs.seven.entries.Proof.Radius.{product-down-requires, plus-down-requires, is-none-requires, add-l-3, loop4-less, loop4-again}
+use Rattle.products.proofs.seven.entries.Proof.Radius.{loop4-holds, is-nonzero-requires-2, shared-seven-requires, is-none-requires, add-l-3, loop4-less, loop4-again}
 use Rattle.products.proofs.seven.entries.Proof.Ends.{closing, ends-requires, refused-requires-3, lower-requires, upper-requires, same-length, same-length-2, returns}
 use Rattle.products.proofs.seven.entries.Proof.Ends.{same-length-3, same-length-4, returns-2, same-length-5, same-length-6, returns-3, same-length-7, same-length-8, returns-4}
 use Rattle.products.proofs.seven.entries.Proof.Ends.{same-length-9, same-length-10, returns-5}
@@ -127,9 +126,8 @@ entries-spec =
     add-a-2
     mul-b-2
     add-b-2
-    mul-minus-magnitude
-    shared-slice-read-minus-magnitude
-    minus-magnitude-requires
+    mul-u
+    shared-slice-read-u
     mul-w
     shared-slice-read-w
     adds-requires
@@ -143,22 +141,16 @@ entries-spec =
     loop3-less
     loop3-again
     loop4-holds
-    mul-magnitude
-    add-magnitude
-    mul-magnitude-2
-    shared-slice-read-magnitude
-    magnitude-requires
+    mul-u-2
+    add-u
+    mul-u-3
+    shared-slice-read-u-2
     is-nonzero-requires-2
-    mul-magnitude-3
-    add-magnitude-2
-    mul-magnitude-4
-    shared-slice-read-magnitude-2
-    magnitude-requires-2
-    unpack-requires
-    unpack-requires-2
-    times-requires
-    product-down-requires
-    plus-down-requires
+    mul-shared-seven
+    add-shared-seven
+    mul-shared-seven-2
+    shared-slice-read-shared-seven
+    shared-seven-requires
     is-none-requires
     add-l-3
     loop4-less

@@ -17,10 +17,9 @@ use Rattle.products.proofs.three.entries.Statement.{statement}
 use Rattle.products.proofs.three.entries.Tie as tie
 use Rattle.products.proofs.three.entries.Proof.Loops.{Inv-loop2, μ-loop2, Inv-loop3, μ-loop3, Inv-loop, μ-loop, Inv-search, μ-search}
 use Rattle.products.proofs.three.entries.Proof.Reads.{mul-b, add-b, mul-x, add-x, mul-x-2, shared-slice-read-x, mul-v, shared-slice-read-v, mul-step, shared-slice-read-step}
-use Rattle.products.proofs.three.entries.Proof.Reads.{mul-minus-magnitude, add-minus-magnitude, mul-minus-magnitude-2, shared-slice-read-minus-magnitude, mul-w, add-w, mul-w-2, shared-slice-read-w}
+use Rattle.products.proofs.three.entries.Proof.Reads.{mul-u, add-u, mul-u-2, shared-slice-read-u, mul-w, add-w, mul-w-2, shared-slice-read-w}
 use Rattle.products.proofs.three.entries.Proof.Turns.{loop2-holds, adds-requires, step-requires, refused-requires, add-l, loop2-less, loop2-again, minus-tiny-requires}
-use Rattle.products.proofs.three.entries.Proof.Turns.{plus-down-requires, is-none-requires, loop3-holds, minus-magnitude-requires, adds-requires-2, unpack-requires, unpack-requires-2}
-use Rattle.products.proofs.three.entries.Proof.Turns.{times-requires, product-down-requires, plus-down-requires-2, is-none-requires-2, add-l-2, loop3-less, loop3-again}
+use Rattle.products.proofs.three.entries.Proof.Turns.{plus-negative-requires, is-none-requires, loop3-holds, adds-requires-2, outer-three-requires, is-none-requires-2, add-l-2, loop3-less, loop3-again}
 use Rattle.products.proofs.three.entries.Proof.Ends.{opposite-requires, ends-requires, refused-requires-2, lower-requires, mul-lo, slice-write-lo, upper-requires, mul-up}
 use Rattle.products.proofs.three.entries.Proof.Ends.{slice-write-up, add-at, add-j, loop-less, loop-again}
 use Rattle.products.proofs.three.entries.Proof.Outs.{same-length, same-length-2, returns, same-length-3, same-length-4, returns-2, same-length-5, same-length-6, returns-3}
@@ -84,24 +83,19 @@ entries-spec =
     loop2-less
     loop2-again
     minus-tiny-requires
-    plus-down-requires
+    plus-negative-requires
     is-none-requires
     loop3-holds
-    mul-minus-magnitude
-    add-minus-magnitude
-    mul-minus-magnitude-2
-    shared-slice-read-minus-magnitude
-    minus-magnitude-requires
+    mul-u
+    add-u
+    mul-u-2
+    shared-slice-read-u
     mul-w
     add-w
     mul-w-2
     shared-slice-read-w
     adds-requires-2
-    unpack-requires
-    unpack-requires-2
-    times-requires
-    product-down-requires
-    plus-down-requires-2
+    outer-three-requires
     is-none-requires-2
     add-l-2
     loop3-less

@@ -2,22 +2,50 @@
 use borrow.Author.Needs.{needs}
 use Rattle.rounding.specs.Rounding.{down, up, negate}
 use Rattle.binary32.specs.Operations.{mul, with₂}
+use Rattle.binary32.specs.Order.{magnitudeOf}
+use Rattle.products.specs.Number.{Holds}
 use Rattle.products.specs.Exact.{Exactly}
 use Rattle.products.proofs.Multiplying.{exactly-of}
+use Rattle.products.proofs.Radii.{by-sizes, term-below}
 use Rattle.products.proofs.centred.Centred.step_parts.Statement.{statement}
 use Rattle.products.proofs.centred.Centred.step_parts.Tie as tie
 
-first : (c : tie.After-times2) →
-    let a = c .before .before .before .before .before .before .args in
-    Exactly (a .x) (a .y) (c .before .before .before .times .result)
-first c =
-    let t = c .before .before .before in
-    exactly-of _ _ (t .before .before .unpack .result) (t .before .unpack2 .result) (t .times .result) (t .before .before .unpack .ensures) (t .before .unpack2 .ensures) (t .times .ensures)
+-- the two products
+module _ (c : tie.After-times2) where
+  abbrev t : tie.After-times
+  t = c .before .before .before
 
-second : (c : tie.After-times2) →
-    let a = c .before .before .before .before .before .before .args in
-    Exactly (a .u) (a .v) (c .times2 .result)
-second c = exactly-of _ _ (c .before .before .unpack3 .result) (c .before .unpack4 .result) (c .times2 .result) (c .before .before .unpack3 .ensures) (c .before .unpack4 .ensures) (c .times2 .ensures)
+  abbrev m : tie.After-magnitude2
+  m = t .before .before .before
+
+  abbrev s : tie.Start
+  s = m .before .before
+
+  first : Exactly (s .args .x) (s .args .y) (t .times .result)
+  first =
+      let y = t .before in
+      let x = y .before in
+      exactly-of _ _ (x .unpack .result) (y .unpack2 .result) (t .times .result) (x .unpack .ensures) (y .unpack2 .ensures) (t .times .ensures)
+
+  second : Exactly (m .before .magnitude .result) (m .magnitude2 .result) (c .times2 .result)
+  second =
+      let v = c .before in
+      let u = v .before in
+      exactly-of _ _ (u .unpack3 .result) (v .unpack4 .result) (c .times2 .result) (u .unpack3 .ensures) (v .unpack4 .ensures) (c .times2 .ensures)
+
+-- what the radius gets
+grows : (c : tie.After-product-up2) →
+    let a = s (c .before .before .before .before .before) .args in
+    Holds (negate (with₂ (mul up) (magnitudeOf (a .u)) (magnitudeOf (a .v)))) (c .product-up2 .result)
+grows c =
+    let n = m (c .before .before .before .before .before) in
+    by-sizes _ _ _ _ (c .product-up2 .result) (n .before .magnitude .ensures) (n .magnitude2 .ensures) (c .product-up2 .ensures)
+
+magnitude-requires : tie.Need-magnitude-requires
+magnitude-requires c κs = search needs
+
+magnitude-requires-2 : tie.Need-magnitude-requires-2
+magnitude-requires-2 c κs = search needs
 
 unpack-requires : tie.Need-unpack-requires
 unpack-requires c κs = search needs
@@ -35,40 +63,45 @@ unpack-requires-4 : tie.Need-unpack-requires-4
 unpack-requires-4 c κs = search needs
 
 times-requires-2 : tie.Need-times-requires-2
-times-requires-2 c κs = search needs
+times-requires-2 c κs = record { first = c .before .unpack3 .ensures .part; second = c .unpack4 .ensures .part }
 
 product-down-requires : tie.Need-product-down-requires
 product-down-requires c κs = first c
 
 plus-down-requires : tie.Need-plus-down-requires
-plus-down-requires c κs = search needs
+plus-down-requires c κs = (s (c .before) .pre .lower, c .product-down .ensures .part)
 
 product-up-requires : tie.Need-product-up-requires
 product-up-requires c κs = first (c .before .before)
 
 plus-down-requires-2 : tie.Need-plus-down-requires-2
-plus-down-requires-2 c κs = search needs
+plus-down-requires-2 c κs = (s (c .before .before .before) .pre .opposed, c .product-up .ensures .part)
 
-product-down-requires-2 : tie.Need-product-down-requires-2
-product-down-requires-2 c κs = second (c .before .before .before .before)
+product-up-requires-2 : tie.Need-product-up-requires-2
+product-up-requires-2 c κs = second (c .before .before .before .before)
 
-plus-down-requires-3 : tie.Need-plus-down-requires-3
-plus-down-requires-3 c κs = (c .before .before .before .before .before .before .before .before .before .before .before .pre .radius, c .product-down2 .ensures .part)
+plus-negative-requires : tie.Need-plus-negative-requires
+plus-negative-requires c κs =
+    let p = s (c .before .before .before .before .before) .pre in
+    (p .radius, c .product-up2 .ensures .part, p .below, term-below _ _ (c .product-up2 .result) (grows c))
 
 returns : tie.Need-returns
 returns c =
     let d = c .before .before .before .before in
-    let a = d .before .before .before .before .before .before .before .before .args in
+    let h = c .before .before in
+    let a = s (d .before .before) .args in
     record {
       lower = d .plus-down .ensures (with₂ (mul down) (a .x) (a .y)) (d .before .product-down .ensures);
-      opposed = c .before .before .plus-down2 .ensures (negate (with₂ (mul up) (a .x) (a .y))) (c .before .before .before .product-up .ensures);
-      radius = c .plus-down3 .ensures (with₂ (mul down) (a .u) (a .v)) (c .before .product-down2 .ensures);
+      opposed = h .plus-down2 .ensures (negate (with₂ (mul up) (a .x) (a .y))) (h .before .product-up .ensures);
+      radius = c .plus-negative .ensures _ (grows (c .before));
     }
 
 pub step-parts-spec : {M : Type 1} → statement M
 step-parts-spec =
     tie.close
     (tie.spec
+    magnitude-requires
+    magnitude-requires-2
     unpack-requires
     unpack-requires-2
     times-requires
@@ -79,6 +112,6 @@ step-parts-spec =
     plus-down-requires
     product-up-requires
     plus-down-requires-2
-    product-down-requires-2
-    plus-down-requires-3
+    product-up-requires-2
+    plus-negative-requires
     returns)

@@ -38,7 +38,7 @@ pub ends-requires : tie.Need-ends-requires Inv-loop2 μ-loop2 Inv-loop3 μ-loop3
 ends-requires c κs =
     let p = spot (c .before .before .before .before .before .before) in
     let a = middle-numbers p _ _ (c .before .before .before .before .loop2 .inv .2) in
-    (a .lower, a .opposed, outer-number p _ _ _ (c .before .loop3 .inv .2))
+    (a .lower, a .opposed, outer-number p _ _ _ (c .before .loop3 .inv .2) .0)
 
 pub refused-requires-2 : tie.Need-refused-requires-2 Inv-loop2 μ-loop2 Inv-loop3 μ-loop3 Inv-loop μ-loop Inv-search μ-search
 refused-requires-2 c κs = search needs
@@ -81,18 +81,17 @@ returns-2 c =
     (middle-none (spot h) _ _ (middle-after turn _ (c .before .before .step-four .ensures)) (turn .loop2-test .taken) (sym (c .before .refused .ensures) ∙ c .if2 .taken)))
 
 pub same-length-5 : tie.Need-same-length-5 Inv-loop2 μ-loop2 Inv-loop3 μ-loop3 Inv-loop μ-loop Inv-search μ-search
-same-length-5 c = kept (c .before .before .before .before .before .before .before .before .before .before .before .before .before .before .before .before .before .before) .0
+same-length-5 c = kept (c .before .before .before .before .before .before .before .before .before .before .before .before .before) .0
 
 pub same-length-6 : tie.Need-same-length-6 Inv-loop2 μ-loop2 Inv-loop3 μ-loop3 Inv-loop μ-loop Inv-search μ-search
-same-length-6 c = kept (c .before .before .before .before .before .before .before .before .before .before .before .before .before .before .before .before .before .before) .1
+same-length-6 c = kept (c .before .before .before .before .before .before .before .before .before .before .before .before .before) .1
 
 pub returns-3 : tie.Need-returns-3 Inv-loop2 μ-loop2 Inv-loop3 μ-loop3 Inv-loop μ-loop Inv-search μ-search
 returns-3 c =
-    let turn : In3 = c .before .before .before .before .before .before .before .before .before .before .before .before in
+    let turn : In3 = c .before .before .before .before .before .before .before in
     let h : In1 = of₃ turn in
-    let u = c .before .before .before .before .before .before .before .before .before .before .minus-magnitude in
     stopped h (four-outer (spot h) _ (omega arith) (h .loop-test .taken) (turn .before .before .before .before .loop2 .s) (middle-whole (turn .before .before .before))
-    (outer-none (spot h) _ _ _ (outer-after turn (u .result) _ (u .ensures) (c .before .before .plus-down .ensures _ (c .before .before .before .product-down .ensures))) (turn .loop3-test .taken)
+    (outer-none (spot h) _ _ _ (outer-after turn _ (c .before .before .outer-four .ensures)) (turn .loop3-test .taken)
     (sym (c .before .is-none .ensures) ∙ c .if4 .taken)))
 
 pub same-length-7 : tie.Need-same-length-7 Inv-loop2 μ-loop2 Inv-loop3 μ-loop3 Inv-loop μ-loop Inv-search μ-search

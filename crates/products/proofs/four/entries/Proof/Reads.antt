@@ -34,26 +34,26 @@ mul-step-four-2 c = omega (arith, bounds₂ (c .before .before .before .before))
 pub shared-slice-read-step-four-2 : tie.Need-shared-slice-read-step-four-2 Inv-loop2 μ-loop2 Inv-loop3 μ-loop3 Inv-loop μ-loop Inv-search μ-search
 shared-slice-read-step-four-2 c = pair₂ (c .before .before .before .before .before) .rad-second
 
-pub mul-minus-magnitude : tie.Need-mul-minus-magnitude Inv-loop2 μ-loop2 Inv-loop3 μ-loop3 Inv-loop μ-loop Inv-search μ-search
-mul-minus-magnitude c = omega (arith, bounds₃ c)
+pub mul-u : tie.Need-mul-u Inv-loop2 μ-loop2 Inv-loop3 μ-loop3 Inv-loop μ-loop Inv-search μ-search
+mul-u c = omega (arith, bounds₃ c)
 
-pub add-minus-magnitude : tie.Need-add-minus-magnitude Inv-loop2 μ-loop2 Inv-loop3 μ-loop3 Inv-loop μ-loop Inv-search μ-search
-add-minus-magnitude c = omega (arith, bounds₃ c)
+pub add-u : tie.Need-add-u Inv-loop2 μ-loop2 Inv-loop3 μ-loop3 Inv-loop μ-loop Inv-search μ-search
+add-u c = omega (arith, bounds₃ c)
 
-pub mul-minus-magnitude-2 : tie.Need-mul-minus-magnitude-2 Inv-loop2 μ-loop2 Inv-loop3 μ-loop3 Inv-loop μ-loop Inv-search μ-search
-mul-minus-magnitude-2 c = omega (arith, bounds₃ c)
+pub mul-u-2 : tie.Need-mul-u-2 Inv-loop2 μ-loop2 Inv-loop3 μ-loop3 Inv-loop μ-loop Inv-search μ-search
+mul-u-2 c = omega (arith, bounds₃ c)
 
-pub shared-slice-read-minus-magnitude : tie.Need-shared-slice-read-minus-magnitude Inv-loop2 μ-loop2 Inv-loop3 μ-loop3 Inv-loop μ-loop Inv-search μ-search
-shared-slice-read-minus-magnitude c = pair₃ (c .before) .rad-first
+pub shared-slice-read-u : tie.Need-shared-slice-read-u Inv-loop2 μ-loop2 Inv-loop3 μ-loop3 Inv-loop μ-loop Inv-search μ-search
+shared-slice-read-u c = pair₃ (c .before) .rad-first
 
 pub mul-w : tie.Need-mul-w Inv-loop2 μ-loop2 Inv-loop3 μ-loop3 Inv-loop μ-loop Inv-search μ-search
-mul-w c = omega (arith, bounds₃ (c .before .before))
+mul-w c = omega (arith, bounds₃ (c .before))
 
 pub add-w : tie.Need-add-w Inv-loop2 μ-loop2 Inv-loop3 μ-loop3 Inv-loop μ-loop Inv-search μ-search
-add-w c = omega (arith, bounds₃ (c .before .before))
+add-w c = omega (arith, bounds₃ (c .before))
 
 pub mul-w-2 : tie.Need-mul-w-2 Inv-loop2 μ-loop2 Inv-loop3 μ-loop3 Inv-loop μ-loop Inv-search μ-search
-mul-w-2 c = omega (arith, bounds₃ (c .before .before))
+mul-w-2 c = omega (arith, bounds₃ (c .before))
 
 pub shared-slice-read-w : tie.Need-shared-slice-read-w Inv-loop2 μ-loop2 Inv-loop3 μ-loop3 Inv-loop μ-loop Inv-search μ-search
-shared-slice-read-w c = bounds₃ (c .before .before .before) .2
+shared-slice-read-w c = bounds₃ (c .before .before) .2

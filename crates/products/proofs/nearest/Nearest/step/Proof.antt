@@ -1,37 +1,54 @@
 -- `products::nearest::Nearest::step` meets its contract: the products of what is read from the patterns are exact, and each sum takes its rounded product.
 use borrow.Author.Needs.{needs}
-use mathlib.Core.Path.{sym, subst}
-use Prim.Native.Nat.{ℕ}
-use Rattle.rounding.specs.Rounding.{down, near}
+use Rattle.rounding.specs.Rounding.{up, near, negate}
 use Rattle.binary32.specs.Operations.{mul, with₂}
-use Rattle.products.specs.Number.{worth, Holds}
-use Rattle.products.specs.Running.{plusDown}
+use Rattle.binary32.specs.Order.{magnitudeOf}
+use Rattle.products.specs.Number.{Holds}
 use Rattle.products.specs.Exact.{Exactly}
-use Rattle.products.specs.Centred.{minusMagnitudeOf}
-use Rattle.products.proofs.Minus.{minus-unpacked}
 use Rattle.products.proofs.Multiplying.{exactly-of}
+use Rattle.products.proofs.Radii.{by-sizes, term-below}
 use Rattle.products.proofs.nearest.Nearest.step.Statement.{statement}
 use Rattle.products.proofs.nearest.Nearest.step.Tie as tie
 
-first : (c : tie.After-times2) → Exactly (c .before .before .before .before .before .before .before .args .x) (c .before .before .before .before .before .before .before .args .y) (c .before .before .before .times .result)
-first c =
-    let t = c .before .before .before in
-    let y = t .before in
-    let x = y .before .before in
-    exactly-of _ _ (x .unpack .result) (y .unpack2 .result) (t .times .result) (x .unpack .ensures) (y .unpack2 .ensures) (t .times .ensures)
+-- the two products
+module _ (c : tie.After-times2) where
+  abbrev t : tie.After-times
+  t = c .before .before .before
 
-second : (c : tie.After-times2) → Exactly (minusMagnitudeOf (c .before .before .before .before .before .before .before .args .x)) (c .before .before .before .before .before .before .before .args .v) (c .times2 .result)
-second c =
-    let v = c .before in
-    let m = v .before in
-    let x = m .before .before .before .before in
-    exactly-of _ _ (m .minus-size .result) (v .unpack3 .result) (c .times2 .result) (minus-unpacked _ (x .unpack .result) (m .minus-size .result) (x .unpack .ensures) (m .minus-size .ensures)) (v .unpack3 .ensures) (c .times2 .ensures)
+  abbrev m : tie.After-magnitude2
+  m = t .before .before .before
+
+  abbrev s : tie.Start
+  s = m .before .before
+
+  first : Exactly (s .args .x) (s .args .y) (t .times .result)
+  first =
+      let y = t .before in
+      let x = y .before in
+      exactly-of _ _ (x .unpack .result) (y .unpack2 .result) (t .times .result) (x .unpack .ensures) (y .unpack2 .ensures) (t .times .ensures)
+
+  second : Exactly (m .before .magnitude .result) (m .magnitude2 .result) (c .times2 .result)
+  second =
+      let v = c .before in
+      let u = v .before in
+      exactly-of _ _ (u .unpack3 .result) (v .unpack4 .result) (c .times2 .result) (u .unpack3 .ensures) (v .unpack4 .ensures) (c .times2 .ensures)
+
+-- what the radius gets
+grows : (c : tie.After-product-up) →
+    let a = s (c .before .before .before) .args in
+    Holds (negate (with₂ (mul up) (magnitudeOf (a .x)) (magnitudeOf (a .v)))) (c .product-up .result)
+grows c =
+    let n = m (c .before .before .before) in
+    by-sizes _ _ _ _ (c .product-up .result) (n .before .magnitude .ensures) (n .magnitude2 .ensures) (c .product-up .ensures)
+
+magnitude-requires : tie.Need-magnitude-requires
+magnitude-requires c κs = search needs
+
+magnitude-requires-2 : tie.Need-magnitude-requires-2
+magnitude-requires-2 c κs = search needs
 
 unpack-requires : tie.Need-unpack-requires
 unpack-requires c κs = search needs
-
-minus-magnitude-requires : tie.Need-minus-magnitude-requires
-minus-magnitude-requires c κs = search needs
 
 unpack-requires-2 : tie.Need-unpack-requires-2
 unpack-requires-2 c κs = search needs
@@ -39,57 +56,52 @@ unpack-requires-2 c κs = search needs
 times-requires : tie.Need-times-requires
 times-requires c κs = search needs
 
-minus-size-requires : tie.Need-minus-size-requires
-minus-size-requires c κs = search needs
-
 unpack-requires-3 : tie.Need-unpack-requires-3
 unpack-requires-3 c κs = search needs
 
+unpack-requires-4 : tie.Need-unpack-requires-4
+unpack-requires-4 c κs = search needs
+
 times-requires-2 : tie.Need-times-requires-2
-times-requires-2 c κs =
-    let m = c .before in
-    let x = m .before .before .before .before in
-    record { first = minus-unpacked _ (x .unpack .result) (m .minus-size .result) (x .unpack .ensures) (m .minus-size .ensures) .part; second = c .unpack3 .ensures .part }
+times-requires-2 c κs = record { first = c .before .unpack3 .ensures .part; second = c .unpack4 .ensures .part }
 
 product-near-requires : tie.Need-product-near-requires
 product-near-requires c κs = first c
 
 plus-near-requires : tie.Need-plus-near-requires
-plus-near-requires c κs = search needs
+plus-near-requires c κs = (s (c .before) .pre .centre, c .product-near .ensures .part)
 
-product-down-requires : tie.Need-product-down-requires
-product-down-requires c κs =
-    let q = c .before .before in
-    subst (λ (t : ℕ). Exactly t (q .before .before .before .before .before .before .before .args .v) (q .times2 .result)) (sym (q .before .before .before .before .before .minus-magnitude .ensures)) (second q)
+product-up-requires : tie.Need-product-up-requires
+product-up-requires c κs = second (c .before .before)
 
-plus-down-requires : tie.Need-plus-down-requires
-plus-down-requires c κs = (c .before .before .before .before .before .before .before .before .before .before .pre .radius, c .product-down .ensures .part)
+plus-negative-requires : tie.Need-plus-negative-requires
+plus-negative-requires c κs =
+    let p = s (c .before .before .before) .pre in
+    (p .radius, c .product-up .ensures .part, p .below, term-below _ _ (c .product-up .result) (grows c))
 
 returns : tie.Need-returns
 returns c =
     let d = c .before .before in
-    let m = c .before .before .before .before .before .before .before .before .before in
-    let a = m .before .before .args in
+    let a = s (d .before .before) .args in
     record {
       centre = d .plus-near .ensures (with₂ (mul near) (a .x) (a .y)) (d .before .product-near .ensures);
-      radius =
-          subst (λ (u : ℕ). Holds (plusDown (worth (a .self .radius)) (with₂ (mul down) u (a .v))) (c .plus-down .result)) (m .minus-magnitude .ensures)
-          (c .plus-down .ensures (with₂ (mul down) (m .minus-magnitude .result) (a .v)) (c .before .product-down .ensures));
+      radius = c .plus-negative .ensures _ (grows (c .before));
     }
 
 pub step-spec : {M : Type 1} → statement M
 step-spec =
     tie.close
     (tie.spec
+    magnitude-requires
+    magnitude-requires-2
     unpack-requires
-    minus-magnitude-requires
     unpack-requires-2
     times-requires
-    minus-size-requires
     unpack-requires-3
+    unpack-requires-4
     times-requires-2
     product-near-requires
     plus-near-requires
-    product-down-requires
-    plus-down-requires
+    product-up-requires
+    plus-negative-requires
     returns)

@@ -106,33 +106,30 @@ returns-2 c =
     (middle-none (spot h) _ _ (middle-after turn _ (c .before .before .step-seven .ensures)) (turn .loop2-test .taken) (sym (c .before .refused .ensures) ∙ c .if2 .taken)))
 
 pub same-length-5 : tie.Need-same-length-5 Inv-loop2 μ-loop2 Inv-loop3 μ-loop3 Inv-loop4 μ-loop4 Inv-loop μ-loop Inv-search μ-search
-same-length-5 c = kept (c .before .before .before .before .before .before .before .before .before .before .before .before .before .before .before) .0
+same-length-5 c = kept (c .before .before .before .before .before .before .before .before .before .before .before .before .before .before) .0
 
 pub same-length-6 : tie.Need-same-length-6 Inv-loop2 μ-loop2 Inv-loop3 μ-loop3 Inv-loop4 μ-loop4 Inv-loop μ-loop Inv-search μ-search
-same-length-6 c = kept (c .before .before .before .before .before .before .before .before .before .before .before .before .before .before .before) .1
+same-length-6 c = kept (c .before .before .before .before .before .before .before .before .before .before .before .before .before .before) .1
 
 pub returns-3 : tie.Need-returns-3 Inv-loop2 μ-loop2 Inv-loop3 μ-loop3 Inv-loop4 μ-loop4 Inv-loop μ-loop Inv-search μ-search
 returns-3 c =
-    let turn : In3 = c .before .before .before .before .before .before .before .before .before .before in
+    let turn : In3 = c .before .before .before .before .before .before .before .before .before in
     let h : In1 = of₃ turn in
-    let u = c .before .before .before .before .before .before .before .before .minus-magnitude in
     stopped h (seven-part (spot h) _ (omega arith) (h .loop-test .taken) (turn .before .before .before .loop2 .s) (middle-whole (turn .before .before))
-    (part-none (spot h) _ _ _ (part-after turn (u .result) _ (u .ensures) (c .before .before .step-parts .ensures)) (turn .loop3-test .taken) (sym (c .before .refused2 .ensures) ∙ c .if4 .taken)))
+    (part-none (spot h) _ _ _ (part-after turn _ (c .before .before .step-parts .ensures)) (turn .loop3-test .taken) (sym (c .before .refused2 .ensures) ∙ c .if4 .taken)))
 
 pub same-length-7 : tie.Need-same-length-7 Inv-loop2 μ-loop2 Inv-loop3 μ-loop3 Inv-loop4 μ-loop4 Inv-loop μ-loop Inv-search μ-search
-same-length-7 c = kept (c .before .before .before .before .before .before .before .before .before .before .before .before .before .before .before .before .before .before .before .before .before) .0
+same-length-7 c = kept (c .before .before .before .before .before .before .before .before .before .before .before .before .before .before .before) .0
 
 pub same-length-8 : tie.Need-same-length-8 Inv-loop2 μ-loop2 Inv-loop3 μ-loop3 Inv-loop4 μ-loop4 Inv-loop μ-loop Inv-search μ-search
-same-length-8 c = kept (c .before .before .before .before .before .before .before .before .before .before .before .before .before .before .before .before .before .before .before .before .before) .1
+same-length-8 c = kept (c .before .before .before .before .before .before .before .before .before .before .before .before .before .before .before) .1
 
 pub returns-4 : tie.Need-returns-4 Inv-loop2 μ-loop2 Inv-loop3 μ-loop3 Inv-loop4 μ-loop4 Inv-loop μ-loop Inv-search μ-search
 returns-4 c =
-    let turn : In4 = c .before .before .before .before .before .before .before .before .before .before .before .before .before in
+    let turn : In4 = c .before .before .before .before .before .before .before in
     let three = turn .before .before .before in
     let h : In1 = of₄ turn in
-    let u = c .before .before .before .before .before .before .before .before .before .before .before .magnitude in
-    let v = c .before .before .before .before .before .before .before .magnitude2 in
-    let after = shared-after turn (u .result) (v .result) _ (u .ensures) (v .ensures) (c .before .before .plus-down .ensures _ (c .before .before .before .product-down .ensures)) in
+    let after = shared-after turn _ (c .before .before .shared-seven .ensures) in
     stopped h (seven-shared (spot h) _ (omega arith) (h .loop-test .taken) (three .before .before .before .loop2 .s) (three .before .loop3 .s) (middle-whole (three .before .before)) (part-whole three)
     (shared-none (spot h) _ _ _ after (turn .loop4-test .taken) (sym (c .before .is-none .ensures) ∙ c .if6 .taken)))
 

@@ -46,50 +46,50 @@ mul-b-2 c = omega (arith, bounds₃ c)
 pub add-b-2 : tie.Need-add-b-2 Inv-loop2 μ-loop2 Inv-loop3 μ-loop3 Inv-loop4 μ-loop4 Inv-loop μ-loop Inv-search μ-search
 add-b-2 c = omega (arith, bounds₃ c)
 
-pub mul-minus-magnitude : tie.Need-mul-minus-magnitude Inv-loop2 μ-loop2 Inv-loop3 μ-loop3 Inv-loop4 μ-loop4 Inv-loop μ-loop Inv-search μ-search
-mul-minus-magnitude c = omega (arith, bounds₃ c)
+pub mul-u : tie.Need-mul-u Inv-loop2 μ-loop2 Inv-loop3 μ-loop3 Inv-loop4 μ-loop4 Inv-loop μ-loop Inv-search μ-search
+mul-u c = omega (arith, bounds₃ c)
 
-pub shared-slice-read-minus-magnitude : tie.Need-shared-slice-read-minus-magnitude Inv-loop2 μ-loop2 Inv-loop3 μ-loop3 Inv-loop4 μ-loop4 Inv-loop μ-loop Inv-search μ-search
-shared-slice-read-minus-magnitude c = pair₃ (c .before) .rad-first
+pub shared-slice-read-u : tie.Need-shared-slice-read-u Inv-loop2 μ-loop2 Inv-loop3 μ-loop3 Inv-loop4 μ-loop4 Inv-loop μ-loop Inv-search μ-search
+shared-slice-read-u c = pair₃ (c .before) .rad-first
 
 pub mul-w : tie.Need-mul-w Inv-loop2 μ-loop2 Inv-loop3 μ-loop3 Inv-loop4 μ-loop4 Inv-loop μ-loop Inv-search μ-search
-mul-w c = omega (arith, bounds₃ (c .before .before))
+mul-w c = omega (arith, bounds₃ (c .before))
 
 pub shared-slice-read-w : tie.Need-shared-slice-read-w Inv-loop2 μ-loop2 Inv-loop3 μ-loop3 Inv-loop4 μ-loop4 Inv-loop μ-loop Inv-search μ-search
-shared-slice-read-w c = bounds₃ (c .before .before .before) .3
+shared-slice-read-w c = bounds₃ (c .before .before) .3
 
 pub mul-step-parts : tie.Need-mul-step-parts Inv-loop2 μ-loop2 Inv-loop3 μ-loop3 Inv-loop4 μ-loop4 Inv-loop μ-loop Inv-search μ-search
-mul-step-parts c = omega (arith, bounds₃ (c .before .before .before .before .before))
+mul-step-parts c = omega (arith, bounds₃ (c .before .before .before .before))
 
 pub shared-slice-read-step-parts : tie.Need-shared-slice-read-step-parts Inv-loop2 μ-loop2 Inv-loop3 μ-loop3 Inv-loop4 μ-loop4 Inv-loop μ-loop Inv-search μ-search
-shared-slice-read-step-parts c = bounds₃ (c .before .before .before .before .before .before) .2
+shared-slice-read-step-parts c = bounds₃ (c .before .before .before .before .before) .2
 
 pub mul-step-parts-2 : tie.Need-mul-step-parts-2 Inv-loop2 μ-loop2 Inv-loop3 μ-loop3 Inv-loop4 μ-loop4 Inv-loop μ-loop Inv-search μ-search
-mul-step-parts-2 c = omega (arith, bounds₃ (c .before .before .before .before .before .before))
+mul-step-parts-2 c = omega (arith, bounds₃ (c .before .before .before .before .before))
 
 pub shared-slice-read-step-parts-2 : tie.Need-shared-slice-read-step-parts-2 Inv-loop2 μ-loop2 Inv-loop3 μ-loop3 Inv-loop4 μ-loop4 Inv-loop μ-loop Inv-search μ-search
-shared-slice-read-step-parts-2 c = bounds₃ (c .before .before .before .before .before .before .before) .4
+shared-slice-read-step-parts-2 c = bounds₃ (c .before .before .before .before .before .before) .4
 
-pub mul-magnitude : tie.Need-mul-magnitude Inv-loop2 μ-loop2 Inv-loop3 μ-loop3 Inv-loop4 μ-loop4 Inv-loop μ-loop Inv-search μ-search
-mul-magnitude c = omega (arith, bounds₄ c)
+pub mul-u-2 : tie.Need-mul-u-2 Inv-loop2 μ-loop2 Inv-loop3 μ-loop3 Inv-loop4 μ-loop4 Inv-loop μ-loop Inv-search μ-search
+mul-u-2 c = omega (arith, bounds₄ c)
 
-pub add-magnitude : tie.Need-add-magnitude Inv-loop2 μ-loop2 Inv-loop3 μ-loop3 Inv-loop4 μ-loop4 Inv-loop μ-loop Inv-search μ-search
-add-magnitude c = omega (arith, bounds₄ c)
+pub add-u : tie.Need-add-u Inv-loop2 μ-loop2 Inv-loop3 μ-loop3 Inv-loop4 μ-loop4 Inv-loop μ-loop Inv-search μ-search
+add-u c = omega (arith, bounds₄ c)
 
-pub mul-magnitude-2 : tie.Need-mul-magnitude-2 Inv-loop2 μ-loop2 Inv-loop3 μ-loop3 Inv-loop4 μ-loop4 Inv-loop μ-loop Inv-search μ-search
-mul-magnitude-2 c = omega (arith, bounds₄ c)
+pub mul-u-3 : tie.Need-mul-u-3 Inv-loop2 μ-loop2 Inv-loop3 μ-loop3 Inv-loop4 μ-loop4 Inv-loop μ-loop Inv-search μ-search
+mul-u-3 c = omega (arith, bounds₄ c)
 
-pub shared-slice-read-magnitude : tie.Need-shared-slice-read-magnitude Inv-loop2 μ-loop2 Inv-loop3 μ-loop3 Inv-loop4 μ-loop4 Inv-loop μ-loop Inv-search μ-search
-shared-slice-read-magnitude c = bounds₄ (c .before) .2
+pub shared-slice-read-u-2 : tie.Need-shared-slice-read-u-2 Inv-loop2 μ-loop2 Inv-loop3 μ-loop3 Inv-loop4 μ-loop4 Inv-loop μ-loop Inv-search μ-search
+shared-slice-read-u-2 c = bounds₄ (c .before) .2
 
-pub mul-magnitude-3 : tie.Need-mul-magnitude-3 Inv-loop2 μ-loop2 Inv-loop3 μ-loop3 Inv-loop4 μ-loop4 Inv-loop μ-loop Inv-search μ-search
-mul-magnitude-3 c = omega (arith, bounds₄ (c .before .before .before .before))
+pub mul-shared-seven : tie.Need-mul-shared-seven Inv-loop2 μ-loop2 Inv-loop3 μ-loop3 Inv-loop4 μ-loop4 Inv-loop μ-loop Inv-search μ-search
+mul-shared-seven c = omega (arith, bounds₄ (c .before .before .before))
 
-pub add-magnitude-2 : tie.Need-add-magnitude-2 Inv-loop2 μ-loop2 Inv-loop3 μ-loop3 Inv-loop4 μ-loop4 Inv-loop μ-loop Inv-search μ-search
-add-magnitude-2 c = omega (arith, bounds₄ (c .before .before .before .before))
+pub add-shared-seven : tie.Need-add-shared-seven Inv-loop2 μ-loop2 Inv-loop3 μ-loop3 Inv-loop4 μ-loop4 Inv-loop μ-loop Inv-search μ-search
+add-shared-seven c = omega (arith, bounds₄ (c .before .before .before))
 
-pub mul-magnitude-4 : tie.Need-mul-magnitude-4 Inv-loop2 μ-loop2 Inv-loop3 μ-loop3 Inv-loop4 μ-loop4 Inv-loop μ-loop Inv-search μ-search
-mul-magnitude-4 c = omega (arith, bounds₄ (c .before .before .before .before))
+pub mul-shared-seven-2 : tie.Need-mul-shared-seven-2 Inv-loop2 μ-loop2 Inv-loop3 μ-loop3 Inv-loop4 μ-loop4 Inv-loop μ-loop Inv-search μ-search
+mul-shared-seven-2 c = omega (arith, bounds₄ (c .before .before .before))
 
-pub shared-slice-read-magnitude-2 : tie.Need-shared-slice-read-magnitude-2 Inv-loop2 μ-loop2 Inv-loop3 μ-loop3 Inv-loop4 μ-loop4 Inv-loop μ-loop Inv-search μ-search
-shared-slice-read-magnitude-2 c = bounds₄ (c .before .before .before .before .before) .4
+pub shared-slice-read-shared-seven : tie.Need-shared-slice-read-shared-seven Inv-loop2 μ-loop2 Inv-loop3 μ-loop3 Inv-loop4 μ-loop4 Inv-loop μ-loop Inv-search μ-search
+shared-slice-read-shared-seven c = bounds₄ (c .before .before .before .before) .4

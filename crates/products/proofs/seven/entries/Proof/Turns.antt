@@ -1,13 +1,13 @@
 -- The turns of the first two inner loops of `products::seven::entries`: what they call, what the sums are then, and that the invariants go on.
 -- A turn takes a step or passes a pair over.
-use mathlib.Core.Path.{_≡_, refl, sym, _∙_, subst}
+use mathlib.Core.Path.{_≡_, sym, _∙_, subst}
 use mathlib.Core.Logic.{⊎-elim}
 use Prim.Native.Nat.{ℕ, _+_, _*_}
 use native.Mathlib.Omega.{arith}
 use lib.ListN.{getD}
 use borrow.Author.Needs.{needs}
 use Rattle.products.specs.declared.centred.Centred.{Centred}
-use Rattle.products.specs.Centred.{minusMagnitudeOf, Added}
+use Rattle.products.specs.Centred.{Added}
 use Rattle.products.proofs.FourEntry.{a-mid, a-rad, b-mid, b-rad, MiddleSum, MiddleNext, middle-start, middle-numbers, middle-next, middle-more, middle-skip}
 use Rattle.products.proofs.SevenEntry.{PartSum, PartNext, part-start, part-numbers, part-next, part-more}
 use Rattle.products.proofs.SevenZeros.{part-skip}
@@ -46,8 +46,8 @@ loop2-less c =
 pub middle-after : (c : In2) (r : Centred) →
     let p = spot (of₂ c) in
     let l = c .before .loop2 .l in
-    Added (c .before .loop2 .s) (a-mid p l) (b-mid p l) (minusMagnitudeOf (a-mid p l)) (b-rad p l) r → MiddleNext p l r
-middle-after c r h = middle-next (spot (of₂ c)) (c .before .loop2 .l) _ _ (c .before .loop2 .s) r (pair₂ c) (c .before .loop2 .inv .2) refl h
+    Added (c .before .loop2 .s) (a-mid p l) (b-mid p l) (a-mid p l) (b-rad p l) r → MiddleNext p l r
+middle-after c r h = middle-next (spot (of₂ c)) (c .before .loop2 .l) _ (c .before .loop2 .s) r (pair₂ c) (c .before .loop2 .inv .2) h
 
 -- the sums over midpoints of a pair more
 abbrev Middles : In2 → Centred → Type 0
@@ -70,15 +70,12 @@ loop2-again c =
 pub loop3-holds : tie.Need-loop3-holds Inv-loop2 μ-loop2 Inv-loop3 μ-loop3 Inv-loop4 μ-loop4 Inv-loop μ-loop Inv-search μ-search
 loop3-holds c = (omega arith, c .before .loop2 .inv .1, part-start (spot (c .before .before .before)) _ _ (c .before .loop2 .inv .2))
 
-pub minus-magnitude-requires : tie.Need-minus-magnitude-requires Inv-loop2 μ-loop2 Inv-loop3 μ-loop3 Inv-loop4 μ-loop4 Inv-loop μ-loop Inv-search μ-search
-minus-magnitude-requires c κs = search needs
-
 pub adds-requires : tie.Need-adds-requires Inv-loop2 μ-loop2 Inv-loop3 μ-loop3 Inv-loop4 μ-loop4 Inv-loop μ-loop Inv-search μ-search
 adds-requires c κs = search needs
 
 pub step-parts-requires : tie.Need-step-parts-requires Inv-loop2 μ-loop2 Inv-loop3 μ-loop3 Inv-loop4 μ-loop4 Inv-loop μ-loop Inv-search μ-search
 step-parts-requires c κs =
-    let turn : In3 = c .before .before .before .before .before .before .before in
+    let turn : In3 = c .before .before .before .before .before .before in
     part-numbers (spot (of₃ turn)) _ _ _ (turn .before .loop3 .inv .2)
 
 pub refused-requires-2 : tie.Need-refused-requires-2 Inv-loop2 μ-loop2 Inv-loop3 μ-loop3 Inv-loop4 μ-loop4 Inv-loop μ-loop Inv-search μ-search
@@ -86,12 +83,12 @@ refused-requires-2 c κs = search needs
 
 pub add-l-2 : tie.Need-add-l-2 Inv-loop2 μ-loop2 Inv-loop3 μ-loop3 Inv-loop4 μ-loop4 Inv-loop μ-loop Inv-search μ-search
 add-l-2 c =
-    let turn : In3 = c .before .before .before .before .before in
+    let turn : In3 = c .before .before .before .before in
     omega (arith, sizes (head (of₃ turn)), turn .loop3-test .taken)
 
 pub loop3-less : tie.Need-loop3-less Inv-loop2 μ-loop2 Inv-loop3 μ-loop3 Inv-loop4 μ-loop4 Inv-loop μ-loop Inv-search μ-search
 loop3-less c =
-    let turn : In3 = c .before .before .before .before .before in
+    let turn : In3 = c .before .before .before .before in
     omega (arith, turn .loop3-test .taken)
 
 -- the parts of a turn's pair, and |m| + r of its second cell
@@ -105,27 +102,26 @@ abbrev B-wide : In3 → ℕ
 B-wide c = getD (WB (head (of₃ c))) (c .before .loop3 .l * spot (of₃ c) .n + spot (of₃ c) .j) 0
 
 -- those continued with the parts, after a step
-pub part-after : (c : In3) (u : ℕ) (r : Centred) → u ≡ minusMagnitudeOf (a-rad (spot (of₃ c)) (c .before .loop3 .l)) → Added (c .before .loop3 .s) (A-part c) (B-part c) u (B-wide c) r
+pub part-after : (c : In3) (r : Centred) → Added (c .before .loop3 .s) (A-part c) (B-part c) (a-rad (spot (of₃ c)) (c .before .loop3 .l)) (B-wide c) r
     → PartNext (spot (of₃ c)) (c .before .before .before .loop2 .s) (c .before .loop3 .l) r
-part-after c u r e h =
+part-after c r h =
     let o = c .before .loop3 in
-    part-next (spot (of₃ c)) _ (o .l) _ _ _ u (B-wide c) (o .s) r (pair₃ c) (made (of₃ c) (o .l) (c .loop3-test .taken)) e (begin (head (of₃ c)) .pre .2 .each _ (pair₃ c .second)) (o .inv .2) h
+    part-next (spot (of₃ c)) _ (o .l) _ _ _ (B-wide c) (o .s) r (pair₃ c) (made (of₃ c) (o .l) (c .loop3-test .taken)) (begin (head (of₃ c)) .pre .2 .each _ (pair₃ c .second)) (o .inv .2) h
 
 abbrev Parts : In3 → Centred → Type 0
 Parts c s = PartSum (spot (of₃ c)) (c .before .before .before .loop2 .s) (c .before .loop3 .l + 1) s
 
-part-turn : (c : tie.Joined3 Inv-loop2 μ-loop2 Inv-loop3 μ-loop3 Inv-loop4 μ-loop4 Inv-loop μ-loop Inv-search μ-search) → Parts (c .before .before .before .before .before) (c .if3 .s)
+part-turn : (c : tie.Joined3 Inv-loop2 μ-loop2 Inv-loop3 μ-loop3 Inv-loop4 μ-loop4 Inv-loop μ-loop Inv-search μ-search) → Parts (c .before .before .before .before) (c .if3 .s)
 part-turn c =
-    let turn : In3 = c .before .before .before .before .before in
+    let turn : In3 = c .before .before .before .before in
     let o = turn .before .loop3 in
-    let u = c .before .before .before .minus-magnitude in
     ⊎-elim {C = Parts turn (c .if3 .s)}
-    (λ w. subst (Parts turn) (sym (w .6)) (part-more (spot (of₃ turn)) _ _ _ (part-after turn (u .result) _ (u .ensures) (w .3 .ensures)) (sym (w .4 .ensures) ∙ w .5 .left)))
+    (λ w. subst (Parts turn) (sym (w .6)) (part-more (spot (of₃ turn)) _ _ _ (part-after turn _ (w .3 .ensures)) (sym (w .4 .ensures) ∙ w .5 .left)))
     (λ w. subst (Parts turn) (sym (w .1))
-    (part-skip (spot (of₃ turn)) _ (o .l) (u .result) (B-wide turn) (o .s) (u .ensures) (begin (head (of₃ turn)) .pre .2 .each _ (pair₃ turn .second)) (o .inv .2) (sym (c .before .adds .ensures) ∙ w .0 .left)))
+    (part-skip (spot (of₃ turn)) _ (o .l) (B-wide turn) (o .s) (begin (head (of₃ turn)) .pre .2 .each _ (pair₃ turn .second)) (o .inv .2) (sym (c .before .adds .ensures) ∙ w .0 .left)))
     (c .if3 .came)
 
 pub loop3-again : tie.Need-loop3-again Inv-loop2 μ-loop2 Inv-loop3 μ-loop3 Inv-loop4 μ-loop4 Inv-loop μ-loop Inv-search μ-search
 loop3-again c =
-    let turn : In3 = c .before .before .before .before .before in
+    let turn : In3 = c .before .before .before .before in
     (omega (arith, turn .loop3-test .taken), turn .before .loop3 .inv .1, part-turn c)

@@ -21,11 +21,11 @@ Out3 = tie.After-loop3 Inv-loop2 μ-loop2 Inv-loop3 μ-loop3 Inv-loop μ-loop In
 -- after the second loop the radius has all pairs
 outer-all : (c : Out3) →
     let h : In1 = c .before .before .before .before .before .before .before .before .before in
-    OuterSum (spot h) (negℤ (worth (c .before .before .before .before .plus-down .result))) (spot h .k) (c .before .loop3 .radius)
+    OuterSum (spot h) (negℤ (worth (c .before .before .before .before .plus-negative .result))) (spot h .k) (c .before .loop3 .radius)
 outer-all c =
     let h : In1 = c .before .before .before .before .before .before .before .before .before in
     let all : c .before .loop3 .l ≡ spot h .k = omega arith in
-    subst (λ l. OuterSum (spot h) (negℤ (worth (c .before .before .before .before .plus-down .result))) l (c .before .loop3 .radius)) all (c .before .loop3 .inv .2)
+    subst (λ l. OuterSum (spot h) (negℤ (worth (c .before .before .before .before .plus-negative .result))) l (c .before .loop3 .radius)) all (c .before .loop3 .inv .2)
 
 -- the entry with these ends
 pub closed : (c : tie.After-ends Inv-loop2 μ-loop2 Inv-loop3 μ-loop3 Inv-loop μ-loop Inv-search μ-search) →
@@ -36,7 +36,7 @@ closed c =
     let f : Out2 = t .before .before .before .before .before .before in
     let h : In1 = f .before .before .before in
     let o = c .before .opposite in
-    three-closes (spot h) (h .before .loop .at) (here h) (h .loop-test .taken) (f .before .loop2 .s) (t .before .before .before .before .plus-down .result) (o .result)
+    three-closes (spot h) (h .before .loop .at) (here h) (h .loop-test .taken) (f .before .loop2 .s) (t .before .before .before .before .plus-negative .result) (o .result)
     (t .before .loop3 .radius) (c .ends .result) (first-all f) (tiny-all (t .before .before)) (o .ensures) (outer-all t) (c .ends .ensures)
 
 pub opposite-requires : tie.Need-opposite-requires Inv-loop2 μ-loop2 Inv-loop3 μ-loop3 Inv-loop μ-loop Inv-search μ-search
@@ -48,7 +48,7 @@ pub ends-requires : tie.Need-ends-requires Inv-loop2 μ-loop2 Inv-loop3 μ-loop3
 ends-requires c κs =
     let h : In1 = c .before .before .before .before .before .before .before .before .before .before in
     let f = first-numbers (spot h) _ _ (c .before .before .before .before .before .before .before .before .loop2 .inv .2) .centre in
-    (f, opposite-number f (c .opposite .ensures), outer-number (spot h) _ _ _ (c .before .before .loop3 .inv .2))
+    (f, opposite-number f (c .opposite .ensures), outer-number (spot h) _ _ _ (c .before .before .loop3 .inv .2) .0)
 
 pub refused-requires-2 : tie.Need-refused-requires-2 Inv-loop2 μ-loop2 Inv-loop3 μ-loop3 Inv-loop μ-loop Inv-search μ-search
 refused-requires-2 c κs = search needs

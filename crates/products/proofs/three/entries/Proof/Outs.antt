@@ -55,14 +55,14 @@ returns-3 c =
     leaves h (three-tiny (spot h) (h .before .loop .at) (here h) (h .loop-test .taken) (tiny-none (spot h) _ (tiny-after (c .before .before)) (sym (c .before .is-none .ensures) ∙ c .if3 .taken)))
 
 pub same-length-7 : tie.Need-same-length-7 Inv-loop2 μ-loop2 Inv-loop3 μ-loop3 Inv-loop μ-loop Inv-search μ-search
-same-length-7 c = kept (c .before .before .before .before .before .before .before .before .before .before .before .before .before .before .before .before .before .before .before .before .before) .0
+same-length-7 c = kept (c .before .before .before .before .before .before .before .before .before .before .before .before .before .before .before .before) .0
 
 pub same-length-8 : tie.Need-same-length-8 Inv-loop2 μ-loop2 Inv-loop3 μ-loop3 Inv-loop μ-loop Inv-search μ-search
-same-length-8 c = kept (c .before .before .before .before .before .before .before .before .before .before .before .before .before .before .before .before .before .before .before .before .before) .1
+same-length-8 c = kept (c .before .before .before .before .before .before .before .before .before .before .before .before .before .before .before .before) .1
 
 pub returns-4 : tie.Need-returns-4 Inv-loop2 μ-loop2 Inv-loop3 μ-loop3 Inv-loop μ-loop Inv-search μ-search
 returns-4 c =
-    let t : In3 = c .before .before .before .before .before .before .before .before .before .before .before .before in
+    let t : In3 = c .before .before .before .before .before .before .before in
     let h : In1 = one3 t in
     leaves h
     (three-outer (spot h) (h .before .loop .at) (here h) (h .loop-test .taken) _ (tiny-all (t .before .before))

@@ -47,26 +47,26 @@ mul-step c = omega (arith, bounds2 (c .before .before .before .before))
 pub shared-slice-read-step : tie.Need-shared-slice-read-step Inv-loop2 μ-loop2 Inv-loop3 μ-loop3 Inv-loop μ-loop Inv-search μ-search
 shared-slice-read-step c = pair2 (c .before .before .before .before .before) .mid-second
 
-pub mul-minus-magnitude : tie.Need-mul-minus-magnitude Inv-loop2 μ-loop2 Inv-loop3 μ-loop3 Inv-loop μ-loop Inv-search μ-search
-mul-minus-magnitude c = omega (arith, bounds3 c)
+pub mul-u : tie.Need-mul-u Inv-loop2 μ-loop2 Inv-loop3 μ-loop3 Inv-loop μ-loop Inv-search μ-search
+mul-u c = omega (arith, bounds3 c)
 
-pub add-minus-magnitude : tie.Need-add-minus-magnitude Inv-loop2 μ-loop2 Inv-loop3 μ-loop3 Inv-loop μ-loop Inv-search μ-search
-add-minus-magnitude c = omega (arith, bounds3 c)
+pub add-u : tie.Need-add-u Inv-loop2 μ-loop2 Inv-loop3 μ-loop3 Inv-loop μ-loop Inv-search μ-search
+add-u c = omega (arith, bounds3 c)
 
-pub mul-minus-magnitude-2 : tie.Need-mul-minus-magnitude-2 Inv-loop2 μ-loop2 Inv-loop3 μ-loop3 Inv-loop μ-loop Inv-search μ-search
-mul-minus-magnitude-2 c = omega (arith, bounds3 c)
+pub mul-u-2 : tie.Need-mul-u-2 Inv-loop2 μ-loop2 Inv-loop3 μ-loop3 Inv-loop μ-loop Inv-search μ-search
+mul-u-2 c = omega (arith, bounds3 c)
 
-pub shared-slice-read-minus-magnitude : tie.Need-shared-slice-read-minus-magnitude Inv-loop2 μ-loop2 Inv-loop3 μ-loop3 Inv-loop μ-loop Inv-search μ-search
-shared-slice-read-minus-magnitude c = pair3 (c .before) .rad-first
+pub shared-slice-read-u : tie.Need-shared-slice-read-u Inv-loop2 μ-loop2 Inv-loop3 μ-loop3 Inv-loop μ-loop Inv-search μ-search
+shared-slice-read-u c = pair3 (c .before) .rad-first
 
 pub mul-w : tie.Need-mul-w Inv-loop2 μ-loop2 Inv-loop3 μ-loop3 Inv-loop μ-loop Inv-search μ-search
-mul-w c = omega (arith, bounds3 (c .before .before))
+mul-w c = omega (arith, bounds3 (c .before))
 
 pub add-w : tie.Need-add-w Inv-loop2 μ-loop2 Inv-loop3 μ-loop3 Inv-loop μ-loop Inv-search μ-search
-add-w c = omega (arith, bounds3 (c .before .before))
+add-w c = omega (arith, bounds3 (c .before))
 
 pub mul-w-2 : tie.Need-mul-w-2 Inv-loop2 μ-loop2 Inv-loop3 μ-loop3 Inv-loop μ-loop Inv-search μ-search
-mul-w-2 c = omega (arith, bounds3 (c .before .before))
+mul-w-2 c = omega (arith, bounds3 (c .before))
 
 pub shared-slice-read-w : tie.Need-shared-slice-read-w Inv-loop2 μ-loop2 Inv-loop3 μ-loop3 Inv-loop μ-loop Inv-search μ-search
-shared-slice-read-w c = bounds3 (c .before .before .before) .3
+shared-slice-read-w c = bounds3 (c .before .before) .3

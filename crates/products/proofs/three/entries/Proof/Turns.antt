@@ -9,8 +9,7 @@ use lib.ListN.{getD}
 use Rattle.binary32.specs.Number.{valueOf, held}
 use Rattle.products.specs.Number.{worth}
 use Rattle.products.specs.Derived.{outerOf, raisedOf, factorOf}
-use Rattle.products.proofs.Multiplying.{exactly-of}
-use Rattle.products.proofs.NearestSteps.{tiny-holds}
+use Rattle.products.proofs.NearestSteps.{tiny-holds, tiny-below}
 use Rattle.products.proofs.FourEntry.{b-mid, b-rad, OuterSum, OuterNext, outer-start, outer-number, outer-next, outer-more, outer-skip}
 use Rattle.products.proofs.ThreeSteps.{FirstSum, FirstNext, first-start, first-numbers, first-next, first-more, first-skip, TinyNext, TinySum, tiny-next, tiny-sum, tiny-number}
 use Rattle.products.proofs.three.entries.Tie as tie
@@ -79,23 +78,26 @@ first-all c =
     let all : c .before .loop2 .l ≡ spot h .k = omega arith in
     subst (λ l. FirstSum (spot h) l (c .before .loop2 .s)) all (c .before .loop2 .inv .2)
 
-pub tiny-after : (c : tie.After-plus-down Inv-loop2 μ-loop2 Inv-loop3 μ-loop3 Inv-loop μ-loop Inv-search μ-search) →
+pub tiny-after : (c : tie.After-plus-negative Inv-loop2 μ-loop2 Inv-loop3 μ-loop3 Inv-loop μ-loop Inv-search μ-search) →
     let h : In1 = c .before .before .before .before .before in
-    TinyNext (spot h) (c .plus-down .result)
+    TinyNext (spot h) (c .plus-negative .result)
 tiny-after c =
     let t : Out2 = c .before .before in
-    tiny-next (spot (t .before .before .before)) (t .before .loop2 .s) (c .before .minus-tiny .result) (c .plus-down .result) (first-all t) (c .before .minus-tiny .ensures) (c .plus-down .ensures)
+    tiny-next (spot (t .before .before .before)) (t .before .loop2 .s) (c .before .minus-tiny .result) (c .plus-negative .result) (first-all t) (c .before .minus-tiny .ensures) (c .plus-negative .ensures)
 
 pub tiny-all : (c : tie.Else3 Inv-loop2 μ-loop2 Inv-loop3 μ-loop3 Inv-loop μ-loop Inv-search μ-search) →
     let h : In1 = c .before .before .before .before .before .before .before in
-    TinySum (spot h) (c .before .before .plus-down .result)
+    TinySum (spot h) (c .before .before .plus-negative .result)
 tiny-all c = tiny-sum (spot (c .before .before .before .before .before .before .before)) _ (tiny-after (c .before .before)) (sym (c .before .is-none .ensures) ∙ c .if3 .left)
 
 pub minus-tiny-requires : tie.Need-minus-tiny-requires Inv-loop2 μ-loop2 Inv-loop3 μ-loop3 Inv-loop μ-loop Inv-search μ-search
 minus-tiny-requires c κs = search needs
 
-pub plus-down-requires : tie.Need-plus-down-requires Inv-loop2 μ-loop2 Inv-loop3 μ-loop3 Inv-loop μ-loop Inv-search μ-search
-plus-down-requires c κs = (first-numbers (spot (c .before .before .before .before)) _ _ (c .before .before .loop2 .inv .2) .radius, tiny-holds (c .minus-tiny .result) (c .minus-tiny .ensures) .part)
+pub plus-negative-requires : tie.Need-plus-negative-requires Inv-loop2 μ-loop2 Inv-loop3 μ-loop3 Inv-loop μ-loop Inv-search μ-search
+plus-negative-requires c κs =
+    let n = first-numbers (spot (c .before .before .before .before)) _ _ (c .before .before .loop2 .inv .2) in
+    let t = c .minus-tiny in
+    (n .radius, tiny-holds (t .result) (t .ensures) .part, n .below, tiny-below (t .result) (t .ensures))
 
 pub is-none-requires : tie.Need-is-none-requires Inv-loop2 μ-loop2 Inv-loop3 μ-loop3 Inv-loop μ-loop Inv-search μ-search
 is-none-requires c κs = search needs
@@ -103,42 +105,27 @@ is-none-requires c κs = search needs
 pub loop3-holds : tie.Need-loop3-holds Inv-loop2 μ-loop2 Inv-loop3 μ-loop3 Inv-loop μ-loop Inv-search μ-search
 loop3-holds c =
     let h : In1 = c .before .before .before .before .before .before .before in
-    (omega arith, c .before .before .before .before .before .loop2 .inv .1, outer-start (spot h) _ (tiny-number (spot h) _ (tiny-all c)))
+    let t = tiny-number (spot h) _ (tiny-all c) in
+    (omega arith, c .before .before .before .before .before .loop2 .inv .1, outer-start (spot h) _ (t .0) (t .1))
 
 -- ---- the second loop
-
-pub minus-magnitude-requires : tie.Need-minus-magnitude-requires Inv-loop2 μ-loop2 Inv-loop3 μ-loop3 Inv-loop μ-loop Inv-search μ-search
-minus-magnitude-requires c κs = search needs
 
 pub adds-requires-2 : tie.Need-adds-requires-2 Inv-loop2 μ-loop2 Inv-loop3 μ-loop3 Inv-loop μ-loop Inv-search μ-search
 adds-requires-2 c κs = search needs
 
-pub unpack-requires : tie.Need-unpack-requires Inv-loop2 μ-loop2 Inv-loop3 μ-loop3 Inv-loop μ-loop Inv-search μ-search
-unpack-requires c κs = search needs
-
-pub unpack-requires-2 : tie.Need-unpack-requires-2 Inv-loop2 μ-loop2 Inv-loop3 μ-loop3 Inv-loop μ-loop Inv-search μ-search
-unpack-requires-2 c κs = search needs
-
-pub times-requires : tie.Need-times-requires Inv-loop2 μ-loop2 Inv-loop3 μ-loop3 Inv-loop μ-loop Inv-search μ-search
-times-requires c κs = record { first = c .before .unpack .ensures .part; second = c .unpack2 .ensures .part }
-
-pub product-down-requires : tie.Need-product-down-requires Inv-loop2 μ-loop2 Inv-loop3 μ-loop3 Inv-loop μ-loop Inv-search μ-search
-product-down-requires c κs =
-    exactly-of _ _ (c .before .before .unpack .result) (c .before .unpack2 .result) (c .times .result) (c .before .before .unpack .ensures) (c .before .unpack2 .ensures) (c .times .ensures)
-
-pub plus-down-requires-2 : tie.Need-plus-down-requires-2 Inv-loop2 μ-loop2 Inv-loop3 μ-loop3 Inv-loop μ-loop Inv-search μ-search
-plus-down-requires-2 c κs =
-    let t : In3 = c .before .before .before .before .before .before .before .before .before in
-    (outer-number (spot (one3 t)) _ _ _ (t .before .loop3 .inv .2), c .product-down .ensures .part)
+pub outer-three-requires : tie.Need-outer-three-requires Inv-loop2 μ-loop2 Inv-loop3 μ-loop3 Inv-loop μ-loop Inv-search μ-search
+outer-three-requires c κs =
+    let t : In3 = c .before .before .before .before in
+    outer-number (spot (one3 t)) _ _ _ (t .before .loop3 .inv .2)
 
 pub is-none-requires-2 : tie.Need-is-none-requires-2 Inv-loop2 μ-loop2 Inv-loop3 μ-loop3 Inv-loop μ-loop Inv-search μ-search
 is-none-requires-2 c κs = search needs
 
 pub add-l-2 : tie.Need-add-l-2 Inv-loop2 μ-loop2 Inv-loop3 μ-loop3 Inv-loop μ-loop Inv-search μ-search
-add-l-2 c = omega (arith, bounds3 (c .before .before .before .before .before))
+add-l-2 c = omega (arith, bounds3 (c .before .before .before .before))
 
 pub loop3-less : tie.Need-loop3-less Inv-loop2 μ-loop2 Inv-loop3 μ-loop3 Inv-loop μ-loop Inv-search μ-search
-loop3-less c = omega (arith, (c .before .before .before .before .before) .loop3-test .taken)
+loop3-less c = omega (arith, (c .before .before .before .before) .loop3-test .taken)
 
 -- what is read of wb holds |mB| + rB
 wide : (t : In3) →
@@ -148,30 +135,27 @@ wide : (t : In3) →
 wide t = start (one3 t) .pre .2 .each _ (pair3 t .second)
 
 -- the radius after a term more, a number or none
-pub outer-after : (c : tie.After-plus-down2 Inv-loop2 μ-loop2 Inv-loop3 μ-loop3 Inv-loop μ-loop Inv-search μ-search) →
-    let t : In3 = c .before .before .before .before .before .before .before .before .before .before in
-    OuterNext (spot (one3 t)) (negℤ (worth (t .before .before .before .before .plus-down .result))) (t .before .loop3 .l) (c .plus-down2 .result)
+pub outer-after : (c : tie.After-outer-three Inv-loop2 μ-loop2 Inv-loop3 μ-loop3 Inv-loop μ-loop Inv-search μ-search) →
+    let t : In3 = c .before .before .before .before .before in
+    OuterNext (spot (one3 t)) (negℤ (worth (t .before .before .before .before .plus-negative .result))) (t .before .loop3 .l) (c .outer-three .result)
 outer-after c =
-    let t : In3 = c .before .before .before .before .before .before .before .before .before .before in
+    let t : In3 = c .before .before .before .before .before in
     let o = t .before .loop3 in
-    let u = c .before .before .before .before .before .before .before .before .minus-magnitude in
-    outer-next (spot (one3 t)) (o .l) _ (u .result) _ _ (o .radius) (c .plus-down2 .result) (pair3 t) (o .inv .2) (u .ensures) (wide t)
-    (c .plus-down2 .ensures _ (c .before .product-down .ensures))
+    outer-next (spot (one3 t)) (o .l) _ _ _ (o .radius) (c .outer-three .result) (pair3 t) (o .inv .2) (wide t) (c .outer-three .ensures)
 
 -- the radius after a turn, with a term more or a pair passed over
 outer-turn : (c : tie.Joined4 Inv-loop2 μ-loop2 Inv-loop3 μ-loop3 Inv-loop μ-loop Inv-search μ-search) →
-    let t : In3 = c .before .before .before .before .before in
-    OuterSum (spot (one3 t)) (negℤ (worth (t .before .before .before .before .plus-down .result))) (t .before .loop3 .l + 1) (c .if4 .radius)
+    let t : In3 = c .before .before .before .before in
+    OuterSum (spot (one3 t)) (negℤ (worth (t .before .before .before .before .plus-negative .result))) (t .before .loop3 .l + 1) (c .if4 .radius)
 outer-turn c =
-    let t : In3 = c .before .before .before .before .before in
+    let t : In3 = c .before .before .before .before in
     let p = spot (one3 t) in
-    let v = negℤ (worth (t .before .before .before .before .plus-down .result)) in
+    let v = negℤ (worth (t .before .before .before .before .plus-negative .result)) in
     let o = t .before .loop3 in
-    let u = c .before .before .before .minus-magnitude in
     ⊎-elim {C = OuterSum p v (o .l + 1) (c .if4 .radius)}
-    (λ w. subst (OuterSum p v (o .l + 1)) (sym (w .8)) (outer-more p v (o .l) _ (outer-next p (o .l) _ (u .result) _ v (o .radius) _ (pair3 t) (o .inv .2) (u .ensures) (wide t) (w .5 .ensures _ (w .4 .ensures))) (sym (w .6 .ensures) ∙ w .7 .left)))
-    (λ w. subst (OuterSum p v (o .l + 1)) (sym (w .1)) (outer-skip p (o .l) (u .result) _ v (o .radius) (o .inv .2) (u .ensures) (wide t) (sym (c .before .adds2 .ensures) ∙ w .0 .left)))
+    (λ w. subst (OuterSum p v (o .l + 1)) (sym (w .4)) (outer-more p v (o .l) _ (outer-next p (o .l) _ _ v (o .radius) _ (pair3 t) (o .inv .2) (wide t) (w .1 .ensures)) (sym (w .2 .ensures) ∙ w .3 .left)))
+    (λ w. subst (OuterSum p v (o .l + 1)) (sym (w .1)) (outer-skip p (o .l) _ v (o .radius) (o .inv .2) (wide t) (sym (c .before .adds2 .ensures) ∙ w .0 .left)))
     (c .if4 .came)
 
 pub loop3-again : tie.Need-loop3-again Inv-loop2 μ-loop2 Inv-loop3 μ-loop3 Inv-loop μ-loop Inv-search μ-search
-loop3-again c = (omega (arith, (c .before .before .before .before .before) .loop3-test .taken), (c .before .before .before .before .before) .before .loop3 .inv .1, outer-turn c)
+loop3-again c = (omega (arith, (c .before .before .before .before) .loop3-test .taken), (c .before .before .before .before) .before .loop3 .inv .1, outer-turn c)

@@ -1,0 +1,60 @@
+-- `products::radius::outer_three` meets its contract: the product of what is read from the magnitudes is exact, and the radius takes it, rounded up.
+use borrow.Author.Needs.{needs}
+use Rattle.rounding.specs.Rounding.{up, negate}
+use Rattle.binary32.specs.Operations.{mul, with₂}
+use Rattle.binary32.specs.Order.{magnitudeOf}
+use Rattle.products.specs.Number.{Holds}
+use Rattle.products.proofs.Multiplying.{exactly-of}
+use Rattle.products.proofs.Radii.{by-sizes, term-below}
+use Rattle.products.proofs.radius.outer_three.Statement.{statement}
+use Rattle.products.proofs.radius.outer_three.Tie as tie
+
+abbrev start : tie.After-product-up → tie.Start
+start c = c .before .before .before .before .before .before
+
+grows : (c : tie.After-product-up) → Holds (negate (with₂ (mul up) (magnitudeOf (start c .args .u)) (magnitudeOf (start c .args .v)))) (c .product-up .result)
+grows c =
+    let n = c .before .before .before .before in
+    by-sizes _ _ _ _ (c .product-up .result) (n .before .magnitude .ensures) (n .magnitude2 .ensures) (c .product-up .ensures)
+
+magnitude-requires : tie.Need-magnitude-requires
+magnitude-requires c κs = search needs
+
+magnitude-requires-2 : tie.Need-magnitude-requires-2
+magnitude-requires-2 c κs = search needs
+
+unpack-requires : tie.Need-unpack-requires
+unpack-requires c κs = search needs
+
+unpack-requires-2 : tie.Need-unpack-requires-2
+unpack-requires-2 c κs = search needs
+
+times-requires : tie.Need-times-requires
+times-requires c κs = search needs
+
+product-up-requires : tie.Need-product-up-requires
+product-up-requires c κs =
+    let v = c .before in
+    let u = v .before in
+    exactly-of _ _ (u .unpack .result) (v .unpack2 .result) (c .times .result) (u .unpack .ensures) (v .unpack2 .ensures) (c .times .ensures)
+
+plus-negative-requires : tie.Need-plus-negative-requires
+plus-negative-requires c κs =
+    let p = start c .pre in
+    (p .0, c .product-up .ensures .part, p .1, term-below _ _ (c .product-up .result) (grows c))
+
+returns : tie.Need-returns
+returns c = c .plus-negative .ensures _ (grows (c .before))
+
+pub outer-three-spec : {M : Type 1} → statement M
+outer-three-spec =
+    tie.close
+    (tie.spec
+    magnitude-requires
+    magnitude-requires-2
+    unpack-requires
+    unpack-requires-2
+    times-requires
+    product-up-requires
+    plus-negative-requires
+    returns)

@@ -1,0 +1,41 @@
+// A radius with a product more or less. It is kept with the other sign, so that what is rounded up is rounded down. Each loop has its own function, which the compiler puts into it.
+ghost use Rattle.products.specs.Number.{IsNumber, Below};
+ghost use Rattle.products.specs.Centred.{Grown, Shrunk};
+use crate::number::Number;
+use crate::pattern::unpack;
+use crate::plus::plus_down;
+use crate::plus::plus_negative;
+use crate::times::product_down;
+use crate::times::product_up;
+use crate::times::times;
+use binary32::order::magnitude;
+
+// Method 3: |u| × |v| more.
+pub fn outer_three(radius: Number, u: u32, v: u32) -> Number
+    requires { ⌜ IsNumber radius × Below radius ⌝ }
+    ensures { λ r. ⌜ Grown radius u v r ⌝ }
+{
+    let a = magnitude(u);
+    let b = magnitude(v);
+    plus_negative(radius, product_up(times(unpack(a), unpack(b)), a, b))
+}
+
+// Method 4: the same.
+pub fn outer_four(radius: Number, u: u32, v: u32) -> Number
+    requires { ⌜ IsNumber radius × Below radius ⌝ }
+    ensures { λ r. ⌜ Grown radius u v r ⌝ }
+{
+    let a = magnitude(u);
+    let b = magnitude(v);
+    plus_negative(radius, product_up(times(unpack(a), unpack(b)), a, b))
+}
+
+// Method 7: |u| × |v| less.
+pub fn shared_seven(radius: Number, u: u32, v: u32) -> Number
+    requires { ⌜ IsNumber radius ⌝ }
+    ensures { λ r. ⌜ Shrunk radius u v r ⌝ }
+{
+    let a = magnitude(u);
+    let b = magnitude(v);
+    plus_down(radius, product_down(times(unpack(a), unpack(b)), a, b))
+}
