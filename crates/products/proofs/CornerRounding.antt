@@ -27,7 +27,7 @@ use Rattle.products.proofs.CornerOrder.{min-left, min-right, max-left, 
 
 -- ---- the lesser of two partial results, none being the least of all
 
-abbrev pub both : Option ℤ → Option ℤ → Option ℤ
+abbrev both : Option ℤ → Option ℤ → Option ℤ
 both x y = bind x λ u. bind y λ v. some (minℤ u v)
 
 abbrev Under : Option ℤ → Option ℤ → Type 0
@@ -48,7 +48,7 @@ both-right none (some v) h = absurd h
 both-right (some u) none h = refl
 both-right (some u) (some v) h = ap some (sym (min-right h))
 
-pub both-four : (w x y z : Option ℤ) → both (both w x) (both y z) ≡ all₄ least₄ w x y z
+both-four : (w x y z : Option ℤ) → both (both w x) (both y z) ≡ all₄ least₄ w x y z
 unfolding bind
 both-four none x y z = refl
 both-four (some p) none y z = refl
@@ -75,7 +75,7 @@ module _ (f : Format) (D : ℕ) (d : 0 < D) where
       (λ h. both-right (down f D X) (down f D Y) (down-under h) ∙ ap (down f D) (min-right h))
       (≼-total X Y)
 
-  pub least-down : (W X Y Z : ℤ) → all₄ least₄ (down f D W) (down f D X) (down f D Y) (down f D Z) ≡ down f D (least₄ W X Y Z)
+  least-down : (W X Y Z : ℤ) → all₄ least₄ (down f D W) (down f D X) (down f D Y) (down f D Z) ≡ down f D (least₄ W X Y Z)
   least-down W X Y Z = sym (both-four (down f D W) (down f D X) (down f D Y) (down f D Z)) ∙ ap₂ both (down-both W X) (down-both Y Z) ∙ down-both (minℤ W X) (minℤ Y Z)
 
 -- ---- the greatest, by the other sign
@@ -87,7 +87,7 @@ neg-max a b =
     (λ h. ap negℤ (sym (max-left h)) ∙ min-left (neg-mono h))
     (≼-total a b)
 
-pub neg-greatest : (a b c d : ℤ) → negℤ (greatest₄ a b c d) ≡ least₄ (negℤ a) (negℤ b) (negℤ c) (negℤ d)
+neg-greatest : (a b c d : ℤ) → negℤ (greatest₄ a b c d) ≡ least₄ (negℤ a) (negℤ b) (negℤ c) (negℤ d)
 neg-greatest a b c d = neg-max (maxℤ a b) (maxℤ c d) ∙ ap₂ minℤ (neg-max a b) (neg-max c d)
 
 negate-all : (w x y z : Option ℤ) → negate (all₄ greatest₄ w x y z) ≡ all₄ least₄ (negate w) (negate x) (negate y) (negate z)
@@ -102,7 +102,7 @@ pub mirror : (f : Format) (D : ℕ) (X : ℤ) → negate (up f D X) ≡ down f D
 unfolding down
 mirror f D X = ap (λ z. negate (up f D z)) (sym (negℤ-negℤ X))
 
-pub greatest-up : (f : Format) (D : ℕ) → 0 < D → (W X Y Z : ℤ)
+greatest-up : (f : Format) (D : ℕ) → 0 < D → (W X Y Z : ℤ)
     → negate (all₄ greatest₄ (up f D W) (up f D X) (up f D Y) (up f D Z)) ≡ down f D (negℤ (greatest₄ W X Y Z))
 greatest-up f D d W X Y Z =
     negate-all (up f D W) (up f D X) (up f D Y) (up f D Z)

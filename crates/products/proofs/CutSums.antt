@@ -10,9 +10,9 @@ use lib.IntN.{ℤ, pos, natAbs, _+ℤ_, _*ℤ_}
 use lib.Signed.{mag, shrZ}
 use Rattle.algebra.specs.Order.{_≼_, _≺_}
 use Rattle.algebra.proofs.Floor.{floor-low, floor-high}
-use Rattle.algebra.proofs.Linear.{reading, le, lt, eq, lin-le, lin-lt}
+use Rattle.algebra.proofs.Linear.{reading, le, lt, eq, lin-le, lin-lt, lin-eq}
 use Rattle.algebra.proofs.Natural.{of-lt}
-use Rattle.algebra.proofs.Order.{nonneg, mul-mono-right, ≺-step, cancel-le, cancel-lt}
+use Rattle.algebra.proofs.Order.{≼-refl, ≼-antisym, nonneg, mul-mono-right, ≺-step, cancel-le, cancel-lt}
 use Rattle.algebra.proofs.Power.{pow-split}
 use Rattle.binary32.proofs.Ints.{natAbs-mag}
 use Rattle.products.specs.declared.number.Number.{Number}
@@ -21,7 +21,7 @@ use Rattle.products.specs.Cuts.{IsFloor, DownOf, room, CutDown}
 use Rattle.products.proofs.Floors.{Full, full-few, full-long, floor-self, floored, limits}
 use Rattle.products.proofs.Leading.{Lead, lead-of, lead-far, full-cut}
 use Rattle.products.proofs.Worths.{worth-is}
-use Rattle.products.proofs.FarShifts.{natAbs-zero, none-left}
+use Rattle.products.proofs.FarShifts.{raised-abs, natAbs-zero, none-left}
 
 -- ---- the count of places, over the power Z: w * Z is between c and c + 1 times 2 ^ 38, and w * E is Y, or Y rounded down
 pub record Between (Y c : ℤ) (E Z : ℕ) : Type 0 where
@@ -142,3 +142,14 @@ module _ (X w : ℤ) (be : ℕ) (short : natAbs w ≤ 2 ^ 61) where
 pub cut-exact : (X w : ℤ) (be : ℕ) (r : Number) → natAbs w ≤ 2 ^ 61 → w *ℤ pos (2 ^ be) ≡ X *ℤ pos (2 ^ 400) *ℤ pos (2 ^ 36) → CutDown w be r → be ≤ 4000 → DownOf X r
 cut-exact X w be r short e h high =
     rounded X w be short (cut-close X w be short e) (λ n. none-left X w (2 ^ be) (2 ^ 400) (pow-pos 400) (natAbs-zero w n) e) r h high
+
+-- a whole number of units, of at most 24 digits, brought to normal form
+module _ (z : ℤ) (r : Number) (few : natAbs z ≤ 2 ^ 24) (h : CutDown (z *ℤ pos (2 ^ 36)) 400 r) where
+  pub whole-cut : DownOf z r
+  whole-cut = cut-exact z (z *ℤ pos (2 ^ 36)) 400 r (omega (arith, raised-abs z)) (turn (2 ^ 36) (2 ^ 400)) h (omega arith)
+    where
+      turn : (a b : ℕ) → z *ℤ pos a *ℤ pos b ≡ z *ℤ pos b *ℤ pos a
+      turn a b = lin-eq (z ∷ pos a ∷ pos b ∷ []) [] (search reading depth 20) (omega arith)
+
+  pub whole-worth : worth r ≡ z
+  whole-worth = ≼-antisym (whole-cut .is .below) (whole-cut .is .greatest z (floor-self z few .form) (≼-refl z))

@@ -112,6 +112,9 @@ low-sum a b p h k l = omega arith
 small-sum : (a b p : ℕ) → a ≡ 64 → b ≤ 653 → p ≤ a + b + 1 → p < 752
 small-sum a b p h k l = omega arith
 
+top-sum : (a b p : ℕ) → a ≤ 653 → b ≤ 653 → p ≤ a + b + 1 → p ≤ 1307
+top-sum a b p h k l = omega arith
+
 small-sum-2 : (a b p : ℕ) → a ≤ 653 → b ≡ 64 → p ≤ a + b + 1 → p < 752
 small-sum-2 a b p h k l = omega arith
 
@@ -151,4 +154,11 @@ module _ (x y : Number) (p : Product) (nx : IsNumber x) (ny : IsNumber y) (i : P
       (either-none a b (none-times (natAbs (p .sig)) (2 ^ (p .exp)) (a * b) (2 ^ 801) (pow-pos (p .exp)) (pow-pos 801) abs-is h))
 
   pub exact-worths : Exact (worth x *ℤ worth y) p
-  exact-worths = record { value = i .value; few = i .few; full = i .full; some = some-exp; none = none-exp }
+  exact-worths = record {
+    value = i .value;
+    few = i .few;
+    full = i .full;
+    some = some-exp;
+    none = none-exp;
+    high = top-sum (x .exp) (y .exp) (p .exp) (exp-high x nx) (exp-high y ny) (i .high);
+  }

@@ -31,7 +31,9 @@ pub mod Found
 pub mod Shortening
 pub mod ExactProducts
 pub mod Multiplying
+pub mod SmallProducts
 pub mod PatternProducts
+pub mod RoundedProducts
 pub mod Partials
 -- sums that go on from pair to pair
 pub mod Or
@@ -39,7 +41,6 @@ pub mod Carrying
 -- corner products, and the sums of method 1
 pub mod CornerOrder
 pub mod CornerRounding
-pub mod CornerProducts
 pub mod CornerSteps
 pub mod CornerTerms
 pub mod Pairs

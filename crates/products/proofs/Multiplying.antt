@@ -22,12 +22,14 @@ use Rattle.binary32.specs.Number.{valueOf, finite, finites}
 use Rattle.binary32.proofs.Held.{held-finite, held-none, finites-first, finites-second}
 use Rattle.products.specs.declared.number.Number.{Number}
 use Rattle.products.specs.declared.times.Product.{Product}
-use Rattle.products.specs.Number.{worth, IsNumber, Holds, Unpacked}
-use Rattle.products.specs.Exact.{Usual, Exact, ProductIs, Exactly, Shortened, ShortenedNear, Turned}
+use Rattle.products.specs.Number.{worth, Normal, IsNumber, Holds, Unpacked}
+use Rattle.products.specs.Cuts.{limited}
+use Rattle.products.specs.Exact.{Usual, Exact, ProductIs, Exactly, Formed, Shortened, ShortenedNear, Turned}
 use Rattle.products.proofs.Floors.{Full}
-use Rattle.products.proofs.Worths.{exp-low}
+use Rattle.products.proofs.Worths.{exp-low, fits-below}
 use Rattle.products.proofs.ExactProducts.{exact-worths}
-use Rattle.products.proofs.Shortening.{cut-few, cut-long, cut-kind, over-low, over-high, over-exact, down-found, small-max, kept-holds}
+use Rattle.products.proofs.Shortening.{cut-few, cut-long, cut-kind, over-low, over-high, over-exact, down-limited, small-max, kept-worth, kept-normal, kept-holds}
+use Rattle.products.proofs.Limits.{limit-fits}
 use Rattle.products.proofs.Nearing.{near-wide, nearest-few, nearest-long, signed-times, signed-abs}
 
 -- ---- of what two patterns hold
@@ -37,17 +39,17 @@ held-number v x h = (record { normal = h .part .normal; within = subst (λ t. na
 unpacked-number : (p : ℕ) (x : Number) → finite p ≡ true → Unpacked p x → IsNumber x × (worth x ≡ valueOf p)
 unpacked-number p x t u = held-number (valueOf p) x (subst (λ m. Holds m x) (held-finite p t) u)
 
-unpacked-high : (p : ℕ) (x : Number) → finite p ≡ false → Unpacked p x → 1115 ≤ x .exp
+unpacked-high : (p : ℕ) (x : Number) → finite p ≡ false → Unpacked p x → 1500 ≤ x .exp
 unpacked-high p x t u = subst (λ m. Holds m x) (held-none p t) u .is .1
 
-high-sum : (a b p : ℕ) → 1115 ≤ a → 64 ≤ b → a + b ≤ p → 1179 ≤ p
+high-sum : (a b p : ℕ) → 1500 ≤ a → 64 ≤ b → a + b ≤ p → 1307 < p
 high-sum a b p h k l = omega arith
 
-high-sum-2 : (a b p : ℕ) → 64 ≤ a → 1115 ≤ b → a + b ≤ p → 1179 ≤ p
+high-sum-2 : (a b p : ℕ) → 64 ≤ a → 1500 ≤ b → a + b ≤ p → 1307 < p
 high-sum-2 a b p h k l = omega arith
 
 pub exactly-of : (a b : ℕ) (x y : Number) (p : Product) → Unpacked a x → Unpacked b y → ProductIs x y p → Exactly a b p
-exactly-of a b x y p ux uy i = record { numbers = numbers; none = λ h. high (finite a) (finite b) refl refl h }
+exactly-of a b x y p ux uy i = record { few = i .few; numbers = numbers; none = λ h. high (finite a) (finite b) refl refl h }
   where
     numbers : finites a b ≡ true → Exact (valueOf a *ℤ valueOf b) p
     numbers h =
@@ -55,7 +57,7 @@ exactly-of a b x y p ux uy i = record { numbers = numbers; none = λ h. high (fi
         let ny = unpacked-number b y (finites-second a b h) uy in
         subst (λ v. Exact v p) (ap₂ _*ℤ_ (nx .1) (ny .1)) (exact-worths x y p (nx .0) (ny .0) i)
 
-    high : (s t : Bool) → finite a ≡ s → finite b ≡ t → cond s t false ≡ false → 1179 ≤ p .exp
+    high : (s t : Bool) → finite a ≡ s → finite b ≡ t → cond s t false ≡ false → 1307 < p .exp
     high true true e f h = absurd (subst (λ u. cond u (Unit {0}) ⊥) h tt)
     high true false e f h = high-sum-2 (x .exp) (y .exp) (p .exp) (exp-low x (ux .part .normal)) (unpacked-high b y f uy) (i .low)
     high false t e f h = high-sum (x .exp) (y .exp) (p .exp) (unpacked-high a x e ux) (exp-low y (uy .part .normal)) (i .low)
@@ -73,8 +75,8 @@ small-j e h = omega arith
 places-24 : (e : ℕ) → 926 ≤ e → 24 + e ≡ e - 926 + 950
 places-24 e h = omega arith
 
--- ---- the first 24 digits, rounded down, of a product that is neither small nor large
-module _ {X : ℤ} {p : Product} {r : Number} (i : Exact X p) (u : Usual (p .exp)) (s : Shortened p r) where
+-- ---- the first 24 digits, rounded down, of a product that is not small
+module _ {p : Product} {r : Number} (f : Formed p) (l : 926 ≤ p .exp) (h : p .exp ≤ 1307) (s : Shortened p r) where
   abbrev c : ℤ
   c = shrZ (p .sig) (2 ^ 24)
 
@@ -82,34 +84,47 @@ module _ {X : ℤ} {p : Product} {r : Number} (i : Exact X p) (u : Usual (p .exp
   j = p .exp - 926
 
   full : 2 ^ 47 ≤ natAbs (p .sig)
-  full = exact-full X p i u
+  full = f .full l h
 
   few : natAbs c ≤ 2 ^ 24
-  few = cut-few (p .sig) (i .few) full
+  few = cut-few (p .sig) (f .few) full
+
+  r-few : natAbs (r .sig) ≤ 2 ^ 24
+  r-few = subst (λ t. natAbs t ≤ 2 ^ 24) (sym (s .sigs)) few
+
+  r-long : 2 ^ 23 ≤ natAbs (r .sig)
+  r-long = subst (λ t. 2 ^ 23 ≤ natAbs t) (sym (s .sigs)) (cut-long (p .sig) (f .few) full)
+
+  r-is : r .sig *ℤ pos (2 ^ j) ≡ c *ℤ pos (2 ^ j)
+  r-is = ap (λ t. t *ℤ pos (2 ^ j)) (s .sigs)
+
+  pub shortened-normal : Normal r
+  shortened-normal = kept-normal r (p .exp) (c *ℤ pos (2 ^ j)) (s .exps) l r-few r-long r-is
 
   places : 2 ^ (p .exp) * 2 ^ 24 ≡ 2 ^ j * 2 ^ 149 * 2 ^ 801
-  places = sym (pow-add 2 (p .exp) 24) ∙ ap (λ n. 2 ^ n) (sum (p .exp) (u .0)) ∙ pow-add 2 (j + 149) 801 ∙ ap (λ n. n * 2 ^ 801) (pow-add 2 j 149)
+  places = sym (pow-add 2 (p .exp) 24) ∙ ap (λ n. 2 ^ n) (sum (p .exp) l) ∙ pow-add 2 (j + 149) 801 ∙ ap (λ n. n * 2 ^ 801) (pow-add 2 j 149)
     where
       sum : (e : ℕ) → 926 ≤ e → e + 24 ≡ e - 926 + 149 + 801
       sum e h = omega arith
 
-  kind : Full c ⊎ (c *ℤ pos (2 ^ j) *ℤ pos (2 ^ 149) ≡ X)
-  kind = ⊎-elim inl (λ e. inr (over-exact X (p .sig) c (2 ^ (p .exp)) (2 ^ 801) (2 ^ j) (2 ^ 149) (pow-pos 801) (pow-pos (p .exp)) (i .value) places e)) (cut-kind (p .sig) (i .few) full)
+  module _ {X : ℤ} (i : Exact X p) where
+    kind : Full c ⊎ (c *ℤ pos (2 ^ j) *ℤ pos (2 ^ 149) ≡ X)
+    kind = ⊎-elim inl (λ e. inr (over-exact X (p .sig) c (2 ^ (p .exp)) (2 ^ 801) (2 ^ j) (2 ^ 149) (pow-pos 801) (pow-pos (p .exp)) (i .value) places e)) (cut-kind (p .sig) (f .few) full)
 
-  within : natAbs (c *ℤ pos (2 ^ j)) ≤ MAX binary32
-  within = small-max c j few (small-j (p .exp) (u .1))
+    found : down binary32 (2 ^ 149) X ≡ limited (worth r)
+    found =
+        down-limited X c (2 ^ 149) j (pow-pos 149)
+        (over-low X (p .sig) c (2 ^ (p .exp)) (2 ^ 801) (2 ^ j) (2 ^ 149) (pow-pos 801) (pow-pos (p .exp)) (i .value) places (floor-low (p .sig) (2 ^ 24) (pow-pos 24)))
+        (over-high X (p .sig) c (2 ^ (p .exp)) (2 ^ 801) (2 ^ j) (2 ^ 149) (pow-pos 801) (pow-pos (p .exp)) (i .value) places (floor-high (p .sig) (2 ^ 24) (pow-pos 24)))
+        kind few
+        ∙ ap limited (sym (kept-worth r (p .exp) (c *ℤ pos (2 ^ j)) (s .exps) l r-few r-long r-is))
 
-  found : down binary32 (2 ^ 149) X ≡ some (c *ℤ pos (2 ^ j))
-  found =
-      down-found X c (2 ^ 149) j (pow-pos 149)
-      (over-low X (p .sig) c (2 ^ (p .exp)) (2 ^ 801) (2 ^ j) (2 ^ 149) (pow-pos 801) (pow-pos (p .exp)) (i .value) places (floor-low (p .sig) (2 ^ 24) (pow-pos 24)))
-      (over-high X (p .sig) c (2 ^ (p .exp)) (2 ^ 801) (2 ^ j) (2 ^ 149) (pow-pos 801) (pow-pos (p .exp)) (i .value) places (floor-high (p .sig) (2 ^ 24) (pow-pos 24)))
-      kind few within
+    pub limit-holds : {q : Number} → Holds (limited (worth r)) q → Holds (down binary32 (2 ^ 149) X) q
+    limit-holds {q} = subst (λ m. Holds m q) (sym found)
 
-  pub shortened-holds : Holds (down binary32 (2 ^ 149) X) r
-  shortened-holds = subst (λ m. Holds m r) (sym found)
-      (kept-holds r (p .exp) (c *ℤ pos (2 ^ j)) (s .exps) u (subst (λ t. natAbs t ≤ 2 ^ 24) (sym (s .sigs)) few) (subst (λ t. 2 ^ 23 ≤ natAbs t) (sym (s .sigs)) (cut-long (p .sig) (i .few) full))
-      (ap (λ t. t *ℤ pos (2 ^ j)) (s .sigs)) within)
+    -- a usual one is a number
+    pub shortened-holds : p .exp < 1179 → Holds (down binary32 (2 ^ 149) X) r
+    shortened-holds u = limit-holds (limit-fits r shortened-normal (sym (fits-below r shortened-normal (omega (arith, s .exps)))))
 
 -- ---- and to nearest
 near-product : (X : ℤ) → near binary32 (2 ^ 950) (X *ℤ pos (2 ^ 801)) ≡ near binary32 (2 ^ 149) X
@@ -145,7 +160,7 @@ module _ {X : ℤ} {p : Product} {r : Number} (i : Exact X p) (u : Usual (p .exp
 
   pub shortened-near-holds : Holds (near binary32 (2 ^ 149) X) r
   shortened-near-holds = subst (λ m. Holds m r) (sym near-found)
-      (kept-holds r (p .exp) near-v (s .exps) u (subst (λ t. t ≤ 2 ^ 24) (sym sig-abs) near-few)
+      (kept-holds r (p .exp) near-v (s .exps) (u .0) (subst (λ t. t ≤ 2 ^ 24) (sym sig-abs) near-few)
       (subst (λ t. 2 ^ 23 ≤ t) (sym sig-abs) (nearest-long (natAbs (p .sig)) (2 ^ 24) (pow-pos 24) (exact-full X p i u)))
       (ap (λ t. t *ℤ pos (2 ^ near-j)) (s .sigs) ∙ signed-times (p .sig) near-c (2 ^ near-j)) near-within)
 
@@ -157,6 +172,7 @@ turned-exact {X} {p} {r} i t = record {
   full = λ l. subst (λ n. 2 ^ 47 ≤ n) (sym size) (i .full (subst (λ n. 0 < n) size l));
   some = λ l. subst (λ n. 752 ≤ n) (sym (t .exps)) (i .some (subst (λ n. 0 < n) size l));
   none = λ e. subst (λ n. n < 752) (sym (t .exps)) (i .none (sym size ∙ e));
+  high = subst (λ n. n ≤ 1307) (sym (t .exps)) (i .high);
 }
   where
     size : natAbs (r .sig) ≡ natAbs (p .sig)

@@ -1,8 +1,8 @@
--- 24 of 48 digits: rounded down they are the rounding of the whole, on the grid of its exponent, and a number where that is usual.
+-- 24 of 48 digits: rounded down they are the rounding of the whole, on the grid of its exponent, up to the largest number.
 use mathlib.Core.Path.{_≡_, sym, ap, subst, _∙_}
 use mathlib.Core.List.{[], _∷_}
 use mathlib.Core.Logic.{_⊎_, inl, inr, ⊎-elim}
-use mathlib.Core.Option.{some}
+use mathlib.Core.Option.{Option, none, some}
 use Prim.Native.Nat.{ℕ, suc, _+_, _-_, _*_, _/_, _^_, _≤_, _<_}
 use native.Mathlib.Omega.{arith}
 use native.Mathlib.Nat.{mul-one, pow-succ'}
@@ -11,18 +11,21 @@ use lib.IntN.{ℤ, pos, negsuc, negℤ, natAbs, _+ℤ_, _*ℤ_}
 use lib.Signed.{shrZ}
 use Rattle.algebra.specs.Order.{_≼_, _≺_}
 use Rattle.algebra.proofs.Absolute.{natAbs-mul}
+use Rattle.algebra.proofs.Floor.{floor-low, floor-greatest}
 use Rattle.algebra.proofs.Linear.{reading, le, lt, eq, lin-le, lin-lt, lin-eq}
 use Rattle.algebra.proofs.Natural.{of-lt}
 use Rattle.algebra.proofs.Order.{≼-refl, nonneg, mul-mono-right, ≺-step, cancel-le, cancel-lt, cancel-eq}
-use Rattle.rounding.specs.Format.{binary32, MAX, Num}
+use Rattle.rounding.specs.Format.{Format, binary32, MAX, Form}
 use Rattle.rounding.specs.Rounding.{down}
-use Rattle.rounding.proofs.Directed.{down-only}
+use Rattle.rounding.specs.Property.{DownTo}
+use Rattle.rounding.proofs.Directed.{down-to, down-only, down-below}
 use Rattle.products.specs.declared.number.Number.{Number}
-use Rattle.products.specs.Number.{worth, Holds}
-use Rattle.products.specs.Exact.{Usual}
-use Rattle.products.proofs.Floors.{Full, greatest-at, shifted-form}
+use Rattle.products.specs.Number.{worth, Normal, Holds}
+use Rattle.products.specs.Cuts.{IsFloor, limited}
+use Rattle.products.proofs.Floors.{Full, greatest-at, shifted-form, limits}
 use Rattle.products.proofs.Worths.{worth-is, fits-small}
 use Rattle.products.proofs.FarShifts.{le-or-lt}
+use Rattle.products.proofs.Limits.{number-holds}
 
 -- ---- 24 of 48 digits
 module _ (s : ℤ) (few : natAbs s ≤ 2 ^ 48) (full : 2 ^ 47 ≤ natAbs s) where
@@ -54,20 +57,47 @@ module _ (s : ℤ) (few : natAbs s ≤ 2 ^ 48) (full : 2 ^ 47 ≤ natAbs s) wher
           low : n ≤ 2 ^ 47 - 1 → suc (n / 2 ^ 24) * 2 ^ 24 ≡ suc n
           low k = omega arith
 
--- ---- over plain numbers: c * m is the multiple of m = 2 ^ j below X / D
+-- ---- over plain numbers: numbers are whole units, so that X / D may be rounded down to a whole number first
+pub down-whole : (f : Format) (D : ℕ) → 0 < D → (X : ℤ) → down f D X ≡ down f 1 (shrZ X D)
+down-whole f D d X = go (down f D X) (down-to f D d X)
+  where
+    Y : ℤ
+    Y = shrZ X D
+
+    go : (m : Option ℤ) → DownTo f D X m → m ≡ down f 1 Y
+    go none h =
+        sym (down-below f 1 (omega arith)
+        (cancel-lt (of-lt d) (lin-lt (X ∷ Y ∷ pos D ∷ pos (MAX f) ∷ []) (lt h ∷ le (floor-low X D d) ∷ []) (search reading depth 40) (omega arith))))
+    go (some v) h =
+        sym (down-only f 1 (omega arith) (record {
+          num = h .num;
+          below = lin-le (v ∷ Y ∷ []) (le (floor-greatest X v D d (lin-le (X ∷ v ∷ pos D ∷ []) (le (h .below) ∷ []) (search reading depth 40) (omega arith))) ∷ []) (search reading depth 40) (omega arith);
+          greatest = λ w n l. h .greatest w n
+              (lin-le (X ∷ Y ∷ w ∷ pos D ∷ []) (le (mul-mono-right (nonneg D) l) ∷ le (floor-low X D d) ∷ []) (search reading depth 40) (omega arith));
+        }))
+
+-- c * m is the multiple of m = 2 ^ j below X / D
 module _ (X c : ℤ) (D j : ℕ) (d : 0 < D) (l : c *ℤ pos (2 ^ j) *ℤ pos D ≼ X) (u : X ≺ (c +ℤ pos 1) *ℤ pos (2 ^ j) *ℤ pos D)
     (k : Full c ⊎ (c *ℤ pos (2 ^ j) *ℤ pos D ≡ X)) where
-  down-greatest : (w : ℤ) → Num binary32 w → w *ℤ pos D ≼ X → w ≼ c *ℤ pos (2 ^ j)
-  down-greatest w n h = ⊎-elim grid exact k
+  form-greatest : (w : ℤ) → Form binary32 (natAbs w) → w *ℤ pos D ≼ X → w ≼ c *ℤ pos (2 ^ j)
+  form-greatest w n h = ⊎-elim grid exact k
     where
       grid : Full c → w ≼ c *ℤ pos (2 ^ j)
-      grid f = greatest-at w c j (cancel-lt (of-lt d) (lin-lt (X ∷ w ∷ c ∷ pos (2 ^ j) ∷ pos D ∷ []) (le h ∷ lt u ∷ []) (search reading depth 40) (omega arith))) f w (n .form) (≼-refl w)
+      grid f = greatest-at w c j (cancel-lt (of-lt d) (lin-lt (X ∷ w ∷ c ∷ pos (2 ^ j) ∷ pos D ∷ []) (le h ∷ lt u ∷ []) (search reading depth 40) (omega arith))) f w n (≼-refl w)
 
       exact : c *ℤ pos (2 ^ j) *ℤ pos D ≡ X → w ≼ c *ℤ pos (2 ^ j)
       exact e = cancel-le (of-lt d) (lin-le (X ∷ w ∷ c ∷ pos (2 ^ j) ∷ pos D ∷ []) (le h ∷ eq e ∷ []) (search reading depth 40) (omega arith))
 
-  pub down-found : natAbs c ≤ 2 ^ 24 → natAbs (c *ℤ pos (2 ^ j)) ≤ MAX binary32 → down binary32 D X ≡ some (c *ℤ pos (2 ^ j))
-  down-found f m = down-only binary32 D d (record { num = record { form = shifted-form c j f; within = m }; below = l; greatest = down-greatest })
+  is-floor : natAbs c ≤ 2 ^ 24 → IsFloor (shrZ X D) (c *ℤ pos (2 ^ j))
+  is-floor f = record {
+    form = shifted-form c j f;
+    below = floor-greatest X (c *ℤ pos (2 ^ j)) D d (lin-le (X ∷ c ∷ pos (2 ^ j) ∷ pos D ∷ []) (le l ∷ []) (search reading depth 40) (omega arith));
+    greatest = λ w n h. form-greatest w n
+        (lin-le (X ∷ shrZ X D ∷ w ∷ pos D ∷ []) (le (mul-mono-right (nonneg D) h) ∷ le (floor-low X D d) ∷ []) (search reading depth 40) (omega arith));
+  }
+
+  pub down-limited : natAbs c ≤ 2 ^ 24 → down binary32 D X ≡ limited (c *ℤ pos (2 ^ j))
+  down-limited f = down-whole binary32 D d X ∙ limits (is-floor f)
 
 -- p * P = X * Q, with Q = 2 ^ 24 * (m * D) / P: the two bounds of c
 module _ (X p c : ℤ) (P Q m D : ℕ) (hq : 0 < Q) (hp : 0 < P) (e : p *ℤ pos P ≡ X *ℤ pos Q) (eP : P * 2 ^ 24 ≡ m * D * Q) where
@@ -92,14 +122,11 @@ small-max c j h l =
     fits-small (natAbs (c *ℤ pos (2 ^ j))) 1 (natAbs c) (2 ^ j) (2 ^ 253) (omega arith) (mul-one (natAbs (c *ℤ pos (2 ^ j))) ∙ natAbs-mul c (pos (2 ^ j))) h
     (subst (λ t. t ≤ 2 ^ 253 * 1) (pow-succ' 2 j) (pow-mono {i = suc j} {j = 253} (omega arith)))
 
--- ---- 24 digits with a usual exponent are a number
-module _ (r : Number) (e : ℕ) (v : ℤ) (h : r .exp ≡ e - 526) (u : Usual e) (few : natAbs (r .sig) ≤ 2 ^ 24) (long : 2 ^ 23 ≤ natAbs (r .sig))
+-- ---- 24 digits above the units are in normal form
+module _ (r : Number) (e : ℕ) (v : ℤ) (h : r .exp ≡ e - 526) (u : 926 ≤ e) (few : natAbs (r .sig) ≤ 2 ^ 24) (long : 2 ^ 23 ≤ natAbs (r .sig))
     (is : r .sig *ℤ pos (2 ^ (e - 926)) ≡ v) where
   places : r .exp ≡ e - 926 + 400
-  places = omega (arith, u .0)
-
-  top : r .exp ≤ 2000
-  top = omega (arith, u .1)
+  places = omega arith
 
   value : r .sig *ℤ pos (2 ^ (r .exp)) ≡ v *ℤ pos (2 ^ 400)
   value = ap (λ n. r .sig *ℤ pos n) (ap (λ n. 2 ^ n) places ∙ pow-add 2 (e - 926) 400) ∙ turn (r .sig) (2 ^ (e - 926)) (2 ^ 400) ∙ ap (λ t. t *ℤ pos (2 ^ 400)) is
@@ -107,14 +134,14 @@ module _ (r : Number) (e : ℕ) (v : ℤ) (h : r .exp ≡ e - 526) (u : Usual e)
       turn : (s : ℤ) (a b : ℕ) → s *ℤ pos (a * b) ≡ s *ℤ pos a *ℤ pos b
       turn s a b = lin-eq (s ∷ pos a ∷ pos b ∷ []) [] (search reading depth 20) (omega arith)
 
-  worths : worth r ≡ v
-  worths = worth-is r v value
+  pub kept-worth : worth r ≡ v
+  kept-worth = worth-is r v value
 
   no : natAbs (r .sig) ≡ 0 → ⊥
   no n = omega (arith, long)
 
+  pub kept-normal : Normal r
+  kept-normal = record { whole = value ∙ ap (λ t. t *ℤ pos (2 ^ 400)) (sym kept-worth); few = few; full = λ l. long; low = λ n. absurd (no n) }
+
   pub kept-holds : natAbs v ≤ MAX binary32 → Holds (some v) r
-  kept-holds m = record {
-    part = record { normal = record { whole = value ∙ ap (λ t. t *ℤ pos (2 ^ 400)) (sym worths); few = few; full = λ l. long; low = λ n. absurd (no n) }; high = top };
-    is = (worths, m);
-  }
+  kept-holds m = subst (λ t. Holds (some t) r) kept-worth (number-holds (record { normal = kept-normal; within = subst (λ t. natAbs t ≤ MAX binary32) (sym kept-worth) m }))

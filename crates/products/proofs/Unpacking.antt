@@ -13,7 +13,6 @@ use lib.Signed.{ltZ-yes}
 use borrow.Author.Tests.{le-ltb}
 use Rattle.algebra.specs.Order.{_≺_}
 use Rattle.algebra.proofs.Linear.{reading, lin-eq}
-use Rattle.algebra.proofs.Order.{≼-refl, ≼-antisym}
 use Rattle.rounding.specs.Format.{binary32, MAX}
 use Rattle.binary32.specs.Number.{signedBy, valueOf, Finite}
 use Rattle.binary32.specs.Steps.{of, Decoded}
@@ -21,11 +20,10 @@ use Rattle.binary32.proofs.Values.{decoded-low, decoded-high, signed-abs}
 use Rattle.binary32.proofs.Held.{held-finite, held-none, is-finite, value-num}
 use Rattle.products.specs.declared.number.Number.{Number}
 use Rattle.products.specs.Number.{worth, Normal, Part, Holds, Unpacked, noNumber}
-use Rattle.products.specs.Cuts.{DownOf, CutDown}
-use Rattle.products.proofs.Floors.{floor-self}
+use Rattle.products.specs.Cuts.{CutDown}
 use Rattle.products.proofs.Worths.{worth-is}
-use Rattle.products.proofs.CutSums.{cut-exact}
-use Rattle.products.proofs.FarShifts.{raised-abs, natAbs-zero}
+use Rattle.products.proofs.CutSums.{whole-cut, whole-worth}
+use Rattle.products.proofs.FarShifts.{natAbs-zero}
 
 unpacked-of : (p : ℕ) (r : Number) → Finite p → Part r → worth r ≡ valueOf p → Unpacked p r
 unpacked-of p r f q w = subst (λ m. Holds m r) (sym (held-finite p (is-finite p f))) (record { part = q; is = (w, value-num p f .within) })
@@ -82,7 +80,7 @@ module _ (p : ℕ) (z : ℤ) where
   -- ---- zero or a subnormal number: brought to normal form as a sum is
   pub unpacked-low : (r : Number) → p % 2 ^ 31 < 2 ^ 23 → z ≡ signedBy (leb (2 ^ 31) p) (p % 2 ^ 31) → CutDown (z *ℤ pos (2 ^ 36)) 400 r → Unpacked p r
   unfolding of
-  unpacked-low r low e h = unpacked-of p r (omega arith) (record { normal = d .normal; high = top }) w
+  unpacked-low r low e h = unpacked-of p r (omega arith) (record { normal = whole-cut z r few h .normal; high = top }) w
     where
       size : natAbs z ≡ p % 2 ^ 31
       size = ap natAbs e ∙ signed-abs (leb (2 ^ 31) p) (p % 2 ^ 31)
@@ -90,20 +88,11 @@ module _ (p : ℕ) (z : ℤ) where
       few : natAbs z ≤ 2 ^ 24
       few = omega (arith, size)
 
-      turn : (a b : ℕ) → z *ℤ pos a *ℤ pos b ≡ z *ℤ pos b *ℤ pos a
-      turn a b = lin-eq (z ∷ pos a ∷ pos b ∷ []) [] (search reading depth 20) (omega arith)
-
-      d : DownOf z r
-      d = cut-exact z (z *ℤ pos (2 ^ 36)) 400 r (omega (arith, raised-abs z, few)) (turn (2 ^ 36) (2 ^ 400)) h (omega arith)
-
-      is : worth r ≡ z
-      is = ≼-antisym (d .is .below) (d .is .greatest z (floor-self z few .form) (≼-refl z))
-
       none-field : field ≡ 0
       none-field = omega arith
 
       w : worth r ≡ valueOf p
-      w = is ∙ sym (one z) ∙ decoded-low p z none-field (e ∙ ap (signedBy (leb (2 ^ 31) p)) (sym (mod-eq-of-lt low))) .value
+      w = whole-worth z r few h ∙ sym (one z) ∙ decoded-low p z none-field (e ∙ ap (signedBy (leb (2 ^ 31) p)) (sym (mod-eq-of-lt low))) .value
         where
           one : (z : ℤ) → z *ℤ pos 1 ≡ z
           one z = lin-eq (z ∷ []) [] (search reading depth 20) (omega arith)

@@ -10,9 +10,8 @@ use Rattle.rounding.specs.Rounding.{up, down}
 use Rattle.binary32.specs.Number.{valueOf, Finite}
 use Rattle.binary32.specs.Operations.{mul, with₂}
 use Rattle.products.specs.declared.number.Number.{Number}
-use Rattle.products.specs.declared.times.Product.{Product}
 use Rattle.products.specs.declared.corners.Corner.{Corner}
-use Rattle.products.specs.Exact.{Exact, ProductIs}
+use Rattle.products.specs.Exact.{ProductIs}
 
 -- ---- rounded: the least of the four, each rounded down; the greatest, each rounded up
 
@@ -37,19 +36,6 @@ pub record Cells (al au bl bu : ℕ) : Type 0 where
 -- one of the two extremes of the four exact products
 abbrev pub corner₄ : (ℤ → ℤ → ℤ → ℤ → ℤ) → ℕ → ℕ → ℕ → ℕ → ℤ
 corner₄ f al au bl bu = f (valueOf al *ℤ valueOf bl) (valueOf al *ℤ valueOf bu) (valueOf au *ℤ valueOf bl) (valueOf au *ℤ valueOf bu)
-
-pub record Least (al au bl bu : ℕ) (p : Product) : Type 0 where
-  pub cells : Cells al au bl bu
-  pub exact : Exact (corner₄ least₄ al au bl bu) p
-
-pub record Greatest (al au bl bu : ℕ) (p : Product) : Type 0 where
-  pub cells : Cells al au bl bu
-  pub exact : Exact (corner₄ greatest₄ al au bl bu) p
-
--- what the way by the patterns needs: a significand of 0 is that of a least product of 0
-pub record Rare (sig : ℤ) (al au bl bu : ℕ) : Type 0 where
-  pub cells : Cells al au bl bu
-  pub none : sig ≡ pos 0 → corner₄ least₄ al au bl bu ≡ pos 0
 
 -- ---- places
 

@@ -1,26 +1,30 @@
 -- Exact products of numbers taken apart. Definitions only, for the contracts of inner functions.
 use mathlib.Core.Path.{_≡_}
 use mathlib.Core.Bool.{true, false}
+use mathlib.Core.Option.{none}
 use Prim.Native.Nat.{ℕ, _+_, _-_, _^_, _≤_, _<_}
 use lib.IntN.{ℤ, pos, negℤ, natAbs, _*ℤ_}
 use lib.Signed.{shrZ}
+use Rattle.rounding.specs.Format.{binary32}
+use Rattle.rounding.specs.Rounding.{down, up, negate}
 use Rattle.binary32.specs.Number.{valueOf, finites}
 use Rattle.products.specs.declared.number.Number.{Number}
 use Rattle.products.specs.declared.times.Product.{Product}
-use Rattle.products.specs.Number.{worth, Part}
+use Rattle.products.specs.Number.{worth, Part, Holds}
 use Rattle.products.specs.Cuts.{nearestOf}
 
 -- the exponents of products whose first 24 digits are a number: none of these is zero
 abbrev pub Usual : ℕ → Type 0
 Usual e = (926 ≤ e) × (e < 1179)
 
--- p is X exactly, sig * 2 ^ exp / 2 ^ 801, in 48 digits; zero is below the usual ones
+-- p is X exactly, sig * 2 ^ exp / 2 ^ 801, in 48 digits; zero is below the usual ones, and all are at most 1307
 pub record Exact (X : ℤ) (p : Product) : Type 0 where
   pub value : p .sig *ℤ pos (2 ^ (p .exp)) ≡ X *ℤ pos (2 ^ 801)
   pub few : natAbs (p .sig) ≤ 2 ^ 48
   pub full : 0 < natAbs (p .sig) → 2 ^ 47 ≤ natAbs (p .sig)
   pub some : 0 < natAbs (p .sig) → 752 ≤ p .exp
   pub none : natAbs (p .sig) ≡ 0 → p .exp < 752
+  pub high : p .exp ≤ 1307
 
 -- two numbers to be multiplied, or none, and their product
 pub record Factors (x y : Number) : Type 0 where
@@ -34,10 +38,26 @@ pub record ProductIs (x y : Number) (p : Product) : Type 0 where
   pub low : x .exp + y .exp ≤ p .exp
   pub high : p .exp ≤ x .exp + y .exp + 1
 
--- p is the exact product of what the patterns a and b hold; where one holds none, p is above the usual ones
+-- p is the exact product of what the patterns a and b hold; where one holds none, p is above all others
 pub record Exactly (a b : ℕ) (p : Product) : Type 0 where
+  pub few : natAbs (p .sig) ≤ 2 ^ 48
   pub numbers : finites a b ≡ true → Exact (valueOf a *ℤ valueOf b) p
-  pub none : finites a b ≡ false → 1179 ≤ p .exp
+  pub none : finites a b ≡ false → 1307 < p .exp
+
+-- what a product is like: 48 digits, and from 24 digits of whole units on it is not zero
+pub record Formed (p : Product) : Type 0 where
+  pub few : natAbs (p .sig) ≤ 2 ^ 48
+  pub full : 926 ≤ p .exp → p .exp ≤ 1307 → 2 ^ 47 ≤ natAbs (p .sig)
+
+-- r is p rounded down, none where a factor is none
+pub record RoundedDown (p : Product) (r : Number) : Type 0 where
+  pub number : (X : ℤ) → Exact X p → Holds (down binary32 (2 ^ 149) X) r
+  pub none : 1307 < p .exp → Holds none r
+
+-- r is the opposite of p, which is rounded up
+pub record RoundedUp (p : Product) (r : Number) : Type 0 where
+  pub number : (X : ℤ) → Exact X p → Holds (negate (up binary32 (2 ^ 149) X)) r
+  pub none : 1307 < p .exp → Holds none r
 
 -- 24 digits of it, rounded down
 pub record Shortened (p : Product) (r : Number) : Type 0 where

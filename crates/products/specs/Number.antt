@@ -46,10 +46,10 @@ pub record Part (x : Number) : Type 0 where
   pub normal : Normal x
   pub high : x .exp ≤ 2000
 
--- x is the partial result m, a number or none; none is so far below all numbers that a sum with it is too, and a product with it is above the usual ones
+-- x is the partial result m, a number or none; none is so far below all numbers that a sum with it is too, and a product with it is above all others
 abbrev pub Is : Option ℤ → Number → Type 0
 Is (some v) x = (worth x ≡ v) × (natAbs v ≤ MAX binary32)
-Is none x = (worth x ≺ negℤ (pos (3 * MAX binary32))) × (1115 ≤ x .exp)
+Is none x = (worth x ≺ negℤ (pos (3 * MAX binary32))) × (1500 ≤ x .exp)
 
 pub record Holds (m : Option ℤ) (x : Number) : Type 0 where
   pub part : Part x

@@ -26,6 +26,7 @@ mod number;
 mod pattern;
 mod plus;
 mod radius;
+mod rounded;
 mod seven;
 mod shifts;
 mod summands;

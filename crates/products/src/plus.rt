@@ -49,7 +49,7 @@ fn add_negative(x: Number, y: Number) -> Number
 }
 
 // A value of 24 digits that is beyond the largest number or near it, rounded down.
-fn limit(x: Number) -> Number
+pub fn limit(x: Number) -> Number
     requires { ⌜ Normal x × (x .exp ≤ 4002) ⌝ }
     ensures { λ r. ⌜ Holds (limited (worth x)) r ⌝ }
 {

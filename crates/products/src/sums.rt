@@ -7,8 +7,6 @@ ghost use Rattle.products.specs.Corners.{Cells};
 ghost use Rattle.products.specs.Running.{BothNumbers, Stepped, Ended, refusedSums, zeroSums};
 use crate::corners::corner_of;
 use crate::corners::greater;
-use crate::corners::greatest_corner;
-use crate::corners::least_corner;
 use crate::corners::lesser;
 use crate::number::Number;
 use crate::number::is_none;
@@ -17,6 +15,8 @@ use crate::number::zero;
 use crate::pattern::pack;
 use crate::pattern::unpack;
 use crate::plus::plus_down;
+use crate::rounded::rounded_down;
+use crate::rounded::rounded_up;
 
 // The lower sum, and the opposite of the upper one: rounding up is rounding down with the other sign, so that both are rounded down. Each is a number or none.
 pub struct Sums {
@@ -56,8 +56,8 @@ impl Sums {
         let low = lesser(lesser(p, q), lesser(r, t)).product;
         let high = greater(greater(p, q), greater(r, t)).product;
         Sums {
-            lower: plus_down(self.lower, least_corner(low, al, au, bl, bu)),
-            opposed: plus_down(self.opposed, greatest_corner(high, al, au, bl, bu)),
+            lower: plus_down(self.lower, rounded_down(low)),
+            opposed: plus_down(self.opposed, rounded_up(high)),
         }
     }
 

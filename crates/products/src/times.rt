@@ -1,4 +1,4 @@
-// Products of numbers taken apart: exact in 48 digits, of which 24 are kept. A product that is small, large, zero or none goes by way of the patterns.
+// Products of numbers taken apart: exact in 48 digits, of which 24 are kept. To nearest, a product that is small, large, zero or none goes by way of the patterns.
 ghost use mathlib.Core.Path.{_≡_};
 ghost use mathlib.Core.Bool.{cond, false};
 ghost use Prim.Native.Nat.{_^_, _≤_};
@@ -11,13 +11,13 @@ ghost use Rattle.products.specs.Cuts.{nearestOf};
 ghost use Rattle.products.specs.Exact.{Factors, ProductIs, Exactly, Shortened, ShortenedNear, Turned};
 use crate::number::Number;
 use crate::pattern::unpack;
+use crate::rounded::rounded_down;
+use crate::rounded::rounded_up;
 use crate::shifts::digits;
 use crate::shifts::lowered;
 use crate::shifts::multiplied;
 use crate::shifts::odd;
 use crate::shifts::twice;
-use binary32::order::negate;
-use binary32::partial::mul_down;
 use binary32::partial::mul_near;
 
 // An exact product: sig × 2^(exp - 950) units, 48 digits.
@@ -76,13 +76,6 @@ pub fn turned(p: Product) -> Product
     }
 }
 
-// a × b, rounded down, by way of the patterns.
-fn rare_down(a: u32, b: u32) -> Number
-    ensures { λ r. ⌜ Holds (with₂ (mul down) a b) r ⌝ }
-{
-    unpack(mul_down(a, b))
-}
-
 // a × b, to nearest, by way of the patterns.
 fn rare_near(a: u32, b: u32) -> Number
     ensures { λ r. ⌜ Holds (with₂ (mul near) a b) r ⌝ }
@@ -95,10 +88,7 @@ pub fn product_down(p: Product, a: u32, b: u32) -> Number
     requires { ⌜ Exactly a b p ⌝ }
     ensures { λ r. ⌜ Holds (with₂ (mul down) a b) r ⌝ }
 {
-    if is_usual(p.exp) {
-        return shortened(p);
-    }
-    rare_down(a, b)
+    rounded_down(p)
 }
 
 // The opposite of the product p of a and b, rounded up.
@@ -106,10 +96,7 @@ pub fn product_up(p: Product, a: u32, b: u32) -> Number
     requires { ⌜ Exactly a b p ⌝ }
     ensures { λ r. ⌜ Holds (negate (with₂ (mul up) a b)) r ⌝ }
 {
-    if is_usual(p.exp) {
-        return shortened(turned(p));
-    }
-    rare_down(negate(a), b)
+    rounded_up(p)
 }
 
 // t / 2^24 to the nearest, the even one of two.

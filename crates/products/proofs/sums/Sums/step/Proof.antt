@@ -1,12 +1,16 @@
 -- `products::sums::Sums::step` meets its contract: the least and the greatest corner, each added to its sum.
 use Prim.Native.Nat.{ℕ}
 use lib.IntN.{_*ℤ_}
+use Rattle.algebra.specs.Extremes.{least₄, greatest₄}
 use borrow.Author.Needs.{needs}
 use Rattle.rounding.specs.Rounding.{negate}
 use Rattle.binary32.specs.Number.{valueOf}
-use Rattle.products.specs.Corners.{Cells, leastProduct, greatestProduct}
+use Rattle.products.specs.Number.{Holds}
+use Rattle.products.specs.Corners.{Cells, corner₄, leastProduct, greatestProduct}
+use Rattle.products.specs.Exact.{Exact}
 use Rattle.products.proofs.CornerOrder.{At}
-use Rattle.products.proofs.CornerSteps.{corner-at, least-of, greatest-of}
+use Rattle.products.proofs.CornerSteps.{corner-at, least-of, greatest-of, least-rounded, greatest-rounded}
+use Rattle.products.proofs.RoundedProducts.{exact-formed}
 use Rattle.products.proofs.sums.Sums.step.Statement.{statement}
 use Rattle.products.proofs.sums.Sums.step.Tie as tie
 
@@ -95,39 +99,64 @@ module _ (c : tie.After-corner-of4) where
       let u = c .before .before .before .before in
       corner-at au bu (cells .a-upper) (cells .b-upper) (u .before .before .unpack2 .ensures) (u .unpack4 .ensures) (c .corner-of4 .ensures)
 
-least-corner-requires : tie.Need-least-corner-requires
-least-corner-requires c κs =
-    let l = c .before .before .before .before .before in
-    let k = l .before .before .before in
-    least-of (al k) (au k) (bl k) (bu k) (cells k) (ll k) (lu k) (ul k) (uu k)
-    (l .before .before .lesser .ensures) (l .before .lesser2 .ensures) (l .lesser3 .ensures)
+-- the extremes of them
+module _ (c : tie.After-lesser3) where
+  abbrev four : tie.After-corner-of4
+  four = c .before .before .before
+
+  least : Exact (corner₄ least₄ (al four) (au four) (bl four) (bu four)) (c .lesser3 .result .product)
+  least =
+      least-of (al four) (au four) (bl four) (bu four) (ll four) (lu four) (ul four) (uu four)
+      (c .before .before .lesser .ensures) (c .before .lesser2 .ensures) (c .lesser3 .ensures)
+
+module _ (c : tie.After-greater3) where
+  abbrev lowest : tie.After-lesser3
+  lowest = c .before .before .before .before
+
+  greatest : Exact (corner₄ greatest₄ (al (four lowest)) (au (four lowest)) (bl (four lowest)) (bu (four lowest))) (c .greater3 .result .product)
+  greatest =
+      let k = four lowest in
+      greatest-of (al k) (au k) (bl k) (bu k) (ll k) (lu k) (ul k) (uu k) (c .before .before .greater .ensures) (c .before .greater2 .ensures) (c .greater3 .ensures)
+
+-- the sums' terms
+module _ (c : tie.After-rounded-down) where
+  abbrev both : tie.After-greater3
+  both = c .before .before
+
+  abbrev corners : tie.After-corner-of4
+  corners = four (lowest both)
+
+  low : Holds (leastProduct (al corners) (au corners) (bl corners) (bu corners)) (c .rounded-down .result)
+  low = least-rounded (al corners) (au corners) (bl corners) (bu corners) (cells corners) (least (lowest both)) (c .rounded-down .ensures)
+
+module _ (c : tie.After-rounded-up) where
+  abbrev down : tie.After-rounded-down
+  down = c .before .before
+
+  high : Holds (negate (greatestProduct (al (corners down)) (au (corners down)) (bl (corners down)) (bu (corners down)))) (c .rounded-up .result)
+  high =
+      let k = corners down in
+      greatest-rounded (al k) (au k) (bl k) (bu k) (cells k) (greatest (both down)) (c .rounded-up .ensures)
+
+rounded-down-requires : tie.Need-rounded-down-requires
+rounded-down-requires c κs = exact-formed (least (lowest (c .before)))
 
 plus-down-requires : tie.Need-plus-down-requires
-plus-down-requires c κs =
-    let k = c .before .before .before .before .before .before .before .before .before in
-    (start k .pre .0 .lower, c .least-corner .ensures .part)
+plus-down-requires c κs = (start (corners c) .pre .0 .lower, low c .part)
 
-greatest-corner-requires : tie.Need-greatest-corner-requires
-greatest-corner-requires c κs =
-    let g = c .before .before .before in
-    let k = g .before .before .before .before .before .before .before in
-    greatest-of (al k) (au k) (bl k) (bu k) (cells k) (ll k) (lu k) (ul k) (uu k)
-    (g .before .before .greater .ensures) (g .before .greater2 .ensures) (g .greater3 .ensures)
+rounded-up-requires : tie.Need-rounded-up-requires
+rounded-up-requires c κs = exact-formed (greatest (both (c .before)))
 
 plus-down-requires-2 : tie.Need-plus-down-requires-2
-plus-down-requires-2 c κs =
-    let k = c .before .before .before .before .before .before .before .before .before .before .before in
-    (start k .pre .0 .opposed, c .greatest-corner .ensures .part)
+plus-down-requires-2 c κs = (start (corners (down c)) .pre .0 .opposed, high c .part)
 
 returns : tie.Need-returns
 returns c =
     let g = c .before in
-    let d = g .before in
-    let l = d .before in
-    let k = l .before .before .before .before .before .before .before .before .before in
+    let k = corners (down g) in
     record {
-      lower = d .plus-down .ensures (leastProduct (al k) (au k) (bl k) (bu k)) (l .least-corner .ensures);
-      opposed = c .plus-down2 .ensures (negate (greatestProduct (al k) (au k) (bl k) (bu k))) (g .greatest-corner .ensures);
+      lower = g .before .plus-down .ensures (leastProduct (al k) (au k) (bl k) (bu k)) (low (down g));
+      opposed = c .plus-down2 .ensures (negate (greatestProduct (al k) (au k) (bl k) (bu k))) (high g);
     }
 
 pub step-spec : {M : Type 1} → statement M
@@ -148,8 +177,8 @@ step-spec =
     greater-requires
     greater-requires-2
     greater-requires-3
-    least-corner-requires
+    rounded-down-requires
     plus-down-requires
-    greatest-corner-requires
+    rounded-up-requires
     plus-down-requires-2
     returns)
