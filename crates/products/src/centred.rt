@@ -10,8 +10,8 @@ use crate::number::zero;
 use crate::pattern::unpack;
 use crate::plus::plus_down;
 use crate::plus::plus_negative;
-use crate::times::product_down;
-use crate::times::product_up;
+use crate::rounded::rounded_down;
+use crate::rounded::rounded_up;
 use crate::times::times;
 use binary32::order::magnitude;
 
@@ -60,9 +60,9 @@ impl Centred {
         let p = times(unpack(x), unpack(y));
         let q = times(unpack(u), unpack(w));
         Centred {
-            lower: plus_down(self.lower, product_down(p, x, y)),
-            opposed: plus_down(self.opposed, product_up(p, x, y)),
-            radius: plus_negative(self.radius, product_up(q, u, w)),
+            lower: plus_down(self.lower, rounded_down(p)),
+            opposed: plus_down(self.opposed, rounded_up(p)),
+            radius: plus_negative(self.radius, rounded_up(q)),
         }
     }
 
@@ -76,9 +76,9 @@ impl Centred {
         let p = times(unpack(x), unpack(y));
         let q = times(unpack(u), unpack(w));
         Centred {
-            lower: plus_down(self.lower, product_down(p, x, y)),
-            opposed: plus_down(self.opposed, product_up(p, x, y)),
-            radius: plus_negative(self.radius, product_up(q, u, w)),
+            lower: plus_down(self.lower, rounded_down(p)),
+            opposed: plus_down(self.opposed, rounded_up(p)),
+            radius: plus_negative(self.radius, rounded_up(q)),
         }
     }
 
@@ -92,9 +92,9 @@ impl Centred {
         let p = times(unpack(x), unpack(y));
         let q = times(unpack(t), unpack(w));
         Centred {
-            lower: plus_down(self.lower, product_down(p, x, y)),
-            opposed: plus_down(self.opposed, product_up(p, x, y)),
-            radius: plus_negative(self.radius, product_up(q, t, w)),
+            lower: plus_down(self.lower, rounded_down(p)),
+            opposed: plus_down(self.opposed, rounded_up(p)),
+            radius: plus_negative(self.radius, rounded_up(q)),
         }
     }
 

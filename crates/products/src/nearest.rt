@@ -7,8 +7,8 @@ use crate::number::is_none;
 use crate::number::zero;
 use crate::pattern::unpack;
 use crate::plus::plus_negative;
+use crate::rounded::rounded_up;
 use crate::times::product_near;
-use crate::times::product_up;
 use crate::times::times;
 use binary32::order::magnitude;
 
@@ -39,7 +39,7 @@ impl Nearest {
         let q = times(unpack(u), unpack(w));
         Nearest {
             centre: plus_near(self.centre, product_near(p, x, y)),
-            radius: plus_negative(self.radius, product_up(q, u, w)),
+            radius: plus_negative(self.radius, rounded_up(q)),
         }
     }
 

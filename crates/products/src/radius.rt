@@ -5,8 +5,8 @@ use crate::number::Number;
 use crate::pattern::unpack;
 use crate::plus::plus_down;
 use crate::plus::plus_negative;
-use crate::times::product_down;
-use crate::times::product_up;
+use crate::rounded::rounded_down;
+use crate::rounded::rounded_up;
 use crate::times::times;
 use binary32::order::magnitude;
 
@@ -17,7 +17,7 @@ pub fn outer_three(radius: Number, u: u32, v: u32) -> Number
 {
     let a = magnitude(u);
     let b = magnitude(v);
-    plus_negative(radius, product_up(times(unpack(a), unpack(b)), a, b))
+    plus_negative(radius, rounded_up(times(unpack(a), unpack(b))))
 }
 
 // Method 4: the same.
@@ -27,7 +27,7 @@ pub fn outer_four(radius: Number, u: u32, v: u32) -> Number
 {
     let a = magnitude(u);
     let b = magnitude(v);
-    plus_negative(radius, product_up(times(unpack(a), unpack(b)), a, b))
+    plus_negative(radius, rounded_up(times(unpack(a), unpack(b))))
 }
 
 // Method 7: |u| × |v| less.
@@ -37,5 +37,5 @@ pub fn shared_seven(radius: Number, u: u32, v: u32) -> Number
 {
     let a = magnitude(u);
     let b = magnitude(v);
-    plus_down(radius, product_down(times(unpack(a), unpack(b)), a, b))
+    plus_down(radius, rounded_down(times(unpack(a), unpack(b))))
 }

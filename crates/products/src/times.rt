@@ -4,15 +4,13 @@ ghost use mathlib.Core.Bool.{cond, false};
 ghost use Prim.Native.Nat.{_^_, _≤_};
 ghost use lib.Dec.{ltb};
 ghost use lib.IntN.{natAbs};
-ghost use Rattle.rounding.specs.Rounding.{down, up, near, negate};
+ghost use Rattle.rounding.specs.Rounding.{near};
 ghost use Rattle.binary32.specs.Operations.{mul, with₂};
 ghost use Rattle.products.specs.Number.{Holds};
 ghost use Rattle.products.specs.Cuts.{nearestOf};
 ghost use Rattle.products.specs.Exact.{Factors, ProductIs, Exactly, Shortened, ShortenedNear, Turned};
 use crate::number::Number;
 use crate::pattern::unpack;
-use crate::rounded::rounded_down;
-use crate::rounded::rounded_up;
 use crate::shifts::digits;
 use crate::shifts::lowered;
 use crate::shifts::multiplied;
@@ -81,22 +79,6 @@ fn rare_near(a: u32, b: u32) -> Number
     ensures { λ r. ⌜ Holds (with₂ (mul near) a b) r ⌝ }
 {
     unpack(mul_near(a, b))
-}
-
-// The product p of a and b, rounded down.
-pub fn product_down(p: Product, a: u32, b: u32) -> Number
-    requires { ⌜ Exactly a b p ⌝ }
-    ensures { λ r. ⌜ Holds (with₂ (mul down) a b) r ⌝ }
-{
-    rounded_down(p)
-}
-
-// The opposite of the product p of a and b, rounded up.
-pub fn product_up(p: Product, a: u32, b: u32) -> Number
-    requires { ⌜ Exactly a b p ⌝ }
-    ensures { λ r. ⌜ Holds (negate (with₂ (mul up) a b)) r ⌝ }
-{
-    rounded_up(p)
 }
 
 // t / 2^24 to the nearest, the even one of two.

@@ -6,6 +6,7 @@ use Rattle.binary32.specs.Order.{magnitudeOf}
 use Rattle.products.specs.Number.{Holds}
 use Rattle.products.specs.Exact.{Exactly}
 use Rattle.products.proofs.Multiplying.{exactly-of}
+use Rattle.products.proofs.RoundedProducts.{exactly-formed, down-exactly, up-exactly}
 use Rattle.products.proofs.Radii.{by-sizes, term-below}
 use Rattle.products.proofs.centred.Centred.step_parts.Statement.{statement}
 use Rattle.products.proofs.centred.Centred.step_parts.Tie as tie
@@ -34,12 +35,12 @@ module _ (c : tie.After-times2) where
       exactly-of _ _ (u .unpack3 .result) (v .unpack4 .result) (c .times2 .result) (u .unpack3 .ensures) (v .unpack4 .ensures) (c .times2 .ensures)
 
 -- what the radius gets
-grows : (c : tie.After-product-up2) →
+grows : (c : tie.After-rounded-up2) →
     let a = s (c .before .before .before .before .before) .args in
-    Holds (negate (with₂ (mul up) (magnitudeOf (a .u)) (magnitudeOf (a .v)))) (c .product-up2 .result)
+    Holds (negate (with₂ (mul up) (magnitudeOf (a .u)) (magnitudeOf (a .v)))) (c .rounded-up2 .result)
 grows c =
     let n = m (c .before .before .before .before .before) in
-    by-sizes _ _ _ _ (c .product-up2 .result) (n .before .magnitude .ensures) (n .magnitude2 .ensures) (c .product-up2 .ensures)
+    by-sizes _ _ _ _ (c .rounded-up2 .result) (n .before .magnitude .ensures) (n .magnitude2 .ensures) (up-exactly (second (c .before .before .before .before .before)) (c .rounded-up2 .ensures))
 
 magnitude-requires : tie.Need-magnitude-requires
 magnitude-requires c κs = search needs
@@ -65,25 +66,25 @@ unpack-requires-4 c κs = search needs
 times-requires-2 : tie.Need-times-requires-2
 times-requires-2 c κs = record { first = c .before .unpack3 .ensures .part; second = c .unpack4 .ensures .part }
 
-product-down-requires : tie.Need-product-down-requires
-product-down-requires c κs = first c
+rounded-down-requires : tie.Need-rounded-down-requires
+rounded-down-requires c κs = exactly-formed (first c)
 
 plus-down-requires : tie.Need-plus-down-requires
-plus-down-requires c κs = (s (c .before) .pre .lower, c .product-down .ensures .part)
+plus-down-requires c κs = (s (c .before) .pre .lower, down-exactly (first (c .before)) (c .rounded-down .ensures) .part)
 
-product-up-requires : tie.Need-product-up-requires
-product-up-requires c κs = first (c .before .before)
+rounded-up-requires : tie.Need-rounded-up-requires
+rounded-up-requires c κs = exactly-formed (first (c .before .before))
 
 plus-down-requires-2 : tie.Need-plus-down-requires-2
-plus-down-requires-2 c κs = (s (c .before .before .before) .pre .opposed, c .product-up .ensures .part)
+plus-down-requires-2 c κs = (s (c .before .before .before) .pre .opposed, up-exactly (first (c .before .before .before)) (c .rounded-up .ensures) .part)
 
-product-up-requires-2 : tie.Need-product-up-requires-2
-product-up-requires-2 c κs = second (c .before .before .before .before)
+rounded-up-requires-2 : tie.Need-rounded-up-requires-2
+rounded-up-requires-2 c κs = exactly-formed (second (c .before .before .before .before))
 
 plus-negative-requires : tie.Need-plus-negative-requires
 plus-negative-requires c κs =
     let p = s (c .before .before .before .before .before) .pre in
-    (p .radius, c .product-up2 .ensures .part, p .below, term-below _ _ (c .product-up2 .result) (grows c))
+    (p .radius, grows c .part, p .below, term-below _ _ (c .rounded-up2 .result) (grows c))
 
 returns : tie.Need-returns
 returns c =
@@ -91,8 +92,8 @@ returns c =
     let h = c .before .before in
     let a = s (d .before .before) .args in
     record {
-      lower = d .plus-down .ensures (with₂ (mul down) (a .x) (a .y)) (d .before .product-down .ensures);
-      opposed = h .plus-down2 .ensures (negate (with₂ (mul up) (a .x) (a .y))) (h .before .product-up .ensures);
+      lower = d .plus-down .ensures (with₂ (mul down) (a .x) (a .y)) (down-exactly (first (d .before .before)) (d .before .rounded-down .ensures));
+      opposed = h .plus-down2 .ensures (negate (with₂ (mul up) (a .x) (a .y))) (up-exactly (first (d .before .before)) (h .before .rounded-up .ensures));
       radius = c .plus-negative .ensures _ (grows (c .before));
     }
 
@@ -108,10 +109,10 @@ step-parts-spec =
     unpack-requires-3
     unpack-requires-4
     times-requires-2
-    product-down-requires
+    rounded-down-requires
     plus-down-requires
-    product-up-requires
+    rounded-up-requires
     plus-down-requires-2
-    product-up-requires-2
+    rounded-up-requires-2
     plus-negative-requires
     returns)

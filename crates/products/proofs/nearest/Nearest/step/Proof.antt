@@ -6,6 +6,7 @@ use Rattle.binary32.specs.Order.{magnitudeOf}
 use Rattle.products.specs.Number.{Holds}
 use Rattle.products.specs.Exact.{Exactly}
 use Rattle.products.proofs.Multiplying.{exactly-of}
+use Rattle.products.proofs.RoundedProducts.{exactly-formed, up-exactly}
 use Rattle.products.proofs.Radii.{by-sizes, term-below}
 use Rattle.products.proofs.nearest.Nearest.step.Statement.{statement}
 use Rattle.products.proofs.nearest.Nearest.step.Tie as tie
@@ -34,12 +35,12 @@ module _ (c : tie.After-times2) where
       exactly-of _ _ (u .unpack3 .result) (v .unpack4 .result) (c .times2 .result) (u .unpack3 .ensures) (v .unpack4 .ensures) (c .times2 .ensures)
 
 -- what the radius gets
-grows : (c : tie.After-product-up) →
+grows : (c : tie.After-rounded-up) →
     let a = s (c .before .before .before) .args in
-    Holds (negate (with₂ (mul up) (magnitudeOf (a .x)) (magnitudeOf (a .v)))) (c .product-up .result)
+    Holds (negate (with₂ (mul up) (magnitudeOf (a .x)) (magnitudeOf (a .v)))) (c .rounded-up .result)
 grows c =
     let n = m (c .before .before .before) in
-    by-sizes _ _ _ _ (c .product-up .result) (n .before .magnitude .ensures) (n .magnitude2 .ensures) (c .product-up .ensures)
+    by-sizes _ _ _ _ (c .rounded-up .result) (n .before .magnitude .ensures) (n .magnitude2 .ensures) (up-exactly (second (c .before .before .before)) (c .rounded-up .ensures))
 
 magnitude-requires : tie.Need-magnitude-requires
 magnitude-requires c κs = search needs
@@ -71,13 +72,13 @@ product-near-requires c κs = first c
 plus-near-requires : tie.Need-plus-near-requires
 plus-near-requires c κs = (s (c .before) .pre .centre, c .product-near .ensures .part)
 
-product-up-requires : tie.Need-product-up-requires
-product-up-requires c κs = second (c .before .before)
+rounded-up-requires : tie.Need-rounded-up-requires
+rounded-up-requires c κs = exactly-formed (second (c .before .before))
 
 plus-negative-requires : tie.Need-plus-negative-requires
 plus-negative-requires c κs =
     let p = s (c .before .before .before) .pre in
-    (p .radius, c .product-up .ensures .part, p .below, term-below _ _ (c .product-up .result) (grows c))
+    (p .radius, grows c .part, p .below, term-below _ _ (c .rounded-up .result) (grows c))
 
 returns : tie.Need-returns
 returns c =
@@ -102,6 +103,6 @@ step-spec =
     times-requires-2
     product-near-requires
     plus-near-requires
-    product-up-requires
+    rounded-up-requires
     plus-negative-requires
     returns)
