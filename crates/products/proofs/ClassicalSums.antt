@@ -15,12 +15,15 @@ use Rattle.enclosure.specs.Sums.{sum}
 use Rattle.binary32.specs.Number.{valueOf}
 use Rattle.products.specs.declared.sums.Sums.{Sums}
 use Rattle.products.specs.Number.{worth, Holds}
-use Rattle.products.specs.Corners.{Cells}
+use Rattle.products.specs.declared.apart.Apart.{Apart}
+use Rattle.products.specs.Apart.{lowerNumber, upperNumber}
+use Rattle.products.specs.Corners.{leastProduct, greatestProduct}
 use Rattle.products.specs.Running.{BothNumbers, Stepped, Sum, refusedSums, zeroSums}
 use Rattle.products.specs.Matrix.{Matrix, cellAt, lowerAt, upperAt}
 use Rattle.products.specs.Entries.{entryOf}
 use Rattle.products.proofs.Or.{or-first, or-second, or-cases}
 use Rattle.products.proofs.Carrying.{zero-runs, holds-runs, holds-none, sum-stays, mirrored-is, negate-none, down-more, up-more}
+use Rattle.products.proofs.Pairs.{Taken}
 use Rattle.products.proofs.CornerTerms.{least-term, greatest-term, ZeroTerms}
 use Rattle.products.proofs.Zeros.{down-same, up-same}
 
@@ -49,31 +52,29 @@ module _ (k n : ℕ) (A B : Matrix) (i j : ℕ) where
   unfolding sum
   sum-start s e = subst (Sum (lowerTo 0) (upperTo 0)) (sym e) (record { lower = zero-runs; upper = zero-runs })
 
-  -- pair l, its four bounds as patterns
-  module _ (l : ℕ) (s : Sums) (S : Sum (lowerTo l) (upperTo l) s) (w x y z : ℕ) (cells : Cells w x y z)
-      (ew : w ≡ lowerAt A (i * k + l)) (ex : x ≡ upperAt A (i * k + l)) (ey : y ≡ lowerAt B (l * n + j)) (ez : z ≡ upperAt B (l * n + j)) where
-    low-a : cellAt A (i * k + l) .low ≡ valueOf w
-    unfolding cellAt
-    low-a = ap valueOf (sym ew)
+  -- pair l: its cell of A taken apart, the other one's bounds as patterns
+  module _ (l : ℕ) (s : Sums) (S : Sum (lowerTo l) (upperTo l) s) (a : Apart) (y z : ℕ) (t : Taken A (i * k + l) a)
+      (ey : y ≡ lowerAt B (l * n + j)) (ez : z ≡ upperAt B (l * n + j)) where
+    abbrev least-in : Option ℤ
+    least-in = leastProduct (worth (lowerNumber a)) (worth (upperNumber a)) (valueOf y) (valueOf z)
 
-    high-a : cellAt A (i * k + l) .high ≡ valueOf x
-    unfolding cellAt
-    high-a = ap valueOf (sym ex)
+    abbrev greatest-in : Option ℤ
+    greatest-in = greatestProduct (worth (lowerNumber a)) (worth (upperNumber a)) (valueOf y) (valueOf z)
 
-    low-b : cellAt B (l * n + j) .low ≡ valueOf y
+    least-is : least-in ≡ least l
     unfolding cellAt
-    low-b = ap valueOf (sym ey)
+    least-is = least-term (cellAt A (i * k + l)) (cellAt B (l * n + j)) (t .lower .1) (t .upper .1) (ap valueOf ey) (ap valueOf ez)
 
-    high-b : cellAt B (l * n + j) .high ≡ valueOf z
+    greatest-is : greatest-in ≡ greatest l
     unfolding cellAt
-    high-b = ap valueOf (sym ez)
+    greatest-is = greatest-term (cellAt A (i * k + l)) (cellAt B (l * n + j)) (t .lower .1) (t .upper .1) (ap valueOf ey) (ap valueOf ez)
 
-    module _ (r : Sums) (h : Stepped s w x y z r) where
+    module _ (r : Sums) (h : Stepped s a y z r) where
       lower-holds : Holds (lowerTo (l + 1)) (r .lower)
-      lower-holds = down-more least (pos 0) l (s .lower) (r .lower) _ (S .lower) (sym (least-term w x y z _ _ cells low-a high-a low-b high-b)) (h .lower)
+      lower-holds = down-more least (pos 0) l (s .lower) (r .lower) _ (S .lower) (sym least-is) (h .lower)
 
       upper-holds : Holds (negate (upperTo (l + 1))) (r .opposed)
-      upper-holds = up-more greatest (pos 0) l (s .opposed) (r .opposed) _ (S .upper) (sym (greatest-term w x y z _ _ cells low-a high-a low-b high-b)) (h .opposed)
+      upper-holds = up-more greatest (pos 0) l (s .opposed) (r .opposed) _ (S .upper) (sym greatest-is) (h .opposed)
 
       pub sum-step : refusedSums r ≡ false → Sum (lowerTo (l + 1)) (upperTo (l + 1)) r
       sum-step t = record {
@@ -100,10 +101,10 @@ module _ (k n : ℕ) (A B : Matrix) (i j : ℕ) where
           dropped (some v) = refl
 
     -- a pair with a cell [0, 0]
-    pub sum-skip : ZeroTerms w x y z → Sum (lowerTo (l + 1)) (upperTo (l + 1)) s
+    pub sum-skip : ZeroTerms (worth (lowerNumber a)) (worth (upperNumber a)) (valueOf y) (valueOf z) → Sum (lowerTo (l + 1)) (upperTo (l + 1)) s
     sum-skip h = record {
-      lower = down-same least (pos 0) l (sym (least-term w x y z _ _ cells low-a high-a low-b high-b) ∙ h .least) (s .lower) (S .lower);
-      upper = up-same greatest (pos 0) l (sym (greatest-term w x y z _ _ cells low-a high-a low-b high-b) ∙ h .greatest) (s .opposed) (S .upper);
+      lower = down-same least (pos 0) l (sym least-is ∙ h .least) (s .lower) (S .lower);
+      upper = up-same greatest (pos 0) l (sym greatest-is ∙ h .greatest) (s .opposed) (S .upper);
     }
 
   -- the whole entry

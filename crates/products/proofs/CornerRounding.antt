@@ -1,7 +1,6 @@
 -- The least of values that are each rounded down is the least value rounded down, and the greatest of values rounded up the greatest rounded up,
--- refusals too: so of the four corner products of finite patterns only one is rounded.
+-- refusals too: so of four corner products only one is rounded.
 use mathlib.Core.Path.{_≡_, refl, sym, ap, ap₂, _∙_}
-use mathlib.Core.Bool.{true, cond, false}
 use mathlib.Core.List.{[], _∷_}
 use mathlib.Core.Logic.{⊎-elim}
 use mathlib.Core.Option.{Option, none, some, bind}
@@ -19,10 +18,7 @@ use Rattle.rounding.specs.Property.{DownTo}
 use Rattle.rounding.proofs.Sign.{num-ge}
 use Rattle.rounding.proofs.Directed.{down-to}
 use Rattle.rounding.proofs.DirectedLaws.{down-mono}
-use Rattle.binary32.specs.Number.{valueOf, finites, Finite}
-use Rattle.binary32.specs.Operations.{mul, with₂}
-use Rattle.binary32.proofs.Held.{is-finite, with-some}
-use Rattle.products.specs.Corners.{all₄, leastProduct, greatestProduct, corner₄, Cells}
+use Rattle.products.specs.Corners.{all₄, leastProduct, greatestProduct, corner₄}
 use Rattle.products.proofs.CornerOrder.{min-left, min-right, max-left, max-right}
 
 -- ---- the lesser of two partial results, none being the least of all
@@ -111,37 +107,12 @@ greatest-up f D d W X Y Z =
     ∙ least-down f D d (negℤ W) (negℤ X) (negℤ Y) (negℤ Z)
     ∙ ap (down f D) (sym (neg-greatest W X Y Z))
 
--- ---- of the corner products of finite patterns
-
-pub both-finite : (a b : ℕ) → Finite a → Finite b → finites a b ≡ true
-both-finite a b h k = ap₂ (λ s t. cond s t false) (is-finite a h) (is-finite b k)
-
-module _ (al au bl bu : ℕ) (c : Cells al au bl bu) where
-  each : (op : ℤ → ℤ → Option ℤ) (f : ℤ → ℤ → ℤ → ℤ → ℤ)
-      → all₄ f (with₂ op al bl) (with₂ op al bu) (with₂ op au bl) (with₂ op au bu)
-      ≡ all₄ f (op (valueOf al) (valueOf bl)) (op (valueOf al) (valueOf bu)) (op (valueOf au) (valueOf bl)) (op (valueOf au) (valueOf bu))
-  each op f =
-      ap₂ (λ w x. all₄ f w x (with₂ op au bl) (with₂ op au bu))
-      (with-some op al bl (both-finite al bl (c .a-lower) (c .b-lower))) (with-some op al bu (both-finite al bu (c .a-lower) (c .b-upper)))
-      ∙ ap₂ (λ y z. all₄ f (op (valueOf al) (valueOf bl)) (op (valueOf al) (valueOf bu)) y z)
-      (with-some op au bl (both-finite au bl (c .a-upper) (c .b-lower))) (with-some op au bu (both-finite au bu (c .a-upper) (c .b-upper)))
-
-  pub least-values : leastProduct al au bl bu
-      ≡ all₄ least₄ (mul down (valueOf al) (valueOf bl)) (mul down (valueOf al) (valueOf bu)) (mul down (valueOf au) (valueOf bl)) (mul down (valueOf au) (valueOf bu))
-  unfolding leastProduct
-  least-values = each (mul down) least₄
-
-  pub greatest-values : greatestProduct al au bl bu
-      ≡ all₄ greatest₄ (mul up (valueOf al) (valueOf bl)) (mul up (valueOf al) (valueOf bu)) (mul up (valueOf au) (valueOf bl)) (mul up (valueOf au) (valueOf bu))
-  unfolding greatestProduct
-  greatest-values = each (mul up) greatest₄
-
+-- ---- of corner products
+module _ (al au bl bu : ℤ) where
   pub least-product : leastProduct al au bl bu ≡ down binary32 (2 ^ 149) (corner₄ least₄ al au bl bu)
-  least-product =
-      least-values
-      ∙ least-down binary32 (2 ^ 149) (pow-pos 149) (valueOf al *ℤ valueOf bl) (valueOf al *ℤ valueOf bu) (valueOf au *ℤ valueOf bl) (valueOf au *ℤ valueOf bu)
+  unfolding leastProduct
+  least-product = least-down binary32 (2 ^ 149) (pow-pos 149) (al *ℤ bl) (al *ℤ bu) (au *ℤ bl) (au *ℤ bu)
 
   pub greatest-product : negate (greatestProduct al au bl bu) ≡ down binary32 (2 ^ 149) (negℤ (corner₄ greatest₄ al au bl bu))
-  greatest-product =
-      ap negate greatest-values
-      ∙ greatest-up binary32 (2 ^ 149) (pow-pos 149) (valueOf al *ℤ valueOf bl) (valueOf al *ℤ valueOf bu) (valueOf au *ℤ valueOf bl) (valueOf au *ℤ valueOf bu)
+  unfolding greatestProduct
+  greatest-product = greatest-up binary32 (2 ^ 149) (pow-pos 149) (al *ℤ bl) (al *ℤ bu) (au *ℤ bl) (au *ℤ bu)

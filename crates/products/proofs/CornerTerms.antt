@@ -1,5 +1,5 @@
--- The corner products of finite patterns are the terms of the classical method, and 0 where both bounds of a cell are zeros.
-use mathlib.Core.Path.{_≡_, refl, sym, ap, ap₂, _∙_}
+-- Corner products are the terms of the classical method, and 0 where both bounds of a cell are zeros.
+use mathlib.Core.Path.{_≡_, refl, ap, ap₂, _∙_}
 use mathlib.Core.Bool.{Bool, true, false}
 use mathlib.Core.List.{[], _∷_}
 use mathlib.Core.Option.{Option, some, bind}
@@ -20,25 +20,19 @@ use Rattle.binary32.specs.Order.{magnitudeOf}
 use Rattle.enclosure.specs.Arithmetic.{of}
 use Rattle.enclosure.specs.Cell.{Cell}
 use Rattle.enclosure.specs.Methods.{leastTerm, greatestTerm}
-use Rattle.products.specs.Corners.{all₄, leastProduct, greatestProduct, Cells}
-use Rattle.products.proofs.CornerRounding.{least-values, greatest-values}
+use Rattle.products.specs.Corners.{all₄, leastProduct, greatestProduct}
 
-module _ (al au bl bu : ℕ) (a b : Cell) (c : Cells al au bl bu) (la : a .low ≡ valueOf al) (ua : a .high ≡ valueOf au) (lb : b .low ≡ valueOf bl) (ub : b .high ≡ valueOf bu) where
-  abbrev terms : (ℤ → ℤ → ℤ → ℤ → ℤ) → (ℤ → Option ℤ) → ℤ → ℤ → ℤ → ℤ → Option ℤ
-  terms f way u v w x = all₄ f (way (u *ℤ w)) (way (u *ℤ x)) (way (v *ℤ w)) (way (v *ℤ x))
-
-  same : (f : ℤ → ℤ → ℤ → ℤ → ℤ) (way : ℤ → Option ℤ)
-      → terms f way (valueOf al) (valueOf au) (valueOf bl) (valueOf bu) ≡ terms f way (a .low) (a .high) (b .low) (b .high)
-  same f way =
-      ap₂ (λ u v. terms f way u v (valueOf bl) (valueOf bu)) (sym la) (sym ua) ∙ ap₂ (λ w x. terms f way (a .low) (a .high) w x) (sym lb) (sym ub)
+module _ {al au bl bu : ℤ} (a b : Cell) (la : al ≡ a .low) (ua : au ≡ a .high) (lb : bl ≡ b .low) (ub : bu ≡ b .high) where
+  same : (f : ℤ → ℤ → ℤ → ℤ → Option ℤ) → f al au bl bu ≡ f (a .low) (a .high) (b .low) (b .high)
+  same f = ap₂ (λ u v. f u v bl bu) la ua ∙ ap₂ (λ w x. f (a .low) (a .high) w x) lb ub
 
   pub least-term : leastProduct al au bl bu ≡ leastTerm (of binary32) a b
-  unfolding leastTerm
-  least-term = least-values al au bl bu c ∙ same least₄ (down binary32 (2 ^ 149))
+  unfolding leastTerm leastProduct
+  least-term = same leastProduct
 
   pub greatest-term : greatestProduct al au bl bu ≡ greatestTerm (of binary32) a b
-  unfolding greatestTerm
-  greatest-term = greatest-values al au bl bu c ∙ same greatest₄ (up binary32 (2 ^ 149))
+  unfolding greatestTerm greatestProduct
+  greatest-term = same greatestProduct
 
 -- ---- a cell of zeros
 
@@ -57,40 +51,29 @@ zero-right : (x : ℤ) {y : ℤ} → y ≡ pos 0 → x *ℤ y ≡ pos 0
 zero-right x e = ap (λ z. x *ℤ z) e ∙ by-ring (x ∷ []) (search reading depth 20) tt
 
 -- both corner products are 0
-pub record ZeroTerms (al au bl bu : ℕ) : Type 0 where
+pub record ZeroTerms (al au bl bu : ℤ) : Type 0 where
   pub least : leastProduct al au bl bu ≡ some (pos 0)
   pub greatest : greatestProduct al au bl bu ≡ some (pos 0)
 
-module _ (al au bl bu : ℕ) (c : Cells al au bl bu) where
-  all-zero : (f : ℤ → ℤ → ℤ → ℤ → ℤ) (way : ℤ → Option ℤ) → f (pos 0) (pos 0) (pos 0) (pos 0) ≡ pos 0 → way (pos 0) ≡ some (pos 0)
-      → (p q r s : ℤ) → p ≡ pos 0 → q ≡ pos 0 → r ≡ pos 0 → s ≡ pos 0 → all₄ f (way p) (way q) (way r) (way s) ≡ some (pos 0)
-  unfolding bind
-  all-zero f way ef ew p q r s ep eq er es =
-      ap₂ (λ x y. all₄ f x y (way r) (way s)) (ap way ep ∙ ew) (ap way eq ∙ ew)
-      ∙ ap₂ (λ x y. all₄ f (some (pos 0)) (some (pos 0)) x y) (ap way er ∙ ew) (ap way es ∙ ew)
-      ∙ ap some ef
+all-zero : (f : ℤ → ℤ → ℤ → ℤ → ℤ) (way : ℤ → Option ℤ) → f (pos 0) (pos 0) (pos 0) (pos 0) ≡ pos 0 → way (pos 0) ≡ some (pos 0)
+    → (p q r s : ℤ) → p ≡ pos 0 → q ≡ pos 0 → r ≡ pos 0 → s ≡ pos 0 → all₄ f (way p) (way q) (way r) (way s) ≡ some (pos 0)
+unfolding bind
+all-zero f way ef ew p q r s ep eq er es =
+    ap₂ (λ x y. all₄ f x y (way r) (way s)) (ap way ep ∙ ew) (ap way eq ∙ ew)
+    ∙ ap₂ (λ x y. all₄ f (some (pos 0)) (some (pos 0)) x y) (ap way er ∙ ew) (ap way es ∙ ew)
+    ∙ ap some ef
 
-  zero-terms : valueOf al *ℤ valueOf bl ≡ pos 0 → valueOf al *ℤ valueOf bu ≡ pos 0 → valueOf au *ℤ valueOf bl ≡ pos 0 → valueOf au *ℤ valueOf bu ≡ pos 0
-      → ZeroTerms al au bl bu
-  unfolding minℤ maxℤ
+module _ {al au bl bu : ℤ} where
+  zero-terms : al *ℤ bl ≡ pos 0 → al *ℤ bu ≡ pos 0 → au *ℤ bl ≡ pos 0 → au *ℤ bu ≡ pos 0 → ZeroTerms al au bl bu
+  unfolding minℤ maxℤ leastProduct greatestProduct
   zero-terms ep eq er es =
       record {
-        least =
-            least-values al au bl bu c
-            ∙ all-zero least₄ (down binary32 (2 ^ 149)) refl (down-exact binary32 (2 ^ 149) (pow-pos 149) (num-zero binary32)) _ _ _ _ ep eq er es;
-        greatest =
-            greatest-values al au bl bu c
-            ∙ all-zero greatest₄ (up binary32 (2 ^ 149)) refl (up-exact binary32 (2 ^ 149) (pow-pos 149) (num-zero binary32)) _ _ _ _ ep eq er es;
+        least = all-zero least₄ (down binary32 (2 ^ 149)) refl (down-exact binary32 (2 ^ 149) (pow-pos 149) (num-zero binary32)) _ _ _ _ ep eq er es;
+        greatest = all-zero greatest₄ (up binary32 (2 ^ 149)) refl (up-exact binary32 (2 ^ 149) (pow-pos 149) (num-zero binary32)) _ _ _ _ ep eq er es;
       }
 
-  pub zero-first : magnitudeOf al ≡ 0 → magnitudeOf au ≡ 0 → ZeroTerms al au bl bu
-  zero-first h k =
-      let u = zero-value al h in
-      let v = zero-value au k in
-      zero-terms (zero-left (valueOf bl) u) (zero-left (valueOf bu) u) (zero-left (valueOf bl) v) (zero-left (valueOf bu) v)
+  pub zero-first : al ≡ pos 0 → au ≡ pos 0 → ZeroTerms al au bl bu
+  zero-first u v = zero-terms (zero-left bl u) (zero-left bu u) (zero-left bl v) (zero-left bu v)
 
-  pub zero-second : magnitudeOf bl ≡ 0 → magnitudeOf bu ≡ 0 → ZeroTerms al au bl bu
-  zero-second h k =
-      let u = zero-value bl h in
-      let v = zero-value bu k in
-      zero-terms (zero-right (valueOf al) u) (zero-right (valueOf al) v) (zero-right (valueOf au) u) (zero-right (valueOf au) v)
+  pub zero-second : bl ≡ pos 0 → bu ≡ pos 0 → ZeroTerms al au bl bu
+  zero-second u v = zero-terms (zero-right al u) (zero-right al v) (zero-right au u) (zero-right au v)

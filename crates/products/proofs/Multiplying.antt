@@ -36,7 +36,7 @@ use Rattle.products.proofs.Nearing.{near-wide, nearest-few, nearest-lon
 held-number : (v : ℤ) (x : Number) → Holds (some v) x → IsNumber x × (worth x ≡ v)
 held-number v x h = (record { normal = h .part .normal; within = subst (λ t. natAbs t ≤ MAX binary32) (sym (h .is .0)) (h .is .1) }, h .is .0)
 
-unpacked-number : (p : ℕ) (x : Number) → finite p ≡ true → Unpacked p x → IsNumber x × (worth x ≡ valueOf p)
+pub unpacked-number : (p : ℕ) (x : Number) → finite p ≡ true → Unpacked p x → IsNumber x × (worth x ≡ valueOf p)
 unpacked-number p x t u = held-number (valueOf p) x (subst (λ m. Holds m x) (held-finite p t) u)
 
 unpacked-high : (p : ℕ) (x : Number) → finite p ≡ false → Unpacked p x → 1500 ≤ x .exp

@@ -7,10 +7,13 @@ use lib.IntN.{ℤ, pos, negsuc, _+ℤ_, _-ℤ_, _*ℤ_}
 use lib.Signed.{leZ}
 use Rattle.algebra.specs.Extremes.{least₄, greatest₄}
 use Rattle.rounding.specs.Rounding.{up, down}
-use Rattle.binary32.specs.Number.{valueOf, Finite}
-use Rattle.binary32.specs.Operations.{mul, with₂}
+use Rattle.binary32.specs.Number.{Finite}
+use Rattle.binary32.specs.Operations.{mul}
 use Rattle.products.specs.declared.number.Number.{Number}
 use Rattle.products.specs.declared.corners.Corner.{Corner}
+use Rattle.products.specs.declared.apart.Apart.{Apart}
+use Rattle.products.specs.Number.{IsNumber}
+use Rattle.products.specs.Apart.{lowerNumber, upperNumber}
 use Rattle.products.specs.Exact.{ProductIs}
 
 -- ---- rounded: the least of the four, each rounded down; the greatest, each rounded up
@@ -18,24 +21,24 @@ use Rattle.products.specs.Exact.{ProductIs}
 abbrev pub all₄ : (ℤ → ℤ → ℤ → ℤ → ℤ) → Option ℤ → Option ℤ → Option ℤ → Option ℤ → Option ℤ
 all₄ f w x y z = bind w λ p. bind x λ q. bind y λ r. bind z λ s. some (f p q r s)
 
-unfoldable pub leastProduct : ℕ → ℕ → ℕ → ℕ → Option ℤ
-leastProduct al au bl bu = all₄ least₄ (with₂ (mul down) al bl) (with₂ (mul down) al bu) (with₂ (mul down) au bl) (with₂ (mul down) au bu)
+unfoldable pub leastProduct : ℤ → ℤ → ℤ → ℤ → Option ℤ
+leastProduct al au bl bu = all₄ least₄ (mul down al bl) (mul down al bu) (mul down au bl) (mul down au bu)
 
-unfoldable pub greatestProduct : ℕ → ℕ → ℕ → ℕ → Option ℤ
-greatestProduct al au bl bu = all₄ greatest₄ (with₂ (mul up) al bl) (with₂ (mul up) al bu) (with₂ (mul up) au bl) (with₂ (mul up) au bu)
+unfoldable pub greatestProduct : ℤ → ℤ → ℤ → ℤ → Option ℤ
+greatestProduct al au bl bu = all₄ greatest₄ (mul up al bl) (mul up al bu) (mul up au bl) (mul up au bu)
 
 -- ---- exact
 
--- all four bounds are numbers
-pub record Cells (al au bl bu : ℕ) : Type 0 where
-  pub a-lower : Finite al
-  pub a-upper : Finite au
+-- one of the two extremes of the four exact products
+abbrev pub corner₄ : (ℤ → ℤ → ℤ → ℤ → ℤ) → ℤ → ℤ → ℤ → ℤ → ℤ
+corner₄ f al au bl bu = f (al *ℤ bl) (al *ℤ bu) (au *ℤ bl) (au *ℤ bu)
+
+-- the bounds of a cell taken apart, and of one in patterns, are numbers
+pub record Cells (a : Apart) (bl bu : ℕ) : Type 0 where
+  pub a-lower : IsNumber (lowerNumber a)
+  pub a-upper : IsNumber (upperNumber a)
   pub b-lower : Finite bl
   pub b-upper : Finite bu
-
--- one of the two extremes of the four exact products
-abbrev pub corner₄ : (ℤ → ℤ → ℤ → ℤ → ℤ) → ℕ → ℕ → ℕ → ℕ → ℤ
-corner₄ f al au bl bu = f (valueOf al *ℤ valueOf bl) (valueOf al *ℤ valueOf bu) (valueOf au *ℤ valueOf bl) (valueOf au *ℤ valueOf bu)
 
 -- ---- places
 

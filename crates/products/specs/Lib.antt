@@ -1,5 +1,6 @@
 pub mod Lists
 pub mod Number
+pub mod Apart
 pub mod Cuts
 pub mod Exact
 pub mod Corners

@@ -6,9 +6,12 @@ use lib.Dec.{ltb}
 use lib.IntN.{ℤ, _+ℤ_}
 use Rattle.rounding.specs.Format.{binary32}
 use Rattle.rounding.specs.Rounding.{down, negate}
+use Rattle.binary32.specs.Number.{valueOf}
 use Rattle.products.specs.declared.number.Number.{Number}
+use Rattle.products.specs.declared.apart.Apart.{Apart}
 use Rattle.products.specs.declared.sums.Sums.{Sums}
 use Rattle.products.specs.Number.{worth, IsNumber, Holds, Runs, zeroNumber}
+use Rattle.products.specs.Apart.{lowerNumber, upperNumber}
 use Rattle.products.specs.Corners.{leastProduct, greatestProduct}
 
 -- a sum v with a term more, rounded down
@@ -22,10 +25,10 @@ pub record BothNumbers (s : Sums) : Type 0 where
   pub lower : IsNumber (s .lower)
   pub opposed : IsNumber (s .opposed)
 
--- r is s with the corner products of [al, au] and [bl, bu] more
-pub record Stepped (s : Sums) (al au bl bu : ℕ) (r : Sums) : Type 0 where
-  pub lower : Holds (plusDown (worth (s .lower)) (leastProduct al au bl bu)) (r .lower)
-  pub opposed : Holds (plusDown (worth (s .opposed)) (negate (greatestProduct al au bl bu))) (r .opposed)
+-- r is s with the corner products of a and [bl, bu] more
+pub record Stepped (s : Sums) (a : Apart) (bl bu : ℕ) (r : Sums) : Type 0 where
+  pub lower : Holds (plusDown (worth (s .lower)) (leastProduct (worth (lowerNumber a)) (worth (upperNumber a)) (valueOf bl) (valueOf bu))) (r .lower)
+  pub opposed : Holds (plusDown (worth (s .opposed)) (negate (greatestProduct (worth (lowerNumber a)) (worth (upperNumber a)) (valueOf bl) (valueOf bu)))) (r .opposed)
 
 -- r is a centre less its radius and with it, the upper centre and the radius with the other sign
 pub record Ended (low high radius : Number) (r : Sums) : Type 0 where

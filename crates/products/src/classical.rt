@@ -1,4 +1,4 @@
-// Method 1: each entry's sums are carried along its row and column, and the first overflow leaves all three loops.
+// Method 1: a row of A is taken apart once, each entry's sums are carried along its row and column, and the first overflow leaves all loops.
 ghost use lib.ListN.{length};
 ghost use mathlib.Core.Path.{_≡_};
 ghost use Prim.Native.Nat.{_+_};
@@ -7,6 +7,7 @@ ghost use Rattle.enclosure.specs.Methods.{classical};
 ghost use Rattle.binary32.specs.Order.{magnitudeOf};
 ghost use Rattle.products.specs.Matrix.{Matrix};
 ghost use Rattle.products.specs.Entries.{Sizes, entryAt, Written};
+use crate::apart::Apart;
 use crate::sums::Place;
 use crate::sums::Sums;
 
@@ -32,21 +33,24 @@ pub fn entries(
     requires { ⌜ Sizes m k n (record { lowers = now al; uppers = now au }) (record { lowers = now bl; uppers = now bu }) (length (now lo)) (length (now up)) ⌝ }
     ensures { λ r. ⌜ Written (entryAt classical k n (record { lowers = now (al .entry); uppers = now (au .entry) }) (record { lowers = now (bl .entry); uppers = now (bu .entry) })) m n (now (lo .entry)) (now (up .entry)) r (now (lo .exit)) (now (up .exit)) ⌝ }
 {
+    let mut row = [Apart::zero(); 32];
     let mut place = Place::Nowhere;
     let mut at = 0;
     'search: for i in 0..m {
+        for l in 0..k {
+            let c = i * k + l;
+            row[l] = Apart::new(al[c], au[c]);
+        }
         for j in 0..n {
             let mut s = Sums::new();
             for l in 0..k {
-                let a = i * k + l;
-                let w = al[a];
-                let x = au[a];
-                if is_nonzero(w, x) {
+                let a = row[l];
+                if a.is_nonzero() {
                     let b = l * n + j;
                     let y = bl[b];
                     let z = bu[b];
                     if is_nonzero(y, z) {
-                        s = s.step(w, x, y, z);
+                        s = s.step(a, y, z);
                         if s.refused() {
                             place = Place::At(i, j);
                             break 'search;

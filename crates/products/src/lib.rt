@@ -11,6 +11,7 @@ use check_order::check_all;
 use refusals::Refusal;
 use sums::Place;
 
+mod apart;
 mod cells;
 mod centred;
 mod check_order;

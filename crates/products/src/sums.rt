@@ -5,6 +5,7 @@ ghost use Rattle.binary32.specs.Number.{patternOf};
 ghost use Rattle.products.specs.Number.{worth, IsNumber};
 ghost use Rattle.products.specs.Corners.{Cells};
 ghost use Rattle.products.specs.Running.{BothNumbers, Stepped, Ended, refusedSums, zeroSums};
+use crate::apart::Apart;
 use crate::corners::corner_of;
 use crate::corners::greater;
 use crate::corners::lesser;
@@ -40,13 +41,13 @@ impl Sums {
         }
     }
 
-    // The classical step: the lower sum and the least of the four corner products of [al, au] and [bl, bu], each rounded down; the upper sum and the greatest, each rounded up.
-    pub fn step(self, al: u32, au: u32, bl: u32, bu: u32) -> Sums
-        requires { ⌜ BothNumbers self × Cells al au bl bu ⌝ }
-        ensures { λ r. ⌜ Stepped self al au bl bu r ⌝ }
+    // The classical step: the lower sum and the least of the four corner products of a and [bl, bu], each rounded down; the upper sum and the greatest, each rounded up.
+    pub fn step(self, a: Apart, bl: u32, bu: u32) -> Sums
+        requires { ⌜ BothNumbers self × Cells a bl bu ⌝ }
+        ensures { λ r. ⌜ Stepped self a bl bu r ⌝ }
     {
-        let w = unpack(al);
-        let x = unpack(au);
+        let w = a.lower();
+        let x = a.upper();
         let y = unpack(bl);
         let z = unpack(bu);
         let p = corner_of(w, y);

@@ -1,18 +1,26 @@
 -- `products::sums::Sums::step` meets its contract: the least and the greatest corner, each added to its sum.
-use Prim.Native.Nat.{ℕ}
-use lib.IntN.{_*ℤ_}
-use Rattle.algebra.specs.Extremes.{least₄, greatest₄}
+use mathlib.Core.Path.{refl, sym, subst}
+use lib.IntN.{ℤ}
 use borrow.Author.Needs.{needs}
+use Rattle.algebra.specs.Extremes.{least₄, greatest₄}
 use Rattle.rounding.specs.Rounding.{negate}
 use Rattle.binary32.specs.Number.{valueOf}
-use Rattle.products.specs.Number.{Holds}
-use Rattle.products.specs.Corners.{Cells, corner₄, leastProduct, greatestProduct}
+use Rattle.binary32.proofs.Held.{is-finite}
+use Rattle.products.specs.Number.{worth, Holds}
+use Rattle.products.specs.Apart.{lowerNumber, upperNumber}
+use Rattle.products.specs.Corners.{corner₄, leastProduct, greatestProduct}
 use Rattle.products.specs.Exact.{Exact}
-use Rattle.products.proofs.CornerOrder.{At}
-use Rattle.products.proofs.CornerSteps.{corner-at, least-of, greatest-of, least-rounded, greatest-rounded}
+use Rattle.products.proofs.Multiplying.{unpacked-number}
+use Rattle.products.proofs.CornerSteps.{Worth, corner-factors, corner-at, least-of, greatest-of, least-rounded, greatest-rounded}
 use Rattle.products.proofs.RoundedProducts.{exact-formed}
 use Rattle.products.proofs.sums.Sums.step.Statement.{statement}
 use Rattle.products.proofs.sums.Sums.step.Tie as tie
+
+lower-requires : tie.Need-lower-requires
+lower-requires c κs = search needs
+
+upper-requires : tie.Need-upper-requires
+upper-requires c κs = search needs
 
 unpack-requires : tie.Need-unpack-requires
 unpack-requires c κs = search needs
@@ -20,23 +28,46 @@ unpack-requires c κs = search needs
 unpack-requires-2 : tie.Need-unpack-requires-2
 unpack-requires-2 c κs = search needs
 
-unpack-requires-3 : tie.Need-unpack-requires-3
-unpack-requires-3 c κs = search needs
+-- the four bounds
+module _ (c : tie.After-unpack2) where
+  abbrev start : tie.Start
+  start = c .before .before .before .before
 
-unpack-requires-4 : tie.Need-unpack-requires-4
-unpack-requires-4 c κs = search needs
+  abbrev al : ℤ
+  al = worth (lowerNumber (start .args .a))
+
+  abbrev au : ℤ
+  au = worth (upperNumber (start .args .a))
+
+  abbrev bl : ℤ
+  bl = valueOf (start .args .bl)
+
+  abbrev bu : ℤ
+  bu = valueOf (start .args .bu)
+
+  a-lower : Worth al (c .before .before .before .lower .result)
+  a-lower = subst (Worth al) (sym (c .before .before .before .lower .ensures)) (start .pre .1 .a-lower, refl)
+
+  a-upper : Worth au (c .before .before .upper .result)
+  a-upper = subst (Worth au) (sym (c .before .before .upper .ensures)) (start .pre .1 .a-upper, refl)
+
+  b-lower : Worth bl (c .before .unpack .result)
+  b-lower = unpacked-number (start .args .bl) (c .before .unpack .result) (is-finite (start .args .bl) (start .pre .1 .b-lower)) (c .before .unpack .ensures)
+
+  b-upper : Worth bu (c .unpack2 .result)
+  b-upper = unpacked-number (start .args .bu) (c .unpack2 .result) (is-finite (start .args .bu) (start .pre .1 .b-upper)) (c .unpack2 .ensures)
 
 corner-of-requires : tie.Need-corner-of-requires
-corner-of-requires c κs = search needs
+corner-of-requires c κs = corner-factors (a-lower c) (b-lower c)
 
 corner-of-requires-2 : tie.Need-corner-of-requires-2
-corner-of-requires-2 c κs = search needs
+corner-of-requires-2 c κs = let u = c .before in corner-factors (a-lower u) (b-upper u)
 
 corner-of-requires-3 : tie.Need-corner-of-requires-3
-corner-of-requires-3 c κs = search needs
+corner-of-requires-3 c κs = let u = c .before .before in corner-factors (a-upper u) (b-lower u)
 
 corner-of-requires-4 : tie.Need-corner-of-requires-4
-corner-of-requires-4 c κs = search needs
+corner-of-requires-4 c κs = let u = c .before .before .before in corner-factors (a-upper u) (b-upper u)
 
 lesser-requires : tie.Need-lesser-requires
 lesser-requires c κs = search needs
@@ -56,117 +87,79 @@ greater-requires-2 c κs = search needs
 greater-requires-3 : tie.Need-greater-requires-3
 greater-requires-3 c κs = search needs
 
--- the four exact products
-module _ (c : tie.After-corner-of4) where
-  abbrev start : tie.Start
-  start = c .before .before .before .before .before .before .before .before
-
-  abbrev al : ℕ
-  al = start .args .al
-
-  abbrev au : ℕ
-  au = start .args .au
-
-  abbrev bl : ℕ
-  bl = start .args .bl
-
-  abbrev bu : ℕ
-  bu = start .args .bu
-
-  abbrev cells : Cells al au bl bu
-  cells = start .pre .1
-
-  ll : At (valueOf al *ℤ valueOf bl) (c .before .before .before .corner-of .result)
-  ll =
-      let f = c .before .before .before in
-      let u = f .before in
-      corner-at al bl (cells .a-lower) (cells .b-lower) (u .before .before .before .unpack .ensures) (u .before .unpack3 .ensures) (f .corner-of .ensures)
-
-  lu : At (valueOf al *ℤ valueOf bu) (c .before .before .corner-of2 .result)
-  lu =
-      let f = c .before .before in
-      let u = f .before .before in
-      corner-at al bu (cells .a-lower) (cells .b-upper) (u .before .before .before .unpack .ensures) (u .unpack4 .ensures) (f .corner-of2 .ensures)
-
-  ul : At (valueOf au *ℤ valueOf bl) (c .before .corner-of3 .result)
-  ul =
-      let f = c .before in
-      let u = f .before .before .before in
-      corner-at au bl (cells .a-upper) (cells .b-lower) (u .before .before .unpack2 .ensures) (u .before .unpack3 .ensures) (f .corner-of3 .ensures)
-
-  uu : At (valueOf au *ℤ valueOf bu) (c .corner-of4 .result)
-  uu =
-      let u = c .before .before .before .before in
-      corner-at au bu (cells .a-upper) (cells .b-upper) (u .before .before .unpack2 .ensures) (u .unpack4 .ensures) (c .corner-of4 .ensures)
-
--- the extremes of them
+-- the extremes of the four exact products
 module _ (c : tie.After-lesser3) where
-  abbrev four : tie.After-corner-of4
-  four = c .before .before .before
+  abbrev u : tie.After-unpack2
+  u = c .before .before .before .before .before .before .before
 
-  least : Exact (corner₄ least₄ (al four) (au four) (bl four) (bu four)) (c .lesser3 .result .product)
+  least : Exact (corner₄ least₄ (al u) (au u) (bl u) (bu u)) (c .lesser3 .result .product)
   least =
-      least-of (al four) (au four) (bl four) (bu four) (ll four) (lu four) (ul four) (uu four)
+      let k = c .before .before .before in
+      least-of (al u) (au u) (bl u) (bu u)
+      (corner-at (a-lower u) (b-lower u) (k .before .before .before .corner-of .ensures)) (corner-at (a-lower u) (b-upper u) (k .before .before .corner-of2 .ensures))
+      (corner-at (a-upper u) (b-lower u) (k .before .corner-of3 .ensures)) (corner-at (a-upper u) (b-upper u) (k .corner-of4 .ensures))
       (c .before .before .lesser .ensures) (c .before .lesser2 .ensures) (c .lesser3 .ensures)
 
 module _ (c : tie.After-greater3) where
-  abbrev lowest : tie.After-lesser3
-  lowest = c .before .before .before .before
+  abbrev low : tie.After-lesser3
+  low = c .before .before .before .before
 
-  greatest : Exact (corner₄ greatest₄ (al (four lowest)) (au (four lowest)) (bl (four lowest)) (bu (four lowest))) (c .greater3 .result .product)
+  greatest : Exact (corner₄ greatest₄ (al (u low)) (au (u low)) (bl (u low)) (bu (u low))) (c .greater3 .result .product)
   greatest =
-      let k = four lowest in
-      greatest-of (al k) (au k) (bl k) (bu k) (ll k) (lu k) (ul k) (uu k) (c .before .before .greater .ensures) (c .before .greater2 .ensures) (c .greater3 .ensures)
+      let v = u low in
+      let k = low .before .before .before in
+      greatest-of (al v) (au v) (bl v) (bu v)
+      (corner-at (a-lower v) (b-lower v) (k .before .before .before .corner-of .ensures)) (corner-at (a-lower v) (b-upper v) (k .before .before .corner-of2 .ensures))
+      (corner-at (a-upper v) (b-lower v) (k .before .corner-of3 .ensures)) (corner-at (a-upper v) (b-upper v) (k .corner-of4 .ensures))
+      (c .before .before .greater .ensures) (c .before .greater2 .ensures) (c .greater3 .ensures)
 
 -- the sums' terms
 module _ (c : tie.After-rounded-down) where
   abbrev both : tie.After-greater3
   both = c .before .before
 
-  abbrev corners : tie.After-corner-of4
-  corners = four (lowest both)
+  abbrev v : tie.After-unpack2
+  v = u (low both)
 
-  low : Holds (leastProduct (al corners) (au corners) (bl corners) (bu corners)) (c .rounded-down .result)
-  low = least-rounded (al corners) (au corners) (bl corners) (bu corners) (cells corners) (least (lowest both)) (c .rounded-down .ensures)
+  lower-term : Holds (leastProduct (al v) (au v) (bl v) (bu v)) (c .rounded-down .result)
+  lower-term = least-rounded (al v) (au v) (bl v) (bu v) (least (low both)) (c .rounded-down .ensures)
 
 module _ (c : tie.After-rounded-up) where
   abbrev down : tie.After-rounded-down
   down = c .before .before
 
-  high : Holds (negate (greatestProduct (al (corners down)) (au (corners down)) (bl (corners down)) (bu (corners down)))) (c .rounded-up .result)
-  high =
-      let k = corners down in
-      greatest-rounded (al k) (au k) (bl k) (bu k) (cells k) (greatest (both down)) (c .rounded-up .ensures)
+  upper-term : Holds (negate (greatestProduct (al (v down)) (au (v down)) (bl (v down)) (bu (v down)))) (c .rounded-up .result)
+  upper-term = greatest-rounded (al (v down)) (au (v down)) (bl (v down)) (bu (v down)) (greatest (both down)) (c .rounded-up .ensures)
 
 rounded-down-requires : tie.Need-rounded-down-requires
-rounded-down-requires c κs = exact-formed (least (lowest (c .before)))
+rounded-down-requires c κs = exact-formed (least (low (c .before)))
 
 plus-down-requires : tie.Need-plus-down-requires
-plus-down-requires c κs = (start (corners c) .pre .0 .lower, low c .part)
+plus-down-requires c κs = (start (v c) .pre .0 .lower, lower-term c .part)
 
 rounded-up-requires : tie.Need-rounded-up-requires
 rounded-up-requires c κs = exact-formed (greatest (both (c .before)))
 
 plus-down-requires-2 : tie.Need-plus-down-requires-2
-plus-down-requires-2 c κs = (start (corners (down c)) .pre .0 .opposed, high c .part)
+plus-down-requires-2 c κs = (start (v (down c)) .pre .0 .opposed, upper-term c .part)
 
 returns : tie.Need-returns
 returns c =
     let g = c .before in
-    let k = corners (down g) in
+    let k = v (down g) in
     record {
-      lower = g .before .plus-down .ensures (leastProduct (al k) (au k) (bl k) (bu k)) (low (down g));
-      opposed = c .plus-down2 .ensures (negate (greatestProduct (al k) (au k) (bl k) (bu k))) (high g);
+      lower = g .before .plus-down .ensures (leastProduct (al k) (au k) (bl k) (bu k)) (lower-term (down g));
+      opposed = c .plus-down2 .ensures (negate (greatestProduct (al k) (au k) (bl k) (bu k))) (upper-term g);
     }
 
 pub step-spec : {M : Type 1} → statement M
 step-spec =
     tie.close
     (tie.spec
+    lower-requires
+    upper-requires
     unpack-requires
     unpack-requires-2
-    unpack-requires-3
-    unpack-requires-4
     corner-of-requires
     corner-of-requires-2
     corner-of-requires-3

@@ -1,0 +1,20 @@
+-- A cell taken apart: the numbers of its bounds. Definitions only, for the contracts of inner functions.
+use Prim.Native.Nat.{ℕ}
+use lib.IntN.{pos}
+use Rattle.products.specs.declared.number.Number.{Number}
+use Rattle.products.specs.declared.apart.Apart.{Apart}
+use Rattle.products.specs.Number.{Unpacked}
+
+abbrev pub lowerNumber : Apart → Number
+lowerNumber a = record { sig = a .«lower_sig»; exp = a .«lower_exp» }
+
+abbrev pub upperNumber : Apart → Number
+upperNumber a = record { sig = a .«upper_sig»; exp = a .«upper_exp» }
+
+-- a is what the patterns lo and hi hold
+pub record IsApart (lo hi : ℕ) (a : Apart) : Type 0 where
+  pub lower : Unpacked lo (lowerNumber a)
+  pub upper : Unpacked hi (upperNumber a)
+
+abbrev pub zeroApart : Apart
+zeroApart = record { «lower_sig» = pos 0; «upper_sig» = pos 0; «lower_exp» = 0; «upper_exp» = 0 }
