@@ -1,26 +1,21 @@
--- Comparing keys is comparing values; and the lesser and the greater of two patterns hold the lesser and the greater of their numbers, or none
--- where one holds none.
-use mathlib.Core.Path.{_≡_, refl, sym, ap, ap₂, _∙_, subst}
-use mathlib.Core.Bool.{Bool, true, false, cond}
-use mathlib.Core.List.{[], _∷_}
-use mathlib.Core.Option.{Option, none, some, bind}
-use Prim.Native.Nat.{ℕ, _*_, _%_, _^_, _≤_, _<_}
+-- Comparing keys is comparing values.
+use mathlib.Core.Path.{_≡_, refl, sym, ap, _∙_, subst}
+use mathlib.Core.Bool.{Bool, true, false}
+use Prim.Native.Nat.{ℕ, _%_, _^_, _≤_}
 use native.Mathlib.Omega.{arith}
-use lib.Dec.{T, leb, lit<}
+use lib.Dec.{T, leb}
 use lib.IntN.{ℤ, pos, negℤ}
 use lib.Signed.{leZ, leZ-yes}
 use Rattle.algebra.specs.Order.{_≼_, _≺_}
-use Rattle.algebra.specs.Extremes.{minℤ}
-use Rattle.algebra.proofs.Linear.{reading, le, lt, lin-lt}
-use Rattle.algebra.proofs.Order.{≼-refl, ≼-of-≺, not-≺}
-use Rattle.algebra.proofs.Natural.{of-le, to-le, of-lt}
-use Rattle.rounding.specs.Format.{binary32, MAX, Num}
+use Rattle.algebra.proofs.Linear.{le}
+use Rattle.algebra.proofs.Order.{≼-refl, not-≺}
+use Rattle.algebra.proofs.Natural.{of-le, to-le}
+use Rattle.rounding.specs.Format.{binary32}
 use Rattle.rounding.specs.Pattern.{val}
 use Rattle.rounding.proofs.Pattern.{val-le, val-le-back, val-injective}
-use Rattle.rounding.proofs.Sign.{neg-le, of-neg-le, pos-le-neg, neg-le-pos, num-ge}
-use Rattle.binary32.specs.Number.{signedBy, valueOf, patternOf, holdDown}
-use Rattle.binary32.specs.Order.{keyOf, atMost, leastOf}
-use Rattle.binary32.proofs.Held.{Fits, pattern-value}
+use Rattle.rounding.proofs.Sign.{neg-le, of-neg-le, pos-le-neg, neg-le-pos}
+use Rattle.binary32.specs.Number.{signedBy, valueOf}
+use Rattle.binary32.specs.Order.{keyOf, atMost}
 
 -- ---- tests
 
@@ -83,38 +78,3 @@ key-order a b = same-test (leZ (keyOf a) (keyOf b)) (atMost a b) (λ t. up (leZ-
     back h =
         signed-order (leb (2 ^ 31) a) (leb (2 ^ 31) b) (val binary32 m) (val binary32 n) m n
         (val-le-back binary32) (val-le-back binary32) none-left none-left h
-
--- ---- minus infinity is below all numbers
-
-far : MAX binary32 < 2 ^ 23 * 2 ^ 254
-unfolding MAX
-far = lit< tt
-
-below : (M K : ℕ) (v : ℤ) → M < K → negℤ (pos M) ≼ v → negℤ (pos K) ≺ v
-below M K v h k = lin-lt (pos M ∷ pos K ∷ v ∷ []) (lt (of-lt h) ∷ le k ∷ []) (search reading depth 20) (omega arith)
-
-pub below-all : {v : ℤ} → Num binary32 v → valueOf 0xFF800000 ≺ v
-unfolding valueOf val
-below-all {v} n = below (MAX binary32) (2 ^ 23 * 2 ^ 254) v far (num-ge n)
-
-cond-same : (t : Bool) (n : ℕ) → cond t n n ≡ n
-cond-same true n = refl
-cond-same false n = refl
-
--- ---- of two that were rounded down the lesser: one that holds none is taken
-
-pub least-hold : (x y : Option ℤ) → Fits x → Fits y
-    → leastOf (holdDown x) (holdDown y) ≡ holdDown (bind x λ u. bind y λ v. some (minℤ u v))
-unfolding leastOf minℤ Fits bind
-least-hold none none f g = cond-same (atMost 0xFF800000 0xFF800000) 0xFF800000
-least-hold none (some v) f g =
-    let n : valueOf 0xFF800000 ≼ v = ≼-of-≺ (below-all (g v refl)) in
-    ap (λ t. cond t 0xFF800000 (patternOf v)) (leZ-true (subst (λ w. valueOf 0xFF800000 ≼ w) (sym (pattern-value (g v refl))) n))
-least-hold (some u) none f g =
-    ap (λ t. cond t (patternOf u) 0xFF800000) (leZ-false (subst (λ w. valueOf 0xFF800000 ≺ w) (sym (pattern-value (f u refl))) (below-all (f u refl))))
-least-hold (some u) (some v) f g =
-    ap₂ (λ a b. cond (leZ a b) (patternOf u) (patternOf v)) (pattern-value (f u refl)) (pattern-value (g v refl)) ∙ go (leZ u v)
-  where
-    go : (t : Bool) → cond t (patternOf u) (patternOf v) ≡ patternOf (cond t u v)
-    go true = refl
-    go false = refl

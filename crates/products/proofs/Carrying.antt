@@ -20,7 +20,6 @@ use Rattle.products.specs.declared.number.Number.{Number}
 use Rattle.products.specs.Number.{worth, Below, Holds, Runs, IsNumber, zeroNumber}
 use Rattle.products.specs.Running.{plusDown}
 use Rattle.products.proofs.Packing.{exp-high}
-use Rattle.products.proofs.Limits.{number-holds}
 
 true-false : {A : Type 0} → true ≡ false → A
 true-false e = absurd (subst (λ x. cond x (Unit {0}) ⊥) e tt)
@@ -39,9 +38,6 @@ holds-none (some v) x h t = true-false (sym t ∙ le-ltb 653 (x .exp) (exp-high 
   where
     number : IsNumber x
     number = record { normal = h .part .normal; within = subst (λ w. natAbs w ≤ MAX binary32) (sym (h .is .0)) (h .is .1) }
-
-pub runs-holds : (m : Option ℤ) (x : Number) → Runs m x → Holds m x
-runs-holds m x r = subst (λ t. Holds t x) (sym (r .is)) (number-holds (r .number))
 
 -- the start of a sum
 zero-worth : worth zeroNumber ≡ pos 0

@@ -3,17 +3,16 @@ use mathlib.Core.Path.{_≡_, refl, sym, ap, ap₂, _∙_, subst}
 use mathlib.Core.Bool.{Bool, true, false, cond}
 use mathlib.Core.List.{[], _∷_}
 use mathlib.Core.Option.{Option, none, some, bind}
-use Prim.Native.Nat.{ℕ, _*_, _^_, _<_}
+use Prim.Native.Nat.{ℕ, _^_, _<_}
 use native.Mathlib.Omega.{arith}
 use lib.Dec.{lit<}
 use lib.Pow.{pow-pos}
-use lib.IntN.{ℤ, pos, negsuc, negℤ, _+ℤ_, _*ℤ_}
+use lib.IntN.{ℤ, pos, negsuc, _+ℤ_, _*ℤ_}
 use lib.Signed.{ltZ-yes}
 use Rattle.algebra.specs.Absolute.{abs}
 use Rattle.algebra.specs.Order.{_≼_}
-use Rattle.algebra.proofs.Linear.{reading, le, lt, eq, lin-le}
-use Rattle.algebra.proofs.Natural.{of-lt}
-use Rattle.algebra.proofs.Order.{not-≺, nonneg, cancel-le, _⊠_}
+use Rattle.algebra.proofs.Linear.{reading, le, lt, lin-le}
+use Rattle.algebra.proofs.Order.{not-≺, nonneg, _⊠_}
 use Rattle.rounding.specs.Format.{binary32, MAX}
 use Rattle.rounding.specs.Rounding.{up, down, negate}
 use Rattle.rounding.specs.Property.{UpTo, DownTo}

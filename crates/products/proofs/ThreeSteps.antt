@@ -8,7 +8,7 @@ use lib.Dec.{ltb}
 use lib.IntN.{ℤ, pos, negℤ, _+ℤ_}
 use Rattle.rounding.proofs.Sign.{neg-le-pos}
 use Rattle.rounding.specs.Format.{binary32}
-use Rattle.rounding.specs.Rounding.{up, down, near, negate}
+use Rattle.rounding.specs.Rounding.{up, near, negate}
 use Rattle.enclosure.specs.Arithmetic.{of}
 use Rattle.enclosure.specs.Methods.{raisedTerm, total, radius₃, centre, ends, entry, three}
 use Rattle.enclosure.specs.Sums.{sum}

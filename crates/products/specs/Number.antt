@@ -4,7 +4,6 @@ use mathlib.Core.Option.{Option, none, some}
 use Prim.Native.Nat.{ℕ, _*_, _^_, _≤_, _<_}
 use lib.IntN.{ℤ, pos, negsuc, negℤ, natAbs, _*ℤ_}
 use lib.Signed.{shrZ}
-use Rattle.algebra.specs.Absolute.{abs}
 use Rattle.algebra.specs.Order.{_≼_, _≺_}
 use Rattle.rounding.specs.Format.{binary32, MAX}
 use Rattle.binary32.specs.Number.{held}

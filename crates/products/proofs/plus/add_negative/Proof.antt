@@ -1,8 +1,7 @@
 -- `products::plus::add_negative` meets its contract: by `negative-found`.
 use mathlib.Core.Path.{_≡_, sym, subst}
-use Prim.Native.Nat.{_^_, _≤_}
 use native.Mathlib.Omega.{arith}
-use lib.IntN.{ℤ, natAbs}
+use lib.IntN.{ℤ}
 use mir.Syntax.{w64}
 use mir.Val.{toZ, ofZ}
 use Rattle.binary32.proofs.Ints.{read-small}

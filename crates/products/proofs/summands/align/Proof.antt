@@ -11,7 +11,6 @@ use Rattle.products.specs.declared.number.Number.{Number}
 use Rattle.products.proofs.Ordering.{Ordered, ordered}
 use Rattle.products.proofs.FarShifts.{raised-abs}
 use Rattle.binary32.proofs.Rests.{shr-less}
-use Rattle.products.specs.Cuts.{earlier, later}
 use borrow.Author.Needs.{needs}
 use Rattle.products.proofs.summands.align.Statement.{statement}
 use Rattle.products.proofs.summands.align.Tie as tie

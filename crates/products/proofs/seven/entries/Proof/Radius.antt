@@ -1,6 +1,6 @@
 -- The turn of the third inner loop of `products::seven::entries`: what it calls, what the radius is then, and that the invariant goes on.
 -- A turn takes a step or passes a pair over.
-use mathlib.Core.Path.{_≡_, sym, _∙_, subst}
+use mathlib.Core.Path.{sym, _∙_, subst}
 use mathlib.Core.Logic.{⊎-elim}
 use Prim.Native.Nat.{ℕ, _+_, _*_}
 use native.Mathlib.Omega.{arith}

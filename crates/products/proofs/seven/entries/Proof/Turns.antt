@@ -1,6 +1,6 @@
 -- The turns of the first two inner loops of `products::seven::entries`: what they call, what the sums are then, and that the invariants go on.
 -- A turn takes a step or passes a pair over.
-use mathlib.Core.Path.{_≡_, sym, _∙_, subst}
+use mathlib.Core.Path.{sym, _∙_, subst}
 use mathlib.Core.Logic.{⊎-elim}
 use Prim.Native.Nat.{ℕ, _+_, _*_}
 use native.Mathlib.Omega.{arith}
