@@ -1,12 +1,10 @@
 -- What a rounding gives is a number of the format.
-use mathlib.Core.Option.{Option, none, some, bind, Option·none-ne-some}
 use Prim.Native.Nat.{ℕ, _<_}
 use lib.IntN.{ℤ}
 use Rattle.rounding.specs.Format.{binary32}
 use Rattle.rounding.specs.Rounding.{up, down, near}
 use Rattle.rounding.proofs.Directed.{up-is, down-is}
 use Rattle.rounding.proofs.Nearest.{near-is}
-use Rattle.binary32.specs.Operations.{on₂}
 use Rattle.binary32.proofs.Held.{Fits}
 
 module _ (D : ℕ) (d : 0 < D) (X : ℤ) where
@@ -21,10 +19,3 @@ module _ (D : ℕ) (d : 0 < D) (X : ℤ) where
   pub near-fits : Fits (near binary32 D X)
   unfolding Fits
   near-fits v e = near-is binary32 D d e .num
-
--- of an operation on partial results, if it is so of numbers
-pub on-fits : (op : ℤ → ℤ → Option ℤ) → ((u v : ℤ) → Fits (op u v)) → (m n : Option ℤ) → Fits (on₂ op m n)
-unfolding bind Fits
-on-fits op h none n v e = absurd (Option·none-ne-some v e)
-on-fits op h (some x) none v e = absurd (Option·none-ne-some v e)
-on-fits op h (some x) (some y) v e = h x y v e

@@ -4,7 +4,7 @@ use mathlib.Core.Bool.{Bool, true, false, not}
 use mathlib.Core.List.{[], _∷_}
 use Prim.Native.Nat.{ℕ, _+_, _*_, _%_, _^_, _≤_, _<_}
 use native.Mathlib.Omega.{arith}
-use native.Mathlib.Nat.{div-add-mod'}
+use native.Mathlib.Nat.{div-add-mod', div-lt-iff-lt-mul, lt-of-lt-of-le}
 use lib.Dec.{T, ltb, ltb→lt, nltb→le}
 use lib.IntN.{ℤ, pos, negsuc, natAbs, _+ℤ_, _*ℤ_}
 use lib.Signed.{shrZ}
@@ -50,13 +50,9 @@ module _ (s : ℤ) (m g b : ℕ) (em : m ≡ g + g + 2) (eb : b ≡ natAbs (shrZ
       go false y n = let h : 2 * r + natAbs c % 2 ≤ m = n tt in floor-at 0 (omega arith) (omega arith)
 
 -- ---- ranges
-pub shr-38 : (t : ℤ) → natAbs t ≤ 2 ^ 62 → natAbs (shrZ t (2 ^ 38)) ≤ 2 ^ 25
-shr-38 (pos n) h = omega arith
-shr-38 (negsuc n) h = omega arith
-
-pub shr-24 : (t : ℤ) → natAbs t ≤ 2 ^ 48 → natAbs (shrZ t (2 ^ 24)) ≤ 2 ^ 25
-shr-24 (pos n) h = omega arith
-shr-24 (negsuc n) h = omega arith
+pub shr-half : (t : ℤ) (m : ℕ) → 2 ≤ m → natAbs t ≤ 2 ^ 62 → natAbs (shrZ t m) ≤ 2 ^ 61
+shr-half (pos n) m l h = omega (arith, div-lt-iff-lt-mul {x = n} {y = 2 ^ 61 + 1} (lt-of-lt-of-le (omega arith) l) .1 (omega arith))
+shr-half (negsuc n) m l h = omega (arith, div-lt-iff-lt-mul {x = n} {y = 2 ^ 61} (lt-of-lt-of-le (omega arith) l) .1 (omega arith))
 
 pub shr-back : (t : ℤ) (m : ℕ) → natAbs (shrZ t m) * m ≤ natAbs t + m
 shr-back (pos n) m = omega (arith, div-add-mod' n m)

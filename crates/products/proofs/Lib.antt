@@ -32,7 +32,7 @@ pub mod Shortening
 pub mod ExactProducts
 pub mod Multiplying
 pub mod SmallProducts
-pub mod PatternProducts
+pub mod SmallNear
 pub mod RoundedProducts
 pub mod Partials
 -- sums that go on from pair to pair

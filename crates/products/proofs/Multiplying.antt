@@ -6,12 +6,10 @@ use mathlib.Core.Logic.{_⊎_, inl, inr, ⊎-elim}
 use mathlib.Core.Option.{none, some}
 use Prim.Native.Nat.{ℕ, _+_, _-_, _*_, _^_, _≤_, _<_}
 use native.Mathlib.Omega.{arith}
-use native.Mathlib.Nat.{eq-zero-or-pos}
 use lib.Pow.{pow-pos, pow-add}
 use lib.IntN.{ℤ, pos, negℤ, natAbs, _*ℤ_}
 use lib.Ieee.Nearest.{closest}
 use lib.Signed.{shrZ}
-use borrow.Author.Tests.{le-leb}
 use Rattle.algebra.proofs.Floor.{floor-low, floor-high}
 use Rattle.algebra.proofs.Linear.{reading, eq, lin-eq}
 use Rattle.rounding.specs.Format.{binary32, MAX}
@@ -23,13 +21,13 @@ use Rattle.binary32.proofs.Held.{held-finite, held-none, finites-first, finites
 use Rattle.products.specs.declared.number.Number.{Number}
 use Rattle.products.specs.declared.times.Product.{Product}
 use Rattle.products.specs.Number.{worth, Normal, IsNumber, Holds, Unpacked}
-use Rattle.products.specs.Cuts.{limited}
-use Rattle.products.specs.Exact.{Usual, Exact, ProductIs, Exactly, Formed, Shortened, ShortenedNear, Turned}
+use Rattle.products.specs.Cuts.{limited, limitedNear}
+use Rattle.products.specs.Exact.{Exact, ProductIs, Exactly, Formed, Shortened, ShortenedNear, Turned}
 use Rattle.products.proofs.Floors.{Full}
 use Rattle.products.proofs.Worths.{exp-low, fits-below}
 use Rattle.products.proofs.ExactProducts.{exact-worths}
-use Rattle.products.proofs.Shortening.{cut-few, cut-long, cut-kind, over-low, over-high, over-exact, down-limited, small-max, kept-worth, kept-normal, kept-holds}
-use Rattle.products.proofs.Limits.{limit-fits}
+use Rattle.products.proofs.Shortening.{cut-few, cut-long, cut-kind, over-low, over-high, over-exact, down-limited, kept-worth, kept-normal}
+use Rattle.products.proofs.Limits.{limit-fits, limit-near-fits}
 use Rattle.products.proofs.Nearing.{near-wide, nearest-few, nearest-long, signed-times, signed-abs}
 
 -- ---- of what two patterns hold
@@ -61,16 +59,6 @@ exactly-of a b x y p ux uy i = record { few = i .few; numbers = numbers; none = 
     high true true e f h = absurd (subst (λ u. cond u (Unit {0}) ⊥) h tt)
     high true false e f h = high-sum-2 (x .exp) (y .exp) (p .exp) (exp-low x (ux .part .normal)) (unpacked-high b y f uy) (i .low)
     high false t e f h = high-sum (x .exp) (y .exp) (p .exp) (unpacked-high a x e ux) (exp-low y (uy .part .normal)) (i .low)
-
--- ---- a usual product is not zero
-exact-full : (X : ℤ) (p : Product) → Exact X p → Usual (p .exp) → 2 ^ 47 ≤ natAbs (p .sig)
-exact-full X p i u = i .full (⊎-elim (λ e. absurd (no (i .none e) (u .0))) (λ l. l) (eq-zero-or-pos (natAbs (p .sig))))
-  where
-    no : p .exp < 752 → 926 ≤ p .exp → ⊥
-    no l k = omega arith
-
-small-j : (e : ℕ) → e < 1179 → e - 926 ≤ 252
-small-j e h = omega arith
 
 places-24 : (e : ℕ) → 926 ≤ e → 24 + e ≡ e - 926 + 950
 places-24 e h = omega arith
@@ -133,7 +121,10 @@ near-product X = ap (near binary32 (2 ^ 950)) (turn (2 ^ 801)) ∙ near-scale bi
     turn : (a : ℕ) → X *ℤ pos a ≡ pos a *ℤ X
     turn a = lin-eq (X ∷ pos a ∷ []) [] (search reading depth 20) (omega arith)
 
-module _ {X : ℤ} {p : Product} {r : Number} (i : Exact X p) (u : Usual (p .exp)) (s : ShortenedNear p r) where
+pub near-exact-product : {X : ℤ} {p : Product} → Exact X p → near binary32 (2 ^ 149) X ≡ near binary32 (2 ^ 950) (p .sig *ℤ pos (2 ^ (p .exp)))
+near-exact-product {X} i = sym (near-product X) ∙ ap (near binary32 (2 ^ 950)) (sym (i .value))
+
+module _ {p : Product} {r : Number} (f : Formed p) (l : 926 ≤ p .exp) (h : p .exp ≤ 1307) (s : ShortenedNear p r) where
   abbrev near-c : ℕ
   near-c = closest (natAbs (p .sig)) (2 ^ 24)
 
@@ -146,23 +137,30 @@ module _ {X : ℤ} {p : Product} {r : Number} (i : Exact X p) (u : Usual (p .exp
   sig-abs : natAbs (r .sig) ≡ near-c
   sig-abs = ap natAbs (s .sigs) ∙ signed-abs (p .sig) near-c
 
-  near-few : near-c ≤ 2 ^ 24
-  near-few = nearest-few (natAbs (p .sig)) (2 ^ 24) (pow-pos 24) (i .few)
+  near-few : natAbs (r .sig) ≤ 2 ^ 24
+  near-few = subst (λ t. t ≤ 2 ^ 24) (sym sig-abs) (nearest-few (natAbs (p .sig)) (2 ^ 24) (pow-pos 24) (f .few))
 
-  near-within : natAbs near-v ≤ MAX binary32
-  near-within = subst (λ t. t ≤ MAX binary32) (sym (signed-abs (p .sig) (near-c * 2 ^ near-j))) (small-max (pos near-c) near-j near-few (small-j (p .exp) (u .1)))
+  near-long : 2 ^ 23 ≤ natAbs (r .sig)
+  near-long = subst (λ t. 2 ^ 23 ≤ t) (sym sig-abs) (nearest-long (natAbs (p .sig)) (2 ^ 24) (pow-pos 24) (f .full l h))
 
-  near-found : near binary32 (2 ^ 149) X ≡ some near-v
-  near-found =
-      sym (near-product X) ∙ ap (near binary32 (2 ^ 950)) (sym (i .value))
-      ∙ near-wide 24 950 (p .sig) (p .exp) near-j (exact-full X p i u) (i .few) (places-24 (p .exp) (u .0))
-      ∙ ap (λ t. cond t (some near-v) none) (le-leb (natAbs near-v) (MAX binary32) near-within)
+  near-is : r .sig *ℤ pos (2 ^ near-j) ≡ near-v
+  near-is = ap (λ t. t *ℤ pos (2 ^ near-j)) (s .sigs) ∙ signed-times (p .sig) near-c (2 ^ near-j)
 
-  pub shortened-near-holds : Holds (near binary32 (2 ^ 149) X) r
-  shortened-near-holds = subst (λ m. Holds m r) (sym near-found)
-      (kept-holds r (p .exp) near-v (s .exps) (u .0) (subst (λ t. t ≤ 2 ^ 24) (sym sig-abs) near-few)
-      (subst (λ t. 2 ^ 23 ≤ t) (sym sig-abs) (nearest-long (natAbs (p .sig)) (2 ^ 24) (pow-pos 24) (exact-full X p i u)))
-      (ap (λ t. t *ℤ pos (2 ^ near-j)) (s .sigs) ∙ signed-times (p .sig) near-c (2 ^ near-j)) near-within)
+  pub shortened-near-normal : Normal r
+  shortened-near-normal = kept-normal r (p .exp) near-v (s .exps) l near-few near-long near-is
+
+  module _ {X : ℤ} (i : Exact X p) where
+    near-found : near binary32 (2 ^ 149) X ≡ limitedNear (worth r)
+    near-found =
+        near-exact-product i ∙ near-wide 24 950 (p .sig) (p .exp) near-j (f .full l h) (f .few) (places-24 (p .exp) l)
+        ∙ ap limitedNear (sym (kept-worth r (p .exp) near-v (s .exps) l near-few near-long near-is))
+
+    pub limit-near-holds : {q : Number} → Holds (limitedNear (worth r)) q → Holds (near binary32 (2 ^ 149) X) q
+    limit-near-holds {q} = subst (λ m. Holds m q) (sym near-found)
+
+    -- a usual one is a number
+    pub shortened-near-holds : p .exp < 1179 → Holds (near binary32 (2 ^ 149) X) r
+    shortened-near-holds u = limit-near-holds (limit-near-fits r shortened-near-normal (sym (fits-below r shortened-near-normal (omega (arith, s .exps)))))
 
 -- ---- the other sign
 pub turned-exact : {X : ℤ} {p r : Product} → Exact X p → Turned p r → Exact (negℤ X) r

@@ -1,4 +1,4 @@
--- Exact products rounded down: what they are like, with the other sign, and of what two patterns hold.
+-- Exact products rounded down, up and to nearest: what they are like, with the other sign, and of what two patterns hold.
 use mathlib.Core.Path.{_≡_, refl, sym, ap, _∙_, subst}
 use mathlib.Core.Bool.{Bool, true, false, cond}
 use mathlib.Core.Logic.{⊎-elim}
@@ -8,7 +8,7 @@ use native.Mathlib.Omega.{arith}
 use native.Mathlib.Nat.{eq-zero-or-pos, not-le-of-lt}
 use lib.IntN.{ℤ, negℤ, natAbs, _*ℤ_}
 use Rattle.rounding.specs.Format.{binary32}
-use Rattle.rounding.specs.Rounding.{up, down, negate}
+use Rattle.rounding.specs.Rounding.{up, down, near, negate}
 use Rattle.rounding.proofs.Sign.{natAbs-neg}
 use Rattle.binary32.specs.Number.{valueOf, finite, finites, held}
 use Rattle.binary32.specs.Operations.{mul, with₂}
@@ -16,7 +16,7 @@ use Rattle.binary32.proofs.Held.{with-some}
 use Rattle.products.specs.declared.number.Number.{Number}
 use Rattle.products.specs.declared.times.Product.{Product}
 use Rattle.products.specs.Number.{Holds}
-use Rattle.products.specs.Exact.{Exact, Exactly, Formed, RoundedDown, RoundedUp, Turned}
+use Rattle.products.specs.Exact.{Exact, Exactly, Formed, RoundedDown, RoundedUp, RoundedNear, Turned}
 use Rattle.products.proofs.Multiplying.{turned-exact}
 use Rattle.products.proofs.CornerRounding.{mirror}
 
@@ -75,3 +75,6 @@ module _ {a b : ℕ} {p : Product} (i : Exactly a b p) where
 
   pub up-exactly : {r : Number} → RoundedUp p r → Holds (negate (with₂ (mul up) a b)) r
   up-exactly {r} d = either (mul up) negate refl (d .number (valueOf a *ℤ valueOf b)) (d .none)
+
+  pub near-exactly : {r : Number} → RoundedNear p r → Holds (with₂ (mul near) a b) r
+  near-exactly {r} d = either (mul near) (λ m. m) refl (d .number (valueOf a *ℤ valueOf b)) (d .none)

@@ -1,16 +1,14 @@
 -- 24 of 48 digits: rounded down they are the rounding of the whole, on the grid of its exponent, up to the largest number.
-use mathlib.Core.Path.{_≡_, sym, ap, subst, _∙_}
+use mathlib.Core.Path.{_≡_, sym, ap, _∙_}
 use mathlib.Core.List.{[], _∷_}
 use mathlib.Core.Logic.{_⊎_, inl, inr, ⊎-elim}
 use mathlib.Core.Option.{Option, none, some}
 use Prim.Native.Nat.{ℕ, suc, _+_, _-_, _*_, _/_, _^_, _≤_, _<_}
 use native.Mathlib.Omega.{arith}
-use native.Mathlib.Nat.{mul-one, pow-succ'}
-use lib.Pow.{pow-add, pow-mono}
+use lib.Pow.{pow-add}
 use lib.IntN.{ℤ, pos, negsuc, negℤ, natAbs, _+ℤ_, _*ℤ_}
 use lib.Signed.{shrZ}
 use Rattle.algebra.specs.Order.{_≼_, _≺_}
-use Rattle.algebra.proofs.Absolute.{natAbs-mul}
 use Rattle.algebra.proofs.Floor.{floor-low, floor-greatest}
 use Rattle.algebra.proofs.Linear.{reading, le, lt, eq, lin-le, lin-lt, lin-eq}
 use Rattle.algebra.proofs.Natural.{of-lt}
@@ -20,12 +18,11 @@ use Rattle.rounding.specs.Rounding.{down}
 use Rattle.rounding.specs.Property.{DownTo}
 use Rattle.rounding.proofs.Directed.{down-to, down-only, down-below}
 use Rattle.products.specs.declared.number.Number.{Number}
-use Rattle.products.specs.Number.{worth, Normal, Holds}
+use Rattle.products.specs.Number.{worth, Normal}
 use Rattle.products.specs.Cuts.{IsFloor, limited}
 use Rattle.products.proofs.Floors.{Full, greatest-at, shifted-form, limits}
-use Rattle.products.proofs.Worths.{worth-is, fits-small}
+use Rattle.products.proofs.Worths.{worth-is}
 use Rattle.products.proofs.FarShifts.{le-or-lt}
-use Rattle.products.proofs.Limits.{number-holds}
 
 -- ---- 24 of 48 digits
 module _ (s : ℤ) (few : natAbs s ≤ 2 ^ 48) (full : 2 ^ 47 ≤ natAbs s) where
@@ -116,12 +113,6 @@ module _ (X p c : ℤ) (P Q m D : ℕ) (hq : 0 < Q) (hp : 0 < P) (e : p *ℤ pos
       cancel-eq (of-lt hq)
       (lin-eq (X ∷ p ∷ c ∷ pos P ∷ pos Q ∷ pos m ∷ pos D ∷ []) (eq e ∷ eq (ap (λ t. c *ℤ pos t) eP) ∷ eq (ap (λ t. t *ℤ pos P) h) ∷ []) (search reading depth 40 fits 9999) (omega arith))
 
-pub small-max : (c : ℤ) (j : ℕ) → natAbs c ≤ 2 ^ 24 → j ≤ 252 → natAbs (c *ℤ pos (2 ^ j)) ≤ MAX binary32
-unfolding MAX
-small-max c j h l =
-    fits-small (natAbs (c *ℤ pos (2 ^ j))) 1 (natAbs c) (2 ^ j) (2 ^ 253) (omega arith) (mul-one (natAbs (c *ℤ pos (2 ^ j))) ∙ natAbs-mul c (pos (2 ^ j))) h
-    (subst (λ t. t ≤ 2 ^ 253 * 1) (pow-succ' 2 j) (pow-mono {i = suc j} {j = 253} (omega arith)))
-
 -- ---- 24 digits above the units are in normal form
 module _ (r : Number) (e : ℕ) (v : ℤ) (h : r .exp ≡ e - 526) (u : 926 ≤ e) (few : natAbs (r .sig) ≤ 2 ^ 24) (long : 2 ^ 23 ≤ natAbs (r .sig))
     (is : r .sig *ℤ pos (2 ^ (e - 926)) ≡ v) where
@@ -142,6 +133,3 @@ module _ (r : Number) (e : ℕ) (v : ℤ) (h : r .exp ≡ e - 526) (u : 926 ≤ 
 
   pub kept-normal : Normal r
   kept-normal = record { whole = value ∙ ap (λ t. t *ℤ pos (2 ^ 400)) (sym kept-worth); few = few; full = λ l. long; low = λ n. absurd (no n) }
-
-  pub kept-holds : natAbs v ≤ MAX binary32 → Holds (some v) r
-  kept-holds m = subst (λ t. Holds (some t) r) kept-worth (number-holds (record { normal = kept-normal; within = subst (λ t. natAbs t ≤ MAX binary32) (sym kept-worth) m }))

@@ -42,7 +42,7 @@ units-few : (t : ℤ) (n : ℕ) → natAbs t ≤ 2 ^ 48 → 25 ≤ n → natAbs 
 units-few (pos a) n h k = omega (arith, div-lt-iff-lt-mul {x = a} {y = 2 ^ 24} (pow-pos n) .1 (omega (arith, pow-mono {i = 25} {j = n} k)))
 units-few (negsuc a) n h k = omega (arith, div-lt-iff-lt-mul {x = a} {y = 2 ^ 24} (pow-pos n) .1 (omega (arith, pow-mono {i = 25} {j = n} k)))
 
-few-max : 2 ^ 24 ≤ MAX binary32
+pub few-max : 2 ^ 24 ≤ MAX binary32
 unfolding MAX
 few-max = lit≤ tt
 

@@ -59,7 +59,7 @@ exp-low x n = ⊎-elim (λ e. le-of-eq (sym (n .low e))) (λ p. at-least (x .exp
 
 -- ---- the limit, over plain numbers: K units of the scale, T of the largest exponent
 module _ (a K s m T : ℕ) (p : 0 < K) (e : a * K ≡ s * m) where
-  pub fits-small : s ≤ 2 ^ 24 → 2 * m ≤ T * K → a ≤ (2 ^ 24 - 1) * T
+  fits-small : s ≤ 2 ^ 24 → 2 * m ≤ T * K → a ≤ (2 ^ 24 - 1) * T
   fits-small h l =
       let k : K * (2 * a) ≤ K * (2 ^ 24 * T) = omega (arith, mul-le-mul h l) in
       let j : 2 * a ≤ 2 ^ 24 * T = le-of-mul-le-mul-left k p in

@@ -6,7 +6,7 @@ use Prim.Native.Nat.{ℕ, _+_, _-_, _^_, _≤_, _<_}
 use lib.IntN.{ℤ, pos, negℤ, natAbs, _*ℤ_}
 use lib.Signed.{shrZ}
 use Rattle.rounding.specs.Format.{binary32}
-use Rattle.rounding.specs.Rounding.{down, up, negate}
+use Rattle.rounding.specs.Rounding.{down, up, near, negate}
 use Rattle.binary32.specs.Number.{valueOf, finites}
 use Rattle.products.specs.declared.number.Number.{Number}
 use Rattle.products.specs.declared.times.Product.{Product}
@@ -57,6 +57,11 @@ pub record RoundedDown (p : Product) (r : Number) : Type 0 where
 -- r is the opposite of p, which is rounded up
 pub record RoundedUp (p : Product) (r : Number) : Type 0 where
   pub number : (X : ℤ) → Exact X p → Holds (negate (up binary32 (2 ^ 149) X)) r
+  pub none : 1307 < p .exp → Holds none r
+
+-- r is p to nearest, none where a factor is none
+pub record RoundedNear (p : Product) (r : Number) : Type 0 where
+  pub number : (X : ℤ) → Exact X p → Holds (near binary32 (2 ^ 149) X) r
   pub none : 1307 < p .exp → Holds none r
 
 -- 24 digits of it, rounded down

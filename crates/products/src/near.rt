@@ -1,12 +1,11 @@
 // Sums of numbers taken apart, to nearest: as those rounded down, with a last digit that stands for what the first shift lost.
 ghost use mathlib.Core.Option.{Option, bind};
 ghost use Prim.Native.Nat.{_^_, _≤_, _<_};
-ghost use mathlib.Core.Path.{_≡_};
 ghost use lib.IntN.{ℤ, natAbs, _+ℤ_};
 ghost use Rattle.rounding.specs.Format.{binary32};
 ghost use Rattle.rounding.specs.Rounding.{near};
 ghost use Rattle.products.specs.Number.{worth, Normal, IsNumber, Holds, Part};
-ghost use Rattle.products.specs.Cuts.{Summands, SumNear, limitedNear, nearestOf, CutNear, Marked};
+ghost use Rattle.products.specs.Cuts.{Summands, SumNear, limitedNear, CutNear, Marked};
 use crate::number::Number;
 use crate::number::fits;
 use crate::number::none;
@@ -15,19 +14,11 @@ use crate::shifts::added;
 use crate::shifts::cap;
 use crate::shifts::digits;
 use crate::shifts::lowered;
-use crate::shifts::odd;
+use crate::shifts::nearest;
 use crate::shifts::raised;
 use crate::shifts::widened;
 use crate::summands::first;
 use crate::summands::second;
-
-// t / 2^38 to the nearest, the even one of two.
-fn nearest(t: i64) -> i64
-    requires { ⌜ natAbs t ≤ 2 ^ 62 ⌝ }
-    ensures { λ r. ⌜ r ≡ nearestOf t (2 ^ 38) ⌝ }
-{
-    lowered(t + 0x1F_FFFF_FFFF + odd(lowered(t, 38)), 38)
-}
 
 // w × 2^(exp - 436) units, rounded to nearest, to 24 digits.
 fn cut_near(w: i64, exp: u32) -> Number
@@ -36,7 +27,7 @@ fn cut_near(w: i64, exp: u32) -> Number
 {
     let z = u64::leading_zeros(digits(w) * 4 + 3);
     Number {
-        sig: nearest(widened(w, z)),
+        sig: nearest(widened(w, z), 38),
         exp: or_low(w, exp + 2 - z),
     }
 }
@@ -65,7 +56,7 @@ fn add_near(x: Number, y: Number) -> Number
 }
 
 // A value of 24 digits, to nearest: none beyond the largest number.
-fn limit_near(x: Number) -> Number
+pub fn limit_near(x: Number) -> Number
     requires { ⌜ Normal x × (x .exp ≤ 4002) ⌝ }
     ensures { λ r. ⌜ Holds (limitedNear (worth x)) r ⌝ }
 {

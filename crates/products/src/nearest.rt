@@ -7,8 +7,8 @@ use crate::number::is_none;
 use crate::number::zero;
 use crate::pattern::unpack;
 use crate::plus::plus_negative;
+use crate::rounded::rounded_near;
 use crate::rounded::rounded_up;
-use crate::times::product_near;
 use crate::times::times;
 use binary32::order::magnitude;
 
@@ -38,7 +38,7 @@ impl Nearest {
         let p = times(unpack(x), unpack(y));
         let q = times(unpack(u), unpack(w));
         Nearest {
-            centre: plus_near(self.centre, product_near(p, x, y)),
+            centre: plus_near(self.centre, rounded_near(p)),
             radius: plus_negative(self.radius, rounded_up(q)),
         }
     }

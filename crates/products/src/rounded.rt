@@ -1,20 +1,23 @@
-// Exact products rounded down, of their 48 digits alone.
+// Exact products rounded down, up and to nearest, of their 48 digits alone.
 ghost use Prim.Native.Nat.{_^_, _≤_, _<_};
 ghost use lib.IntN.{ℤ, natAbs};
 ghost use Rattle.rounding.specs.Format.{binary32};
-ghost use Rattle.rounding.specs.Rounding.{down};
+ghost use Rattle.rounding.specs.Rounding.{down, near};
 ghost use Rattle.products.specs.Number.{Holds};
-ghost use Rattle.products.specs.Exact.{Exact, Formed, RoundedDown, RoundedUp};
+ghost use Rattle.products.specs.Exact.{Exact, Formed, RoundedDown, RoundedUp, RoundedNear};
+use crate::near::limit_near;
 use crate::number::Number;
 use crate::number::cut_down;
 use crate::number::none;
 use crate::plus::limit;
 use crate::shifts::cap;
 use crate::shifts::lowered;
+use crate::shifts::nearest;
 use crate::shifts::raised;
 use crate::times::Product;
 use crate::times::is_usual;
 use crate::times::shortened;
+use crate::times::shortened_near;
 use crate::times::turned;
 
 // A product below 2^24 units, rounded down: whole units.
@@ -56,4 +59,37 @@ pub fn rounded_up(p: Product) -> Number
     ensures { λ r. ⌜ RoundedUp p r ⌝ }
 {
     rounded_down(turned(p))
+}
+
+// A product below 2^24 units, to nearest: whole units.
+fn small_near(p: Product) -> Number
+    requires { ⌜ (natAbs (p .sig) ≤ 2 ^ 48) × (p .exp < 926) ⌝ }
+    ensures { λ r. ⌜ ((X : ℤ) → Exact X p → Holds (near binary32 (2 ^ 149) X) r) ⌝ }
+{
+    cut_down(raised(nearest(p.sig, cap(950 - p.exp))), 400)
+}
+
+// A product that is small, near the largest number or beyond it, zero or none, to nearest.
+fn rare_near(p: Product) -> Number
+    requires { ⌜ Formed p ⌝ }
+    ensures { λ r. ⌜ RoundedNear p r ⌝ }
+{
+    if p.exp < 926 {
+        return small_near(p);
+    }
+    if 1307 < p.exp {
+        return none();
+    }
+    limit_near(shortened_near(p))
+}
+
+// p, to nearest; none where a factor is none.
+pub fn rounded_near(p: Product) -> Number
+    requires { ⌜ Formed p ⌝ }
+    ensures { λ r. ⌜ RoundedNear p r ⌝ }
+{
+    if is_usual(p.exp) {
+        return shortened_near(p);
+    }
+    rare_near(p)
 }

@@ -1,10 +1,11 @@
 // Small steps on the machine's integers, each with its value as its contract.
 ghost use mathlib.Core.Path.{_≡_};
-ghost use Prim.Native.Nat.{_*_, _^_, _≤_, _<_, min};
+ghost use Prim.Native.Nat.{_-_, _*_, _^_, _≤_, _<_, min};
 ghost use lib.IntN.{pos, natAbs, _+ℤ_, _*ℤ_};
 ghost use lib.Signed.{mag, shrZ};
 ghost use Rattle.rounding.specs.Quotient.{rem};
 ghost use Rattle.binary32.specs.Number.{signedBy};
+ghost use Rattle.products.specs.Cuts.{nearestOf};
 
 // 2^n
 fn power(n: u32) -> i64
@@ -78,11 +79,27 @@ pub fn widened(w: i64, z: u32) -> i64
 }
 
 // The last digit of c.
-pub fn odd(c: i64) -> i64
+fn odd(c: i64) -> i64
     requires { ⌜ natAbs c ≤ 2 ^ 61 ⌝ }
     ensures { λ r. ⌜ r ≡ pos (rem c 2) ⌝ }
 {
     c - lowered(c, 1) * 2
+}
+
+// 2^(n - 1) - 1, just less than half of 2^n.
+fn half(n: u32) -> i64
+    requires { ⌜ (1 ≤ n) × (n ≤ 61) ⌝ }
+    ensures { λ r. ⌜ r ≡ pos (2 ^ (n - 1) - 1) ⌝ }
+{
+    power(n - 1) - 1
+}
+
+// t / 2^n to the nearest, the even one of two.
+pub fn nearest(t: i64, n: u32) -> i64
+    requires { ⌜ (natAbs t ≤ 2 ^ 62) × (1 ≤ n) × (n ≤ 61) ⌝ }
+    ensures { λ r. ⌜ r ≡ nearestOf t (2 ^ n) ⌝ }
+{
+    lowered(t + half(n) + odd(lowered(t, n)), n)
 }
 
 // p × 2

@@ -1,22 +1,16 @@
-// Products of numbers taken apart: exact in 48 digits, of which 24 are kept. To nearest, a product that is small, large, zero or none goes by way of the patterns.
+// Products of numbers taken apart: exact in 48 digits, of which 24 are kept.
 ghost use mathlib.Core.Path.{_≡_};
 ghost use mathlib.Core.Bool.{cond, false};
 ghost use Prim.Native.Nat.{_^_, _≤_};
 ghost use lib.Dec.{ltb};
 ghost use lib.IntN.{natAbs};
-ghost use Rattle.rounding.specs.Rounding.{near};
-ghost use Rattle.binary32.specs.Operations.{mul, with₂};
-ghost use Rattle.products.specs.Number.{Holds};
-ghost use Rattle.products.specs.Cuts.{nearestOf};
-ghost use Rattle.products.specs.Exact.{Factors, ProductIs, Exactly, Shortened, ShortenedNear, Turned};
+ghost use Rattle.products.specs.Exact.{Factors, ProductIs, Shortened, ShortenedNear, Turned};
 use crate::number::Number;
-use crate::pattern::unpack;
 use crate::shifts::digits;
 use crate::shifts::lowered;
 use crate::shifts::multiplied;
-use crate::shifts::odd;
+use crate::shifts::nearest;
 use crate::shifts::twice;
-use binary32::partial::mul_near;
 
 // An exact product: sig × 2^(exp - 950) units, 48 digits.
 pub struct Product {
@@ -74,39 +68,13 @@ pub fn turned(p: Product) -> Product
     }
 }
 
-// a × b, to nearest, by way of the patterns.
-fn rare_near(a: u32, b: u32) -> Number
-    ensures { λ r. ⌜ Holds (with₂ (mul near) a b) r ⌝ }
-{
-    unpack(mul_near(a, b))
-}
-
-// t / 2^24 to the nearest, the even one of two.
-fn near_digits(t: i64) -> i64
-    requires { ⌜ natAbs t ≤ 2 ^ 48 ⌝ }
-    ensures { λ r. ⌜ r ≡ nearestOf t (2 ^ 24) ⌝ }
-{
-    lowered(t + 0x7F_FFFF + odd(lowered(t, 24)), 24)
-}
-
 // The first 24 digits, to nearest.
-fn shortened_near(p: Product) -> Number
+pub fn shortened_near(p: Product) -> Number
     requires { ⌜ (natAbs (p .sig) ≤ 2 ^ 48) × (926 ≤ p .exp) ⌝ }
     ensures { λ r. ⌜ ShortenedNear p r ⌝ }
 {
     Number {
-        sig: near_digits(p.sig),
+        sig: nearest(p.sig, 24),
         exp: p.exp - 526,
     }
-}
-
-// The product p of a and b, to nearest.
-pub fn product_near(p: Product, a: u32, b: u32) -> Number
-    requires { ⌜ Exactly a b p ⌝ }
-    ensures { λ r. ⌜ Holds (with₂ (mul near) a b) r ⌝ }
-{
-    if is_usual(p.exp) {
-        return shortened_near(p);
-    }
-    rare_near(a, b)
 }

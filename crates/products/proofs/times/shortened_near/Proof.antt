@@ -9,8 +9,10 @@ use borrow.Author.Needs.{needs}
 use Rattle.products.proofs.times.shortened_near.Statement.{statement}
 use Rattle.products.proofs.times.shortened_near.Tie as tie
 
-near-digits-requires : tie.Need-near-digits-requires
-near-digits-requires c κs = let s = c .before in subst (λ (t : ℤ). natAbs t ≤ 2 ^ 48) (sym (read-small (s .args .p .sig) (omega (arith, s .pre .0)))) (s .pre .0)
+nearest-requires : tie.Need-nearest-requires
+nearest-requires c κs =
+    let s = c .before in
+    (subst (λ (t : ℤ). natAbs t ≤ 2 ^ 62) (sym (read-small (s .args .p .sig) (omega (arith, s .pre .0)))) (omega (arith, s .pre .0)), omega arith, omega arith)
 
 sub-t3 : tie.Need-sub-t3
 sub-t3 c = search needs
@@ -20,9 +22,9 @@ returns c =
     let l = c .before in
     let s = l .before .before in
     record {
-      sigs = read (l .near-digits .result) (l .near-digits .ok) ∙ l .near-digits .ensures ∙ ap (λ (t : ℤ). nearestOf t (2 ^ 24)) (read-small (s .args .p .sig) (omega (arith, s .pre .0)));
+      sigs = read (l .nearest .result) (l .nearest .ok) ∙ l .nearest .ensures ∙ ap (λ (t : ℤ). nearestOf t (2 ^ 24)) (read-small (s .args .p .sig) (omega (arith, s .pre .0)));
       exps = refl;
     }
 
 pub shortened-near-spec : {M : Type 1} → statement M
-shortened-near-spec = tie.close (tie.spec near-digits-requires sub-t3 returns)
+shortened-near-spec = tie.close (tie.spec nearest-requires sub-t3 returns)

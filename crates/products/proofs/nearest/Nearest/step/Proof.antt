@@ -6,7 +6,7 @@ use Rattle.binary32.specs.Order.{magnitudeOf}
 use Rattle.products.specs.Number.{Holds}
 use Rattle.products.specs.Exact.{Exactly}
 use Rattle.products.proofs.Multiplying.{exactly-of}
-use Rattle.products.proofs.RoundedProducts.{exactly-formed, up-exactly}
+use Rattle.products.proofs.RoundedProducts.{exactly-formed, up-exactly, near-exactly}
 use Rattle.products.proofs.Radii.{by-sizes, term-below}
 use Rattle.products.proofs.nearest.Nearest.step.Statement.{statement}
 use Rattle.products.proofs.nearest.Nearest.step.Tie as tie
@@ -34,7 +34,10 @@ module _ (c : tie.After-times2) where
       let u = v .before in
       exactly-of _ _ (u .unpack3 .result) (v .unpack4 .result) (c .times2 .result) (u .unpack3 .ensures) (v .unpack4 .ensures) (c .times2 .ensures)
 
--- what the radius gets
+-- what the centre gets, and the radius
+centred : (c : tie.After-rounded-near) → let a = s (c .before) .args in Holds (with₂ (mul near) (a .x) (a .y)) (c .rounded-near .result)
+centred c = near-exactly (first (c .before)) (c .rounded-near .ensures)
+
 grows : (c : tie.After-rounded-up) →
     let a = s (c .before .before .before) .args in
     Holds (negate (with₂ (mul up) (magnitudeOf (a .x)) (magnitudeOf (a .v)))) (c .rounded-up .result)
@@ -66,11 +69,11 @@ unpack-requires-4 c κs = search needs
 times-requires-2 : tie.Need-times-requires-2
 times-requires-2 c κs = record { first = c .before .unpack3 .ensures .part; second = c .unpack4 .ensures .part }
 
-product-near-requires : tie.Need-product-near-requires
-product-near-requires c κs = first c
+rounded-near-requires : tie.Need-rounded-near-requires
+rounded-near-requires c κs = exactly-formed (first c)
 
 plus-near-requires : tie.Need-plus-near-requires
-plus-near-requires c κs = (s (c .before) .pre .centre, c .product-near .ensures .part)
+plus-near-requires c κs = (s (c .before) .pre .centre, centred c .part)
 
 rounded-up-requires : tie.Need-rounded-up-requires
 rounded-up-requires c κs = exactly-formed (second (c .before .before))
@@ -85,7 +88,7 @@ returns c =
     let d = c .before .before in
     let a = s (d .before .before) .args in
     record {
-      centre = d .plus-near .ensures (with₂ (mul near) (a .x) (a .y)) (d .before .product-near .ensures);
+      centre = d .plus-near .ensures (with₂ (mul near) (a .x) (a .y)) (centred (d .before));
       radius = c .plus-negative .ensures _ (grows (c .before));
     }
 
@@ -101,7 +104,7 @@ step-spec =
     unpack-requires-3
     unpack-requires-4
     times-requires-2
-    product-near-requires
+    rounded-near-requires
     plus-near-requires
     rounded-up-requires
     plus-negative-requires

@@ -1,0 +1,66 @@
+-- A product below 2 ^ 24 units is rounded to nearest to a whole number of units, which is a number.
+use mathlib.Core.Path.{_≡_, sym, ap, _∙_, subst}
+use Prim.Native.Nat.{ℕ, _+_, _-_, _*_, _/_, _%_, _^_, _≤_, _<_, min}
+use native.Mathlib.Omega.{arith, min-cases}
+use native.Mathlib.Nat.{div-add-mod, div-eq-of-lt, le-trans}
+use lib.Pow.{pow-pos, pow-mono}
+use lib.IntN.{ℤ, pos, natAbs, _*ℤ_}
+use lib.Ieee.Nearest.{closest}
+use borrow.Author.Tests.{le-leb}
+use Rattle.rounding.specs.Format.{binary32, MAX}
+use Rattle.rounding.specs.Rounding.{near, signed}
+use Rattle.rounding.proofs.Closest.{closest-split}
+use Rattle.products.specs.declared.number.Number.{Number}
+use Rattle.products.specs.declared.times.Product.{Product}
+use Rattle.products.specs.Number.{worth, Holds}
+use Rattle.products.specs.Cuts.{CutDown, limitedNear, nearestOf}
+use Rattle.products.specs.Exact.{Exact}
+use Rattle.products.proofs.CutSums.{whole-cut, whole-worth}
+use Rattle.products.proofs.Limits.{limit-near-fits}
+use Rattle.products.proofs.Multiplying.{near-exact-product}
+use Rattle.products.proofs.Nearing.{near-narrow, nearest-few, signed-abs}
+use Rattle.products.proofs.SmallProducts.{few-max}
+
+-- ---- a shift past all digits is as good as one by 61
+far-closest : (n m : ℕ) → n + n < m → closest n m ≡ 0
+far-closest n m h = closest-split n m (λ l e. e ∙ none) (λ l e. absurd (no l))
+  where
+    less : n < m
+    less = omega arith
+
+    none : n / m ≡ 0
+    none = div-eq-of-lt less
+
+    no : m < 2 * (n % m) + n / m % 2 → ⊥
+    no l = omega (arith, none, div-add-mod n m)
+
+near-capped : (t : ℤ) (d : ℕ) → natAbs t ≤ 2 ^ 48 → nearestOf t (2 ^ min d 61) ≡ nearestOf t (2 ^ d)
+near-capped t d h = min-cases d 61 (nearestOf t (2 ^ min d 61) ≡ nearestOf t (2 ^ d))
+    (λ l e. ap (λ n. nearestOf t (2 ^ n)) e)
+    (λ l e. ap (λ n. nearestOf t (2 ^ n)) e
+    ∙ ap (signed t) (far-closest (natAbs t) (2 ^ 61) (omega arith) ∙ sym (far-closest (natAbs t) (2 ^ d) (omega (arith, pow-mono {i = 61} {j = d} l)))))
+
+module _ (p : Product) (few : natAbs (p .sig) ≤ 2 ^ 48) (low : p .exp < 926) where
+  -- how far down the units are
+  abbrev n : ℕ
+  n = 950 - p .exp
+
+  abbrev pub nearest-units : ℤ
+  nearest-units = nearestOf (p .sig) (2 ^ min n 61)
+
+  below : natAbs (p .sig) < 2 ^ 24 * 2 ^ n
+  below = omega (arith, few, pow-mono {i = 25} {j = n} (omega arith))
+
+  same : nearest-units ≡ nearestOf (p .sig) (2 ^ n)
+  same = near-capped (p .sig) n few
+
+  pub small-near-few : natAbs nearest-units ≤ 2 ^ 24
+  small-near-few = subst (λ t. natAbs t ≤ 2 ^ 24) (sym same)
+      (subst (λ t. t ≤ 2 ^ 24) (sym (signed-abs (p .sig) (closest (natAbs (p .sig)) (2 ^ n)))) (nearest-few (natAbs (p .sig)) (2 ^ n) (pow-pos n) (omega (arith, below))))
+
+  pub small-near-holds : (X : ℤ) → Exact X p → (r : Number) → CutDown (nearest-units *ℤ pos (2 ^ 36)) 400 r → Holds (near binary32 (2 ^ 149) X) r
+  small-near-holds X i r h =
+      let w : worth r ≡ nearest-units = whole-worth nearest-units r small-near-few h in
+      subst (λ m. Holds m r) (sym (near-exact-product i ∙ near-narrow n 950 (p .sig) (p .exp) below (omega arith) ∙ ap limitedNear (sym (w ∙ same))))
+      (limit-near-fits r (whole-cut nearest-units r small-near-few h .normal)
+      (le-leb (natAbs (worth r)) (MAX binary32) (le-trans (subst (λ t. natAbs t ≤ 2 ^ 24) (sym w) small-near-few) few-max)))
