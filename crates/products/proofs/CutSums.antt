@@ -2,9 +2,10 @@
 use mathlib.Core.Path.{_≡_, sym, ap, _∙_, subst}
 use mathlib.Core.List.{[], _∷_}
 use mathlib.Core.Logic.{⊎-elim}
+use mathlib.Core.Option.{some}
 use Prim.Native.Nat.{ℕ, _-_, _*_, _^_, _≤_, _<_}
 use native.Mathlib.Omega.{arith}
-use native.Mathlib.Nat.{eq-zero-or-pos, zero-mul}
+use native.Mathlib.Nat.{eq-zero-or-pos, le-trans, zero-mul}
 use lib.Pow.{pow-pos, pow-add}
 use lib.IntN.{ℤ, pos, natAbs, _+ℤ_, _*ℤ_}
 use lib.Signed.{mag, shrZ}
@@ -16,11 +17,11 @@ use Rattle.algebra.proofs.Order.{≼-refl, ≼-antisym, nonneg, mul-mono-right,
 use Rattle.algebra.proofs.Power.{pow-split}
 use Rattle.binary32.proofs.Ints.{natAbs-mag}
 use Rattle.products.specs.declared.number.Number.{Number}
-use Rattle.products.specs.Number.{worth}
+use Rattle.products.specs.Number.{worth, Holds}
 use Rattle.products.specs.Cuts.{IsFloor, DownOf, room, CutDown}
 use Rattle.products.proofs.Floors.{Full, full-few, full-long, floor-self, floored, limits}
 use Rattle.products.proofs.Leading.{Lead, lead-of, lead-far, full-cut}
-use Rattle.products.proofs.Worths.{worth-is}
+use Rattle.products.proofs.Worths.{worth-is, few-max}
 use Rattle.products.proofs.FarShifts.{raised-abs, natAbs-zero, none-left}
 
 -- ---- the count of places, over the power Z: w * Z is between c and c + 1 times 2 ^ 38, and w * E is Y, or Y rounded down
@@ -144,12 +145,17 @@ cut-exact X w be r short e h high =
     rounded X w be short (cut-close X w be short e) (λ n. none-left X w (2 ^ be) (2 ^ 400) (pow-pos 400) (natAbs-zero w n) e) r h high
 
 -- a whole number of units, of at most 24 digits, brought to normal form
-module _ (z : ℤ) (r : Number) (few : natAbs z ≤ 2 ^ 24) (h : CutDown (z *ℤ pos (2 ^ 36)) 400 r) where
-  pub whole-cut : DownOf z r
-  whole-cut = cut-exact z (z *ℤ pos (2 ^ 36)) 400 r (omega (arith, raised-abs z)) (turn (2 ^ 36) (2 ^ 400)) h (omega arith)
-    where
-      turn : (a b : ℕ) → z *ℤ pos a *ℤ pos b ≡ z *ℤ pos b *ℤ pos a
-      turn a b = lin-eq (z ∷ pos a ∷ pos b ∷ []) [] (search reading depth 20) (omega arith)
+pub whole-holds : (z : ℤ) (r : Number) → natAbs z ≤ 2 ^ 24 → CutDown (z *ℤ pos (2 ^ 36)) 400 r → Holds (some z) r
+whole-holds z r few h = record { part = record { normal = d .normal; high = top }; is = (worths, le-trans few few-max) }
+  where
+    turn : (a b : ℕ) → z *ℤ pos a *ℤ pos b ≡ z *ℤ pos b *ℤ pos a
+    turn a b = lin-eq (z ∷ pos a ∷ pos b ∷ []) [] (search reading depth 20) (omega arith)
 
-  pub whole-worth : worth r ≡ z
-  whole-worth = ≼-antisym (whole-cut .is .below) (whole-cut .is .greatest z (floor-self z few .form) (≼-refl z))
+    d : DownOf z r
+    d = cut-exact z (z *ℤ pos (2 ^ 36)) 400 r (omega (arith, raised-abs z)) (turn (2 ^ 36) (2 ^ 400)) h (omega arith)
+
+    worths : worth r ≡ z
+    worths = ≼-antisym (d .is .below) (d .is .greatest z (floor-self z few .form) (≼-refl z))
+
+    top : r .exp ≤ 2000
+    top = ⊎-elim (λ n. omega (arith, h .none (natAbs-zero (z *ℤ pos (2 ^ 36)) n))) (λ l. omega (arith, h .some l)) (eq-zero-or-pos (natAbs (z *ℤ pos (2 ^ 36))))

@@ -7,7 +7,6 @@ use mathlib.Core.Option.{none, some}
 use Prim.Native.Nat.{ℕ, zero, suc, _+_, _-_, _*_, _^_, _≤_, _<_}
 use native.Mathlib.Omega.{arith}
 use native.Mathlib.Nat.{le-trans, eq-zero-or-pos, zero-mul}
-use lib.Dec.{lit≤}
 use lib.Pow.{pow-pos, pow-add}
 use lib.IntN.{ℤ, pos, negsuc, natAbs, _*ℤ_}
 use lib.Signed.{mag}
@@ -27,15 +26,11 @@ use Rattle.products.specs.Number.{worth}
 use Rattle.products.specs.Cuts.{NearOf, limitedNear, room, nearestOf, CutNear}
 use Rattle.products.proofs.Floors.{floor-self, less}
 use Rattle.products.proofs.Leading.{Lead, lead-of, lead-far, wide-abs}
-use Rattle.products.proofs.Worths.{worth-is}
+use Rattle.products.proofs.Worths.{worth-is, few-max}
 use Rattle.products.proofs.Nearing.{nearest-multiple, nearest-few, nearest-long, near-wide, near-moved, signed-times, signed-abs}
 use Rattle.products.proofs.FarShifts.{le-or-lt, natAbs-zero, none-left}
 
 -- ---- a value of 24 digits is its own rounding
-small-max : 2 ^ 24 ≤ MAX binary32
-unfolding MAX
-small-max = lit≤ tt
-
 near-small : (X : ℤ) → natAbs X ≤ 2 ^ 24 → near binary32 1 X ≡ limitedNear X
 near-small X h =
     ap (near binary32 1) one ∙ near-exact binary32 1 (omega arith) (record { form = floor-self X h .form; within = within })
@@ -45,7 +40,7 @@ near-small X h =
     one = lin-eq (X ∷ []) [] (search reading depth 20) (omega arith)
 
     within : natAbs X ≤ MAX binary32
-    within = le-trans h small-max
+    within = le-trans h few-max
 
 wide-long : (w : ℤ) (z : ℕ) → 0 < natAbs w → Lead (mag w) z → 2 ^ 61 ≤ natAbs w * 2 ^ z
 wide-long (pos n) z p l = l .lower p

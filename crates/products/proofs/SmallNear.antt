@@ -1,10 +1,12 @@
 -- A product below 2 ^ 24 units is rounded to nearest to a whole number of units, which is a number.
 use mathlib.Core.Path.{_≡_, sym, ap, _∙_, subst}
+use mathlib.Core.Bool.{cond}
+use mathlib.Core.Option.{none, some}
 use Prim.Native.Nat.{ℕ, _+_, _-_, _*_, _/_, _%_, _^_, _≤_, _<_, min}
 use native.Mathlib.Omega.{arith, min-cases}
 use native.Mathlib.Nat.{div-add-mod, div-eq-of-lt, le-trans}
 use lib.Pow.{pow-pos, pow-mono}
-use lib.IntN.{ℤ, pos, natAbs, _*ℤ_}
+use lib.IntN.{ℤ, natAbs}
 use lib.Ieee.Nearest.{closest}
 use borrow.Author.Tests.{le-leb}
 use Rattle.rounding.specs.Format.{binary32, MAX}
@@ -12,14 +14,12 @@ use Rattle.rounding.specs.Rounding.{near, signed}
 use Rattle.rounding.proofs.Closest.{closest-split}
 use Rattle.products.specs.declared.number.Number.{Number}
 use Rattle.products.specs.declared.times.Product.{Product}
-use Rattle.products.specs.Number.{worth, Holds}
-use Rattle.products.specs.Cuts.{CutDown, limitedNear, nearestOf}
+use Rattle.products.specs.Number.{Holds}
+use Rattle.products.specs.Cuts.{limitedNear, nearestOf}
 use Rattle.products.specs.Exact.{Exact}
-use Rattle.products.proofs.CutSums.{whole-cut, whole-worth}
-use Rattle.products.proofs.Limits.{limit-near-fits}
 use Rattle.products.proofs.Multiplying.{near-exact-product}
 use Rattle.products.proofs.Nearing.{near-narrow, nearest-few, signed-abs}
-use Rattle.products.proofs.SmallProducts.{few-max}
+use Rattle.products.proofs.Worths.{few-max}
 
 -- ---- a shift past all digits is as good as one by 61
 far-closest : (n m : ℕ) → n + n < m → closest n m ≡ 0
@@ -58,9 +58,7 @@ module _ (p : Product) (few : natAbs (p .sig) ≤ 2 ^ 48) (low : p .exp < 926) w
   small-near-few = subst (λ t. natAbs t ≤ 2 ^ 24) (sym same)
       (subst (λ t. t ≤ 2 ^ 24) (sym (signed-abs (p .sig) (closest (natAbs (p .sig)) (2 ^ n)))) (nearest-few (natAbs (p .sig)) (2 ^ n) (pow-pos n) (omega (arith, below))))
 
-  pub small-near-holds : (X : ℤ) → Exact X p → (r : Number) → CutDown (nearest-units *ℤ pos (2 ^ 36)) 400 r → Holds (near binary32 (2 ^ 149) X) r
-  small-near-holds X i r h =
-      let w : worth r ≡ nearest-units = whole-worth nearest-units r small-near-few h in
-      subst (λ m. Holds m r) (sym (near-exact-product i ∙ near-narrow n 950 (p .sig) (p .exp) below (omega arith) ∙ ap limitedNear (sym (w ∙ same))))
-      (limit-near-fits r (whole-cut nearest-units r small-near-few h .normal)
-      (le-leb (natAbs (worth r)) (MAX binary32) (le-trans (subst (λ t. natAbs t ≤ 2 ^ 24) (sym w) small-near-few) few-max)))
+  pub small-near-holds : (X : ℤ) → Exact X p → (r : Number) → Holds (some nearest-units) r → Holds (near binary32 (2 ^ 149) X) r
+  small-near-holds X i r =
+      subst (λ m. Holds m r) (sym (near-exact-product i ∙ near-narrow n 950 (p .sig) (p .exp) below (omega arith) ∙ ap limitedNear (sym same)
+      ∙ ap (λ t. cond t (some nearest-units) none) (le-leb (natAbs nearest-units) (MAX binary32) (le-trans small-near-few few-max))))

@@ -1,11 +1,11 @@
 -- A product below 2 ^ 24 units is rounded down to a whole number of units, which is a number.
 use mathlib.Core.Path.{_≡_, sym, ap, _∙_, subst}
 use mathlib.Core.List.{[], _∷_}
+use mathlib.Core.Option.{some}
 use Prim.Native.Nat.{ℕ, _+_, _-_, _*_, _^_, _≤_, _<_, min}
 use native.Mathlib.Omega.{arith}
 use native.Mathlib.Nat.{div-lt-iff-lt-mul, le-trans}
 use lib.Pow.{pow-pos, pow-add, pow-mono}
-use lib.Dec.{lit≤}
 use lib.IntN.{ℤ, pos, negsuc, natAbs, _+ℤ_, _*ℤ_}
 use lib.Signed.{shrZ}
 use borrow.Author.Tests.{le-leb}
@@ -18,12 +18,12 @@ use Rattle.rounding.specs.Format.{binary32, MAX}
 use Rattle.rounding.specs.Rounding.{down}
 use Rattle.products.specs.declared.number.Number.{Number}
 use Rattle.products.specs.declared.times.Product.{Product}
-use Rattle.products.specs.Number.{worth, Holds}
-use Rattle.products.specs.Cuts.{CutDown}
+use Rattle.products.specs.Number.{Holds}
+use Rattle.products.specs.Cuts.{limitBy}
 use Rattle.products.specs.Exact.{Exact}
 use Rattle.products.proofs.FarShifts.{capped}
-use Rattle.products.proofs.CutSums.{whole-cut, whole-worth}
-use Rattle.products.proofs.Limits.{limit-fits}
+use Rattle.products.proofs.Floors.{floor-self, limits}
+use Rattle.products.proofs.Worths.{few-max}
 use Rattle.products.proofs.Shortening.{down-whole}
 
 -- ---- over plain numbers: s * E = X * Q, with N * E = D * Q; the floor of s / N is that of X / D
@@ -41,10 +41,6 @@ module _ (X s y : ℤ) (N E D Q : ℕ) (hq : 0 < Q) (he : 0 < E) (e : s *ℤ pos
 units-few : (t : ℤ) (n : ℕ) → natAbs t ≤ 2 ^ 48 → 25 ≤ n → natAbs (shrZ t (2 ^ n)) ≤ 2 ^ 24
 units-few (pos a) n h k = omega (arith, div-lt-iff-lt-mul {x = a} {y = 2 ^ 24} (pow-pos n) .1 (omega (arith, pow-mono {i = 25} {j = n} k)))
 units-few (negsuc a) n h k = omega (arith, div-lt-iff-lt-mul {x = a} {y = 2 ^ 24} (pow-pos n) .1 (omega (arith, pow-mono {i = 25} {j = n} k)))
-
-pub few-max : 2 ^ 24 ≤ MAX binary32
-unfolding MAX
-few-max = lit≤ tt
 
 module _ (p : Product) (few : natAbs (p .sig) ≤ 2 ^ 48) (low : p .exp < 926) where
   -- how far down the units are
@@ -74,8 +70,6 @@ module _ (p : Product) (few : natAbs (p .sig) ≤ 2 ^ 48) (low : p .exp < 926) w
         (low-over X (p .sig) (shrZ (p .sig) (2 ^ n)) (2 ^ n) (2 ^ (p .exp)) (2 ^ 149) (2 ^ 801) (pow-pos 801) (pow-pos (p .exp)) (i .value) places (floor-low (p .sig) (2 ^ n) (pow-pos n)))
         (high-over X (p .sig) (shrZ (p .sig) (2 ^ n)) (2 ^ n) (2 ^ (p .exp)) (2 ^ 149) (2 ^ 801) (pow-pos 801) (pow-pos (p .exp)) (i .value) places (floor-high (p .sig) (2 ^ n) (pow-pos n)))
 
-    pub small-holds : (r : Number) → CutDown (units *ℤ pos (2 ^ 36)) 400 r → Holds (down binary32 (2 ^ 149) X) r
-    small-holds r h =
-        let d = whole-cut units r small-few h in
-        subst (λ m. Holds m r) (sym (down-whole binary32 (2 ^ 149) (pow-pos 149) X ∙ ap (down binary32 1) (sym floors) ∙ d .downs))
-        (limit-fits r (d .normal) (le-leb (natAbs (worth r)) (MAX binary32) (le-trans (subst (λ t. natAbs t ≤ 2 ^ 24) (sym (whole-worth units r small-few h)) small-few) few-max)))
+    pub small-holds : (r : Number) → Holds (some units) r → Holds (down binary32 (2 ^ 149) X) r
+    small-holds r = subst (λ m. Holds m r) (sym (down-whole binary32 (2 ^ 149) (pow-pos 149) X ∙ ap (down binary32 1) (sym floors) ∙ limits (floor-self units small-few)
+        ∙ ap (λ t. limitBy t units) (le-leb (natAbs units) (MAX binary32) (le-trans small-few few-max))))

@@ -1,11 +1,10 @@
 -- Patterns taken apart: what `unpack` finds is worth what the pattern holds.
 use mathlib.Core.Path.{_≡_, refl, sym, ap, _∙_, subst}
 use mathlib.Core.List.{[], _∷_}
-use mathlib.Core.Logic.{⊎-elim}
-use mathlib.Core.Option.{none}
+use mathlib.Core.Option.{none, some}
 use Prim.Native.Nat.{ℕ, _+_, _-_, _*_, _/_, _%_, _^_, _≤_, _<_}
 use native.Mathlib.Omega.{arith}
-use native.Mathlib.Nat.{eq-zero-or-pos, mod-eq-of-lt}
+use native.Mathlib.Nat.{mod-eq-of-lt}
 use lib.Pow.{pow-add}
 use lib.Dec.{leb}
 use lib.IntN.{ℤ, pos, negsuc, negℤ, natAbs, _*ℤ_}
@@ -20,10 +19,7 @@ use Rattle.binary32.proofs.Values.{decoded-low, decoded-high, signed-abs}
 use Rattle.binary32.proofs.Held.{held-finite, held-none, is-finite, value-num}
 use Rattle.products.specs.declared.number.Number.{Number}
 use Rattle.products.specs.Number.{worth, Normal, Part, Holds, Unpacked, noNumber}
-use Rattle.products.specs.Cuts.{CutDown}
 use Rattle.products.proofs.Worths.{worth-is}
-use Rattle.products.proofs.CutSums.{whole-cut, whole-worth}
-use Rattle.products.proofs.FarShifts.{natAbs-zero}
 
 unpacked-of : (p : ℕ) (r : Number) → Finite p → Part r → worth r ≡ valueOf p → Unpacked p r
 unpacked-of p r f q w = subst (λ m. Holds m r) (sym (held-finite p (is-finite p f))) (record { part = q; is = (w, value-num p f .within) })
@@ -77,28 +73,19 @@ module _ (p : ℕ) (z : ℤ) where
       w : worth (record { sig = z; exp = field + 399 }) ≡ valueOf p
       w = worth-is (record { sig = z; exp = field + 399 }) (valueOf p) value
 
-  -- ---- zero or a subnormal number: brought to normal form as a sum is
-  pub unpacked-low : (r : Number) → p % 2 ^ 31 < 2 ^ 23 → z ≡ signedBy (leb (2 ^ 31) p) (p % 2 ^ 31) → CutDown (z *ℤ pos (2 ^ 36)) 400 r → Unpacked p r
+  -- ---- zero or a subnormal number: whole units
+  pub unpacked-low : (r : Number) → p % 2 ^ 31 < 2 ^ 23 → z ≡ signedBy (leb (2 ^ 31) p) (p % 2 ^ 31) → Holds (some z) r → Unpacked p r
   unfolding of
-  unpacked-low r low e h = unpacked-of p r (omega arith) (record { normal = whole-cut z r few h .normal; high = top }) w
+  unpacked-low r low e = subst (λ m. Holds m r) (ap some value ∙ sym (held-finite p (is-finite p (omega arith))))
     where
-      size : natAbs z ≡ p % 2 ^ 31
-      size = ap natAbs e ∙ signed-abs (leb (2 ^ 31) p) (p % 2 ^ 31)
-
-      few : natAbs z ≤ 2 ^ 24
-      few = omega (arith, size)
-
       none-field : field ≡ 0
       none-field = omega arith
 
-      w : worth r ≡ valueOf p
-      w = whole-worth z r few h ∙ sym (one z) ∙ decoded-low p z none-field (e ∙ ap (signedBy (leb (2 ^ 31) p)) (sym (mod-eq-of-lt low))) .value
-        where
-          one : (z : ℤ) → z *ℤ pos 1 ≡ z
-          one z = lin-eq (z ∷ []) [] (search reading depth 20) (omega arith)
+      one : (z : ℤ) → z *ℤ pos 1 ≡ z
+      one z = lin-eq (z ∷ []) [] (search reading depth 20) (omega arith)
 
-      top : r .exp ≤ 2000
-      top = ⊎-elim (λ n. omega (arith, h .none (natAbs-zero (z *ℤ pos (2 ^ 36)) n))) (λ l. omega (arith, h .some l)) (eq-zero-or-pos (natAbs (z *ℤ pos (2 ^ 36))))
+      value : z ≡ valueOf p
+      value = sym (one z) ∙ decoded-low p z none-field (e ∙ ap (signedBy (leb (2 ^ 31) p)) (sym (mod-eq-of-lt low))) .value
 
 -- ---- none: far below all numbers
 worth-none : worth noNumber ≡ negsuc (2 ^ 1623 - 1)

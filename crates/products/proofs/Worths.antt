@@ -7,7 +7,7 @@ use Prim.Native.Nat.{ℕ, zero, suc, _+_, _-_, _*_, _^_, _≤_, _<_}
 use native.Mathlib.Omega.{arith}
 use native.Mathlib.Nat.{mul-le-mul-right, mul-le-mul, le-of-mul-le-mul-left, eq-zero-or-pos, eq-or-lt-of-le, le-of-eq, pow-succ'}
 use lib.Pow.{pow-pos, pow-add, pow-mono}
-use lib.Dec.{leb, ltb}
+use lib.Dec.{leb, ltb, lit≤}
 use lib.IntN.{ℤ, pos, natAbs, _*ℤ_}
 use lib.Signed.{shrZ}
 use borrow.Author.Tests.{lt-ltb, le-ltb, le-leb, lt-leb}
@@ -56,6 +56,11 @@ at-least e h = omega arith
 
 pub exp-low : (x : Number) → Normal x → 64 ≤ x .exp
 exp-low x n = ⊎-elim (λ e. le-of-eq (sym (n .low e))) (λ p. at-least (x .exp) (exp-some x n p)) (eq-zero-or-pos (natAbs (x .sig)))
+
+-- ---- 24 digits are below the largest number
+pub few-max : 2 ^ 24 ≤ MAX binary32
+unfolding MAX
+few-max = lit≤ tt
 
 -- ---- the limit, over plain numbers: K units of the scale, T of the largest exponent
 module _ (a K s m T : ℕ) (p : 0 < K) (e : a * K ≡ s * m) where

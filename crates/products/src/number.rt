@@ -1,13 +1,15 @@
 // A number taken apart, as sums are kept from their first step to the entry, and as factors are multiplied.
 ghost use mathlib.Core.Path.{_≡_};
+ghost use mathlib.Core.Option.{some};
 ghost use Prim.Native.Nat.{_^_, _≤_};
 ghost use lib.Dec.{leb, ltb};
 ghost use lib.IntN.{natAbs};
 ghost use Rattle.rounding.specs.Format.{binary32, MAX};
-ghost use Rattle.products.specs.Number.{worth, Normal, Opposite, zeroNumber, noNumber, minusTiny};
+ghost use Rattle.products.specs.Number.{worth, Normal, Holds, Opposite, zeroNumber, noNumber, minusTiny};
 ghost use Rattle.products.specs.Cuts.{CutDown, OrLow};
 use crate::shifts::digits;
 use crate::shifts::lowered;
+use crate::shifts::raised;
 use crate::shifts::size;
 use crate::shifts::widened;
 
@@ -91,4 +93,12 @@ pub fn cut_down(w: i64, exp: u32) -> Number
         sig: lowered(widened(w, z), 38),
         exp: or_low(w, exp + 2 - z),
     }
+}
+
+// z units, at most 24 digits.
+pub fn whole(z: i64) -> Number
+    requires { ⌜ natAbs z ≤ 2 ^ 24 ⌝ }
+    ensures { λ r. ⌜ Holds (some z) r ⌝ }
+{
+    cut_down(raised(z), 400)
 }

@@ -8,10 +8,9 @@ ghost use Rattle.binary32.specs.Number.{patternOf};
 ghost use Rattle.products.specs.Number.{worth, IsNumber, Unpacked};
 ghost use Rattle.products.specs.Cuts.{fieldsOf};
 use crate::number::Number;
-use crate::number::cut_down;
 use crate::number::none;
+use crate::number::whole;
 use crate::shifts::cap;
-use crate::shifts::raised;
 use crate::shifts::size;
 use crate::shifts::with_sign;
 
@@ -22,7 +21,7 @@ fn unpack_other(p: u32) -> Number
 {
     let t = p % 0x8000_0000;
     if t < 0x80_0000 {
-        return cut_down(raised(with_sign(0x8000_0000 <= p, t as u64)), 400);
+        return whole(with_sign(0x8000_0000 <= p, t as u64));
     }
     none()
 }

@@ -7,13 +7,12 @@ ghost use Rattle.products.specs.Number.{Holds};
 ghost use Rattle.products.specs.Exact.{Exact, Formed, RoundedDown, RoundedUp, RoundedNear};
 use crate::near::limit_near;
 use crate::number::Number;
-use crate::number::cut_down;
 use crate::number::none;
+use crate::number::whole;
 use crate::plus::limit;
 use crate::shifts::cap;
 use crate::shifts::lowered;
 use crate::shifts::nearest;
-use crate::shifts::raised;
 use crate::times::Product;
 use crate::times::is_usual;
 use crate::times::shortened;
@@ -25,7 +24,7 @@ fn small(p: Product) -> Number
     requires { ⌜ (natAbs (p .sig) ≤ 2 ^ 48) × (p .exp < 926) ⌝ }
     ensures { λ r. ⌜ ((X : ℤ) → Exact X p → Holds (down binary32 (2 ^ 149) X) r) ⌝ }
 {
-    cut_down(raised(lowered(p.sig, cap(950 - p.exp))), 400)
+    whole(lowered(p.sig, cap(950 - p.exp)))
 }
 
 // A product that is small, near the largest number or beyond it, zero or none, rounded down.
@@ -66,7 +65,7 @@ fn small_near(p: Product) -> Number
     requires { ⌜ (natAbs (p .sig) ≤ 2 ^ 48) × (p .exp < 926) ⌝ }
     ensures { λ r. ⌜ ((X : ℤ) → Exact X p → Holds (near binary32 (2 ^ 149) X) r) ⌝ }
 {
-    cut_down(raised(nearest(p.sig, cap(950 - p.exp))), 400)
+    whole(nearest(p.sig, cap(950 - p.exp)))
 }
 
 // A product that is small, near the largest number or beyond it, zero or none, to nearest.

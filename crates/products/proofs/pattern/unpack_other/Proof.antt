@@ -4,7 +4,7 @@ use mathlib.Core.Logic.{_⊎_, ⊎-elim}
 use Prim.Native.Nat.{ℕ, _*_, _%_, _^_, _≤_, _<_}
 use native.Mathlib.Omega.{arith}
 use native.Mathlib.Nat.{not-le-of-lt}
-use lib.IntN.{ℤ, pos, natAbs, _*ℤ_}
+use lib.IntN.{natAbs}
 use lib.Dec.{leb}
 use mir.Syntax.{w64}
 use mir.Val.{toZ, ofZ}
@@ -12,8 +12,6 @@ use Rattle.binary32.specs.Number.{signedBy}
 use Rattle.binary32.proofs.Ints.{read}
 use Rattle.binary32.proofs.Values.{signed-abs}
 use Rattle.products.specs.Number.{Unpacked}
-use Rattle.products.specs.Cuts.{CutDown}
-use Rattle.products.proofs.FarShifts.{raised-abs}
 use Rattle.products.proofs.Unpacking.{unpacked-low, unpacked-none}
 use borrow.Author.Needs.{needs}
 use Rattle.products.proofs.pattern.unpack_other.Statement.{statement}
@@ -29,29 +27,19 @@ module _ (c : tie.After-with-sign) where
   few : natAbs (toZ w64 (ofZ w64 (c .with-sign .result))) ≤ 2 ^ 24
   few = omega (arith, ap natAbs signed-is, signed-abs (leb (2 ^ 31) p) (p % 2 ^ 31), c .before .if1 .taken)
 
-raised-is : (c : tie.After-raised) → toZ w64 (ofZ w64 (c .raised .result)) ≡ toZ w64 (ofZ w64 (c .before .with-sign .result)) *ℤ pos (2 ^ 36)
-raised-is c = read (c .raised .result) (c .raised .ok) ∙ c .raised .ensures
-
 cast-with-sign : tie.Need-cast-with-sign
 cast-with-sign c = search needs
 
 with-sign-requires : tie.Need-with-sign-requires
 with-sign-requires c κs = search needs
 
-raised-requires : tie.Need-raised-requires
-raised-requires c κs = few c
-
-cut-down-requires : tie.Need-cut-down-requires
-cut-down-requires c κs =
-    let l = c .before in
-    (subst (λ (t : ℤ). natAbs t ≤ 2 ^ 61) (sym (raised-is c)) (omega (arith, raised-abs (toZ w64 (ofZ w64 (l .with-sign .result))), few l)), omega arith, omega arith)
+whole-requires : tie.Need-whole-requires
+whole-requires c κs = few c
 
 returns : tie.Need-returns
 returns c =
-    let r = c .before in
-    let l = r .before in
-    unpacked-low (p l) (toZ w64 (ofZ w64 (l .with-sign .result))) (c .cut-down .result) (l .before .if1 .taken) (signed-is l)
-    (subst (λ (t : ℤ). CutDown t 400 (c .cut-down .result)) (raised-is r) (c .cut-down .ensures))
+    let l = c .before in
+    unpacked-low (p l) (toZ w64 (ofZ w64 (l .with-sign .result))) (c .whole .result) (l .before .if1 .taken) (signed-is l) (c .whole .ensures)
 
 none-requires : tie.Need-none-requires
 none-requires c κs = search needs
@@ -71,8 +59,7 @@ unpack-other-spec =
     (tie.spec
     cast-with-sign
     with-sign-requires
-    raised-requires
-    cut-down-requires
+    whole-requires
     returns
     none-requires
     returns-2)

@@ -1,14 +1,15 @@
 -- `products::rounded::small_near` meets its contract: by `small-near-holds`.
-use mathlib.Core.Path.{_≡_, sym, ap, ap₂, _∙_, subst}
+use mathlib.Core.Path.{_≡_, sym, ap₂, _∙_, subst}
+use mathlib.Core.Option.{some}
 use Prim.Native.Nat.{ℕ, _^_, _≤_}
 use native.Mathlib.Omega.{arith}
-use lib.IntN.{ℤ, pos, natAbs, _*ℤ_}
+use lib.IntN.{ℤ, natAbs}
 use mir.Syntax.{w64}
 use mir.Val.{toZ, ofZ}
 use Rattle.binary32.proofs.Ints.{read, read-small}
 use Rattle.products.specs.declared.times.Product.{Product}
-use Rattle.products.specs.Cuts.{CutDown, nearestOf}
-use Rattle.products.proofs.FarShifts.{raised-abs}
+use Rattle.products.specs.Number.{Holds}
+use Rattle.products.specs.Cuts.{nearestOf}
 use Rattle.products.proofs.SmallNear.{nearest-units, small-near-few, small-near-holds}
 use borrow.Author.Needs.{needs}
 use Rattle.products.proofs.rounded.small_near.Statement.{statement}
@@ -44,24 +45,15 @@ module _ (c : tie.After-nearest) where
       read (c .nearest .result) (c .nearest .ok) ∙ c .nearest .ensures
       ∙ ap₂ (λ (t : ℤ) (n : ℕ). nearestOf t (2 ^ n)) (read-small (P .sig) (omega (arith, s .pre .0))) (c .before .before .cap .ensures)
 
-raised-is : (c : tie.After-raised) → toZ w64 (ofZ w64 (c .raised .result)) ≡ U (c .before) *ℤ pos (2 ^ 36)
-raised-is c = read (c .raised .result) (c .raised .ok) ∙ c .raised .ensures ∙ ap (λ (t : ℤ). t *ℤ pos (2 ^ 36)) (nearest-is (c .before))
-
-raised-requires : tie.Need-raised-requires
-raised-requires c κs = subst (λ (t : ℤ). natAbs t ≤ 2 ^ 24) (sym (nearest-is c)) (U-few c)
-
-cut-down-requires : tie.Need-cut-down-requires
-cut-down-requires c κs =
-    let l = c .before in
-    (subst (λ (t : ℤ). natAbs t ≤ 2 ^ 61) (sym (raised-is c)) (omega (arith, raised-abs (U l), U-few l)), omega arith, omega arith)
+whole-requires : tie.Need-whole-requires
+whole-requires c κs = subst (λ (t : ℤ). natAbs t ≤ 2 ^ 24) (sym (nearest-is c)) (U-few c)
 
 returns : tie.Need-returns
 returns c =
-    let r = c .before in
-    let l = r .before in
-    λ X i. small-near-holds (P l) (s l .pre .0) (s l .pre .1) X i (c .cut-down .result) (subst (λ (t : ℤ). CutDown t 400 (c .cut-down .result)) (raised-is r) (c .cut-down .ensures))
+    let l = c .before in
+    λ X i. small-near-holds (P l) (s l .pre .0) (s l .pre .1) X i (c .whole .result) (subst (λ (t : ℤ). Holds (some t) (c .whole .result)) (nearest-is l) (c .whole .ensures))
 
 pub small-near-spec : {M : Type 1} → statement M
 small-near-spec =
     tie.close
-    (tie.spec sub-cap cap-requires nearest-requires raised-requires cut-down-requires returns)
+    (tie.spec sub-cap cap-requires nearest-requires whole-requires returns)
