@@ -4,6 +4,7 @@ use mathlib.Core.Option.{Option, none, some}
 use Prim.Native.Nat.{ℕ, _*_, _^_, _≤_, _<_}
 use lib.IntN.{ℤ, pos, negsuc, negℤ, natAbs, _*ℤ_}
 use lib.Signed.{shrZ}
+use Rattle.algebra.specs.Absolute.{abs}
 use Rattle.algebra.specs.Order.{_≼_, _≺_}
 use Rattle.rounding.specs.Format.{binary32, MAX}
 use Rattle.binary32.specs.Number.{held}
@@ -62,6 +63,12 @@ Unpacked p x = Holds (held p) x
 pub record Opposite (x r : Number) : Type 0 where
   pub normal : Normal r
   pub worths : worth r ≡ negℤ (worth x)
+  pub same : r .exp ≡ x .exp
+
+-- without the sign
+pub record Absolute (x r : Number) : Type 0 where
+  pub normal : Normal r
+  pub worths : worth r ≡ abs (worth x)
   pub same : r .exp ≡ x .exp
 
 -- x is the number m: a sum that goes on

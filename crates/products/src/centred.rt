@@ -2,9 +2,11 @@
 // A step has a function for each loop that takes it: the compiler puts a function with one caller into its loop, and a step is too large to be put into several.
 ghost use mathlib.Core.Path.{_≡_};
 ghost use lib.Dec.{ltb};
+ghost use Rattle.binary32.specs.Number.{Finite};
 ghost use Rattle.binary32.specs.Order.{magnitudeOf};
 ghost use Rattle.products.specs.Centred.{AllNumbers, Added, refusedCentred, zeroCentred, addsOf};
 use crate::number::Number;
+use crate::number::absolute;
 use crate::number::is_none;
 use crate::number::zero;
 use crate::pattern::unpack;
@@ -52,33 +54,33 @@ impl Centred {
 
     // Method 4: x × y more in both centres, |x| × |v| in the radius.
     pub fn step_four(self, x: u32, y: u32, v: u32) -> Centred
-        requires { ⌜ AllNumbers self ⌝ }
+        requires { ⌜ AllNumbers self × Finite x ⌝ }
         ensures { λ r. ⌜ Added self x y x v r ⌝ }
     {
-        let u = magnitude(x);
+        let f = unpack(x);
         let w = magnitude(v);
-        let p = times(unpack(x), unpack(y));
-        let q = times(unpack(u), unpack(w));
+        let p = times(f, unpack(y));
+        let q = times(absolute(f), unpack(w));
         Centred {
+            radius: plus_negative(self.radius, rounded_up(q)),
             lower: plus_down(self.lower, rounded_down(p)),
             opposed: plus_down(self.opposed, rounded_up(p)),
-            radius: plus_negative(self.radius, rounded_up(q)),
         }
     }
 
     // Method 7, with the midpoints: the same.
     pub fn step_seven(self, x: u32, y: u32, v: u32) -> Centred
-        requires { ⌜ AllNumbers self ⌝ }
+        requires { ⌜ AllNumbers self × Finite x ⌝ }
         ensures { λ r. ⌜ Added self x y x v r ⌝ }
     {
-        let u = magnitude(x);
+        let f = unpack(x);
         let w = magnitude(v);
-        let p = times(unpack(x), unpack(y));
-        let q = times(unpack(u), unpack(w));
+        let p = times(f, unpack(y));
+        let q = times(absolute(f), unpack(w));
         Centred {
+            radius: plus_negative(self.radius, rounded_up(q)),
             lower: plus_down(self.lower, rounded_down(p)),
             opposed: plus_down(self.opposed, rounded_up(p)),
-            radius: plus_negative(self.radius, rounded_up(q)),
         }
     }
 
@@ -92,9 +94,9 @@ impl Centred {
         let p = times(unpack(x), unpack(y));
         let q = times(unpack(t), unpack(w));
         Centred {
+            radius: plus_negative(self.radius, rounded_up(q)),
             lower: plus_down(self.lower, rounded_down(p)),
             opposed: plus_down(self.opposed, rounded_up(p)),
-            radius: plus_negative(self.radius, rounded_up(q)),
         }
     }
 

@@ -1,8 +1,10 @@
 // The running sums of method 3, a value that takes a pair of factors for the centre and one for the radius and comes back.
 ghost use mathlib.Core.Path.{_≡_};
+ghost use Rattle.binary32.specs.Number.{Finite};
 ghost use Rattle.products.specs.Centred.{NearNumbers, NearAdded, refusedNearest, zeroNearest};
 use crate::near::plus_near;
 use crate::number::Number;
+use crate::number::absolute;
 use crate::number::is_none;
 use crate::number::zero;
 use crate::pattern::unpack;
@@ -30,13 +32,13 @@ impl Nearest {
 
     // x × y more in the centre, |x| × |v| in the radius.
     pub fn step(self, x: u32, y: u32, v: u32) -> Nearest
-        requires { ⌜ NearNumbers self ⌝ }
+        requires { ⌜ NearNumbers self × Finite x ⌝ }
         ensures { λ r. ⌜ NearAdded self x y x v r ⌝ }
     {
-        let u = magnitude(x);
+        let f = unpack(x);
         let w = magnitude(v);
-        let p = times(unpack(x), unpack(y));
-        let q = times(unpack(u), unpack(w));
+        let p = times(f, unpack(y));
+        let q = times(absolute(f), unpack(w));
         Nearest {
             centre: plus_near(self.centre, rounded_near(p)),
             radius: plus_negative(self.radius, rounded_up(q)),

@@ -5,7 +5,7 @@ ghost use Prim.Native.Nat.{_^_, _≤_};
 ghost use lib.Dec.{leb, ltb};
 ghost use lib.IntN.{natAbs};
 ghost use Rattle.rounding.specs.Format.{binary32, MAX};
-ghost use Rattle.products.specs.Number.{worth, Normal, Holds, Opposite, zeroNumber, noNumber, minusTiny};
+ghost use Rattle.products.specs.Number.{worth, Normal, Holds, Opposite, Absolute, zeroNumber, noNumber, minusTiny};
 ghost use Rattle.products.specs.Cuts.{CutDown, OrLow};
 use crate::shifts::digits;
 use crate::shifts::lowered;
@@ -74,6 +74,17 @@ pub fn opposite(x: Number) -> Number
         sig: -x.sig,
         exp: x.exp,
     }
+}
+
+// |x|
+pub fn absolute(x: Number) -> Number
+    requires { ⌜ Normal x ⌝ }
+    ensures { λ r. ⌜ Absolute x r ⌝ }
+{
+    if x.sig < 0 {
+        return opposite(x);
+    }
+    x
 }
 
 // e, or the exponent of zero.

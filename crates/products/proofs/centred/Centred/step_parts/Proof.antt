@@ -35,12 +35,12 @@ module _ (c : tie.After-times2) where
       exactly-of _ _ (u .unpack3 .result) (v .unpack4 .result) (c .times2 .result) (u .unpack3 .ensures) (v .unpack4 .ensures) (c .times2 .ensures)
 
 -- what the radius gets
-grows : (c : tie.After-rounded-up2) →
-    let a = s (c .before .before .before .before .before) .args in
-    Holds (negate (with₂ (mul up) (magnitudeOf (a .u)) (magnitudeOf (a .v)))) (c .rounded-up2 .result)
+grows : (c : tie.After-rounded-up) →
+    let a = s (c .before) .args in
+    Holds (negate (with₂ (mul up) (magnitudeOf (a .u)) (magnitudeOf (a .v)))) (c .rounded-up .result)
 grows c =
-    let n = m (c .before .before .before .before .before) in
-    by-sizes _ _ _ _ (c .rounded-up2 .result) (n .before .magnitude .ensures) (n .magnitude2 .ensures) (up-exactly (second (c .before .before .before .before .before)) (c .rounded-up2 .ensures))
+    let n = m (c .before) in
+    by-sizes _ _ _ _ (c .rounded-up .result) (n .before .magnitude .ensures) (n .magnitude2 .ensures) (up-exactly (second (c .before)) (c .rounded-up .ensures))
 
 magnitude-requires : tie.Need-magnitude-requires
 magnitude-requires c κs = search needs
@@ -66,35 +66,40 @@ unpack-requires-4 c κs = search needs
 times-requires-2 : tie.Need-times-requires-2
 times-requires-2 c κs = record { first = c .before .unpack3 .ensures .part; second = c .unpack4 .ensures .part }
 
-rounded-down-requires : tie.Need-rounded-down-requires
-rounded-down-requires c κs = exactly-formed (first c)
-
-plus-down-requires : tie.Need-plus-down-requires
-plus-down-requires c κs = (s (c .before) .pre .lower, down-exactly (first (c .before)) (c .rounded-down .ensures) .part)
-
 rounded-up-requires : tie.Need-rounded-up-requires
-rounded-up-requires c κs = exactly-formed (first (c .before .before))
-
-plus-down-requires-2 : tie.Need-plus-down-requires-2
-plus-down-requires-2 c κs = (s (c .before .before .before) .pre .opposed, up-exactly (first (c .before .before .before)) (c .rounded-up .ensures) .part)
-
-rounded-up-requires-2 : tie.Need-rounded-up-requires-2
-rounded-up-requires-2 c κs = exactly-formed (second (c .before .before .before .before))
+rounded-up-requires c κs = exactly-formed (second c)
 
 plus-negative-requires : tie.Need-plus-negative-requires
 plus-negative-requires c κs =
-    let p = s (c .before .before .before .before .before) .pre in
-    (p .radius, grows c .part, p .below, term-below _ _ (c .rounded-up2 .result) (grows c))
+    let p = s (c .before) .pre in
+    (p .radius, grows c .part, p .below, term-below _ _ (c .rounded-up .result) (grows c))
+
+rounded-down-requires : tie.Need-rounded-down-requires
+rounded-down-requires c κs = exactly-formed (first (c .before .before))
+
+plus-down-requires : tie.Need-plus-down-requires
+plus-down-requires c κs =
+    let q = c .before .before .before in
+    (s q .pre .lower, down-exactly (first q) (c .rounded-down .ensures) .part)
+
+rounded-up-requires-2 : tie.Need-rounded-up-requires-2
+rounded-up-requires-2 c κs = exactly-formed (first (c .before .before .before .before))
+
+plus-down-requires-2 : tie.Need-plus-down-requires-2
+plus-down-requires-2 c κs =
+    let q = c .before .before .before .before .before in
+    (s q .pre .opposed, up-exactly (first q) (c .rounded-up2 .ensures) .part)
 
 returns : tie.Need-returns
 returns c =
-    let d = c .before .before .before .before in
-    let h = c .before .before in
-    let a = s (d .before .before) .args in
+    let d = c .before .before in
+    let n = d .before .before in
+    let q = n .before .before in
+    let a = s q .args in
     record {
-      lower = d .plus-down .ensures (with₂ (mul down) (a .x) (a .y)) (down-exactly (first (d .before .before)) (d .before .rounded-down .ensures));
-      opposed = h .plus-down2 .ensures (negate (with₂ (mul up) (a .x) (a .y))) (up-exactly (first (d .before .before)) (h .before .rounded-up .ensures));
-      radius = c .plus-negative .ensures _ (grows (c .before));
+      lower = d .plus-down .ensures (with₂ (mul down) (a .x) (a .y)) (down-exactly (first q) (d .before .rounded-down .ensures));
+      opposed = c .plus-down2 .ensures (negate (with₂ (mul up) (a .x) (a .y))) (up-exactly (first q) (c .before .rounded-up2 .ensures));
+      radius = n .plus-negative .ensures _ (grows (n .before));
     }
 
 pub step-parts-spec : {M : Type 1} → statement M
@@ -109,10 +114,10 @@ step-parts-spec =
     unpack-requires-3
     unpack-requires-4
     times-requires-2
+    rounded-up-requires
+    plus-negative-requires
     rounded-down-requires
     plus-down-requires
-    rounded-up-requires
-    plus-down-requires-2
     rounded-up-requires-2
-    plus-negative-requires
+    plus-down-requires-2
     returns)

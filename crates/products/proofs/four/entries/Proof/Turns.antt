@@ -28,7 +28,9 @@ pub is-nonzero-requires : tie.Need-is-nonzero-requires Inv-loop2 μ-loop2 Inv-lo
 is-nonzero-requires c κs = search needs
 
 pub step-four-requires : tie.Need-step-four-requires Inv-loop2 μ-loop2 Inv-loop3 μ-loop3 Inv-loop μ-loop Inv-search μ-search
-step-four-requires c κs = middle-numbers (spot (c .before .before .before .before .before .before .before .before)) _ _ (c .before .before .before .before .before .before .loop2 .inv .2)
+step-four-requires c κs =
+    let turn : In2 = c .before .before .before .before .before in
+    (middle-numbers (spot (of₂ turn)) _ _ (turn .before .loop2 .inv .2), pair₂ turn .cell-first .mid)
 
 pub refused-requires : tie.Need-refused-requires Inv-loop2 μ-loop2 Inv-loop3 μ-loop3 Inv-loop μ-loop Inv-search μ-search
 refused-requires c κs = search needs

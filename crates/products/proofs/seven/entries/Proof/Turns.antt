@@ -27,7 +27,7 @@ is-nonzero-requires c κs = search needs
 pub step-seven-requires : tie.Need-step-seven-requires Inv-loop2 μ-loop2 Inv-loop3 μ-loop3 Inv-loop4 μ-loop4 Inv-loop μ-loop Inv-search μ-search
 step-seven-requires c κs =
     let turn : In2 = c .before .before .before .before .before in
-    middle-numbers (spot (of₂ turn)) _ _ (turn .before .loop2 .inv .2)
+    (middle-numbers (spot (of₂ turn)) _ _ (turn .before .loop2 .inv .2), pair₂ turn .cell-first .mid)
 
 pub refused-requires : tie.Need-refused-requires Inv-loop2 μ-loop2 Inv-loop3 μ-loop3 Inv-loop4 μ-loop4 Inv-loop μ-loop Inv-search μ-search
 refused-requires c κs = search needs

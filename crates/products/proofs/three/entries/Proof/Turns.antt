@@ -25,7 +25,9 @@ pub adds-requires : tie.Need-adds-requires Inv-loop2 μ-loop2 Inv-loop3 μ-loop3
 adds-requires c κs = search needs
 
 pub step-requires : tie.Need-step-requires Inv-loop2 μ-loop2 Inv-loop3 μ-loop3 Inv-loop μ-loop Inv-search μ-search
-step-requires c κs = first-numbers (spot (c .before .before .before .before .before .before .before .before)) _ _ (c .before .before .before .before .before .before .loop2 .inv .2)
+step-requires c κs =
+    let t : In2 = c .before .before .before .before .before in
+    (first-numbers (spot (one2 t)) _ _ (t .before .loop2 .inv .2), pair2 t .cell-first .mid)
 
 pub refused-requires : tie.Need-refused-requires Inv-loop2 μ-loop2 Inv-loop3 μ-loop3 Inv-loop μ-loop Inv-search μ-search
 refused-requires c κs = search needs
