@@ -1,9 +1,10 @@
 -- The two cells of a pair: their bounds are numbers, and the test for a cell that is [0, 0].
 use mathlib.Core.Path.{_≡_, ap, _∙_}
 use mathlib.Core.Bool.{false}
-use Prim.Native.Nat.{ℕ, _+_, _^_, _<_}
+use mathlib.Core.Logic.{⊎-elim}
+use Prim.Native.Nat.{ℕ, _+_, _^_, _≤_, _<_}
 use native.Mathlib.Omega.{arith}
-use native.Mathlib.Nat.{zero-mul}
+use native.Mathlib.Nat.{eq-zero-or-pos, zero-mul}
 use lib.Dec.{ltb}
 use lib.IntN.{pos, natAbs, _*ℤ_}
 use borrow.Author.Tests.{ltb-false}
@@ -13,11 +14,11 @@ use Rattle.binary32.proofs.Held.{finite-is, finites-first, finites-second}
 use Rattle.intervals.proofs.Faults.{fine-tells}
 use Rattle.products.specs.declared.number.Number.{Number}
 use Rattle.products.specs.declared.apart.Apart.{Apart}
-use Rattle.products.specs.Number.{worth}
+use Rattle.products.specs.Number.{worth, IsNumber}
 use Rattle.products.specs.Apart.{IsApart, lowerNumber, upperNumber}
 use Rattle.products.specs.Corners.{Cells}
 use Rattle.products.specs.Matrix.{Matrix, AllFine, lowerAt, upperAt}
-use Rattle.products.proofs.Worths.{worth-is}
+use Rattle.products.proofs.Worths.{worth-is, exp-some, exp-low}
 use Rattle.products.proofs.FarShifts.{natAbs-zero}
 use Rattle.products.proofs.Multiplying.{unpacked-number}
 use Rattle.products.proofs.CornerSteps.{Worth}
@@ -51,10 +52,20 @@ zero-cell lo hi t =
     let e = ltb-false 0 (magnitudeOf lo + magnitudeOf hi) t in
     (omega arith, omega arith)
 
-none-worth : (x : Number) → natAbs (x .sig) ≡ 0 → worth x ≡ pos 0
-none-worth x e = worth-is x (pos 0) (ap (λ z. z *ℤ pos (2 ^ (x .exp))) (natAbs-zero (x .sig) e) ∙ ap pos (zero-mul (2 ^ (x .exp))))
+-- zero alone has the exponent 64
+none-worth : (x : Number) → IsNumber x → x .exp ≤ 64 → worth x ≡ pos 0
+none-worth x n h = worth-is x (pos 0) (ap (λ z. z *ℤ pos (2 ^ (x .exp))) (natAbs-zero (x .sig) none) ∙ ap pos (zero-mul (2 ^ (x .exp))))
+  where
+    no : 376 ≤ x .exp → ⊥
+    no l = omega arith
 
-pub zero-apart : (a : Apart) → ltb 0 (natAbs (lowerNumber a .sig) + natAbs (upperNumber a .sig)) ≡ false → (worth (lowerNumber a) ≡ pos 0) × (worth (upperNumber a) ≡ pos 0)
-zero-apart a t =
-    let e = ltb-false 0 (natAbs (lowerNumber a .sig) + natAbs (upperNumber a .sig)) t in
-    (none-worth (lowerNumber a) (omega arith), none-worth (upperNumber a) (omega arith))
+    none : natAbs (x .sig) ≡ 0
+    none = ⊎-elim (λ e. e) (λ p. absurd (no (exp-some x (n .normal) p))) (eq-zero-or-pos (natAbs (x .sig)))
+
+pub zero-apart : (a : Apart) → IsNumber (lowerNumber a) → IsNumber (upperNumber a) → ltb 128 (lowerNumber a .exp + upperNumber a .exp) ≡ false
+    → (worth (lowerNumber a) ≡ pos 0) × (worth (upperNumber a) ≡ pos 0)
+zero-apart a n m t =
+    let e = ltb-false 128 (lowerNumber a .exp + upperNumber a .exp) t in
+    let k = exp-low (lowerNumber a) (n .normal) in
+    let l = exp-low (upperNumber a) (m .normal) in
+    (none-worth (lowerNumber a) n (omega arith), none-worth (upperNumber a) m (omega arith))

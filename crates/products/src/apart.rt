@@ -2,7 +2,7 @@
 ghost use mathlib.Core.Path.{_≡_};
 ghost use Prim.Native.Nat.{_+_};
 ghost use lib.Dec.{ltb};
-ghost use lib.IntN.{natAbs};
+ghost use Rattle.products.specs.Number.{IsNumber};
 ghost use Rattle.products.specs.Apart.{IsApart, lowerNumber, upperNumber, zeroApart};
 use crate::number::Number;
 use crate::pattern::unpack;
@@ -60,13 +60,11 @@ impl Apart {
         }
     }
 
-    // Whether the cell is not [0, 0], whose corner products are zeros and add nothing.
+    // Whether the cell is not [0, 0], whose corner products are zeros and add nothing: zero alone has the exponent 64.
     pub fn is_nonzero(self) -> bool
-        ensures { λ r. ⌜ r ≡ ltb 0 (natAbs (lowerNumber self .sig) + natAbs (upperNumber self .sig)) ⌝ }
+        requires { ⌜ IsNumber (lowerNumber self) × IsNumber (upperNumber self) ⌝ }
+        ensures { λ r. ⌜ r ≡ ltb 128 (lowerNumber self .exp + upperNumber self .exp) ⌝ }
     {
-        if self.lower_sig == 0 {
-            return self.upper_sig != 0;
-        }
-        true
+        128 < self.lower_exp + self.upper_exp
     }
 }

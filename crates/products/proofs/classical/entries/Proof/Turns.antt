@@ -16,7 +16,7 @@ pub array-copy-out-a : tie.Need-array-copy-out-a Inv-loop μ-loop Inv-loop3 μ-l
 array-copy-out-a c = omega (arith, pair-low c)
 
 pub is-nonzero-requires : tie.Need-is-nonzero-requires Inv-loop μ-loop Inv-loop3 μ-loop3 Inv-loop2 μ-loop2 Inv-search μ-search
-is-nonzero-requires c κs = search needs
+is-nonzero-requires c κs = let t : In3 = c .before in (taken t .lower .0, taken t .upper .0)
 
 pub mul-b : tie.Need-mul-b Inv-loop μ-loop Inv-loop3 μ-loop3 Inv-loop2 μ-loop2 Inv-search μ-search
 mul-b c = omega (arith, places (c .before .before .before))
@@ -62,7 +62,7 @@ next c =
     (λ w. subst (Next t) (sym (w .8)) (sum-step _ _ _ _ _ _ (h .l) (h .s) (h .inv .2) (cell t) _ _ (taken t) refl refl _ (w .5 .ensures) (sym (w .6 .ensures) ∙ w .7 .left)))
     (⊎-elim {C = Next t (c .if1 .s)}
     (λ w. subst (Next t) (sym (w .5)) (sum-skip _ _ _ _ _ _ (h .l) (h .s) (h .inv .2) (cell t) _ _ (taken t) refl refl (let z = zero-cell _ _ (sym (w .3 .ensures) ∙ w .4 .left) in zero-second (zero-value _ (z .0)) (zero-value _ (z .1)))))
-    (λ w. subst (Next t) (sym (w .1)) (sum-skip _ _ _ _ _ _ (h .l) (h .s) (h .inv .2) (cell t) _ _ (taken t) refl refl (let z = zero-apart (cell t) (sym (c .before .is-nonzero .ensures) ∙ w .0 .left) in zero-first (z .0) (z .1)))))
+    (λ w. subst (Next t) (sym (w .1)) (sum-skip _ _ _ _ _ _ (h .l) (h .s) (h .inv .2) (cell t) _ _ (taken t) refl refl (let z = zero-apart (cell t) (taken t .lower .0) (taken t .upper .0) (sym (c .before .is-nonzero .ensures) ∙ w .0 .left) in zero-first (z .0) (z .1)))))
     (c .if1 .came)
 
 pub loop3-again : tie.Need-loop3-again Inv-loop μ-loop Inv-loop3 μ-loop3 Inv-loop2 μ-loop2 Inv-search μ-search
