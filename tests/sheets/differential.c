@@ -19,8 +19,6 @@ uint32_t fody_read(const uint8_t *s, size_t len, uint32_t *lowers, size_t lowers
                    uint32_t *uppers, size_t uppers_len);
 uint32_t fody_put(size_t rows, size_t columns, const uint32_t *lowers, size_t lowers_len,
                   const uint32_t *uppers, size_t uppers_len, uint8_t *out, size_t out_len);
-size_t fody_write(size_t rows, size_t columns, const uint32_t *lowers, size_t lowers_len,
-                  const uint32_t *uppers, size_t uppers_len, uint8_t *out, size_t out_len);
 
 #define SLICE (MAX_CELLS + 64)
 
@@ -97,9 +95,6 @@ static void write_both(void)
         differ("answer of put", calls, our, their);
     if (memcmp(our_out, their_out, BUFFER) != 0)
         differ("buffer of put", calls, our, their);
-    size_t part = fody_write(rows, columns, theirs.lo, lo_len, theirs.hi, hi_len, our_out, out_len);
-    if (part != written || memcmp(our_out, their_out, BUFFER) != 0)
-        differ("part of write", calls, (uint32_t)part, (uint32_t)written);
 }
 
 /* Prints how often each was met; counts those of `asked` that never were. */

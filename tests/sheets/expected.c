@@ -26,10 +26,10 @@ static void print_cells(const uint32_t *cells)
     printf(" %08x", sum);
 }
 
-static void print_bytes(void)
+static void print_bytes(size_t count)
 {
     uint32_t sum = 0;
-    for (size_t i = 0; i < ROOM; i++)
+    for (size_t i = 0; i < count; i++)
         sum = mix(sum, out[i]);
     printf(" %08x", sum);
 }
@@ -59,7 +59,8 @@ static void run(const uint8_t *s, size_t len, size_t below, size_t above, size_t
             print_refusal(r);
         else
             printf("written %zu", written);
-        print_bytes();
+        print_bytes(r.number == 0 ? written : 0);
+        print_bytes(ROOM);
     }
     printf("\n");
 }

@@ -12,7 +12,7 @@ use Rattle.algebra.specs.Extremes.{maxℤ}
 use Rattle.algebra.specs.Power.{pow2}
 use Rattle.algebra.proofs.Polynomial.{ring, var, _⊕_, _⊗_}
 use Rattle.algebra.proofs.Reading.{by-ring}
-use Rattle.algebra.proofs.Parts.{chains}
+use Rattle.algebra.proofs.SignParts.{chains}
 use Rattle.algebra.proofs.Sides.{add-parts}
 use Rattle.algebra.proofs.Linear.{reading, le, lt, eq, lin-le, lin-lt, lin-eq, lin-absurd}
 use Rattle.algebra.proofs.Order.{≼-trans, _⊠_, sq-nonneg}

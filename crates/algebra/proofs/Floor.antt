@@ -8,9 +8,9 @@ use lib.IntN.{ℤ, pos, negsuc, negℤ, _+ℤ_, _*ℤ_}
 use lib.Signed.{shrZ}
 use Rattle.algebra.specs.Order.{_≼_, _≺_}
 use Rattle.algebra.specs.Ceiling.{ceilZ}
-use Rattle.algebra.proofs.Parts.{parts-lt, parts-le}
+use Rattle.algebra.proofs.SignParts.{parts-lt, parts-le}
 use Rattle.algebra.proofs.Linear.{reading, le, lt, lin-le, lin-lt}
-use Rattle.algebra.proofs.Order.{≼-trans, ≼-antisym, cancel-lt}
+use Rattle.algebra.proofs.Order.{≼-antisym, cancel-lt}
 use Rattle.algebra.proofs.Natural.{of-lt}
 
 -- ---- rounded down
@@ -28,9 +28,6 @@ floor-greatest z q m h k = lin-le (q ∷ shrZ z m ∷ []) (lt below ∷ []) (sea
   where
     below : q ≺ shrZ z m +ℤ pos 1
     below = cancel-lt (of-lt h) (lin-lt (z ∷ q ∷ pos m ∷ shrZ z m ∷ []) (le k ∷ lt (floor-high z m h) ∷ []) (search reading depth 12) (omega arith))
-
-pub floor-mono : {y z : ℤ} (m : ℕ) → 0 < m → y ≼ z → shrZ y m ≼ shrZ z m
-floor-mono {y} {z} m h k = floor-greatest z (shrZ y m) m h (≼-trans (floor-low y m h) k)
 
 pub floor-unique : (z q : ℤ) (m : ℕ) → 0 < m → pos m *ℤ q ≼ z → z ≺ pos m *ℤ q +ℤ pos m → q ≡ shrZ z m
 floor-unique z q m h k l = ≼-antisym (floor-greatest z q m h k) (lin-le (q ∷ shrZ z m ∷ []) (lt above ∷ []) (search reading depth 12) (omega arith))
@@ -52,6 +49,3 @@ pub ceil-least : (z q : ℤ) (m : ℕ) → 0 < m → z ≼ pos m *ℤ q → ceil
 unfolding ceilZ
 ceil-least z q m h k =
     lin-le (q ∷ shrZ (negℤ z) m ∷ []) (le (floor-greatest (negℤ z) (negℤ q) m h (lin-le (z ∷ q ∷ pos m ∷ []) (le k ∷ []) (search reading depth 12) (omega arith))) ∷ []) (search reading depth 12) (omega arith)
-
-pub ceil-mono : {y z : ℤ} (m : ℕ) → 0 < m → y ≼ z → ceilZ y m ≼ ceilZ z m
-ceil-mono {y} {z} m h k = ceil-least y (ceilZ z m) m h (≼-trans k (ceil-high z m h))

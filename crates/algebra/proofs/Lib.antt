@@ -1,7 +1,7 @@
 pub mod RingLaws
 pub mod Polynomial
 pub mod Reading
-pub mod Parts
+pub mod SignParts
 pub mod Sides
 pub mod Linear
 pub mod Order

@@ -8,7 +8,7 @@ use mir.Syntax.{Width}
 use mir.Val.{SFits, hbits}
 use Rattle.algebra.specs.Order.{_≼_, _≺_}
 use Rattle.algebra.specs.Power.{pow2}
-use Rattle.algebra.proofs.Parts.{le-parts, neg-parts}
+use Rattle.algebra.proofs.SignParts.{le-parts, neg-parts}
 use Rattle.algebra.proofs.Linear.{reading, lin-le}
 use Rattle.algebra.proofs.Natural.{of-lt, to-lt}
 

@@ -6,7 +6,7 @@ use Prim.Native.Nat.{ℕ, _-_, _≤_, _<_}
 use native.Mathlib.Omega.{arith}
 use lib.IntN.{pos, natAbs, _-ℤ_}
 use Rattle.algebra.specs.Order.{_≼_, _≺_}
-use Rattle.algebra.proofs.Parts.{parts-lt, parts-le, le-parts, lt-parts}
+use Rattle.algebra.proofs.SignParts.{parts-lt, parts-le, le-parts, lt-parts}
 use Rattle.algebra.proofs.Linear.{reading, lin-eq}
 use Rattle.algebra.proofs.Order.{≼-total}
 

@@ -10,7 +10,7 @@ use lib.Dec.{T, T-prop, leb, nleb→lt}
 use lib.IntN.{ℤ, pos, negsuc, negℤ, _+ℤ_, _*ℤ_, _-ℤ_}
 use lib.Signed.{leZ, leZ-yes, ltZ-yes}
 use Rattle.algebra.specs.Order.{_≼_, _≺_}
-use Rattle.algebra.proofs.Parts.{parts-lt, parts-le}
+use Rattle.algebra.proofs.SignParts.{parts-lt, parts-le}
 use Rattle.algebra.proofs.Linear.{reading, le, lt, eq, lin-le, lin-lt, lin-eq, lin-absurd}
 
 -- ---- order

@@ -10,7 +10,7 @@ use Rattle.algebra.specs.Order.{_≼_, _≺_}
 use Rattle.algebra.proofs.RingLaws.{mul-one}
 use Rattle.algebra.proofs.Polynomial.{Poly, con, _▹_, ev}
 use Rattle.algebra.proofs.Reading.{Read₂, reading-terms, gap, gap-is, by-ring, sub-zero}
-use Rattle.algebra.proofs.Parts.{pp, nn, parts, le-parts, parts-le, lt-parts, parts-lt}
+use Rattle.algebra.proofs.SignParts.{pp, nn, parts, le-parts, parts-le, lt-parts, parts-lt}
 
 -- ---- monomials: 1, or an integer
 pub data Mono : Type 0 where

@@ -15,7 +15,7 @@ use Rattle.algebra.proofs.Reading.{by-ring}
 use Rattle.algebra.proofs.Linear.{reading}
 use Rattle.rounding.specs.Format.{binary32, MAX, expo}
 use Rattle.rounding.specs.Rounding.{ceil, lo, hi, nr, up, down, near}
-use Rattle.rounding.specs.Pattern.{place}
+use Rattle.rounding.specs.Pattern.{encode}
 use Rattle.rounding.proofs.DirectedLaws.{up-scale, down-scale}
 use Rattle.rounding.proofs.NearestLaws.{near-scale}
 use Rattle.rounding.proofs.Shift.{size-only, size-shl}
@@ -23,7 +23,7 @@ use Rattle.binary32.specs.declared.funnel.Ways.{Ways}
 use Rattle.binary32.specs.Number.{holdDown, holdUp, holdNear}
 use Rattle.binary32.specs.Steps.{packed, Split, IsCut}
 use Rattle.binary32.proofs.LongShifts.{near-split}
-use Rattle.binary32.proofs.Signs.{Place, sign-up, sign-near, sign-down, few-up, few-near, few-down}
+use Rattle.binary32.proofs.Signs.{Scaled, sign-up, sign-near, sign-down, few-up, few-near, few-down}
 
 -- ---- s * 2 ^ e, its significand shifted up by z places
 module _ (s : ℤ) (e z K : ℕ) where
@@ -89,8 +89,8 @@ module _ (s : ℤ) (e zeros : ℕ) (p : 0 < natAbs s) (o : Zeros (natAbs s) zero
   wide-some : 0 < natAbs wide
   wide-some = omega (arith, wide-abs, mul-pos p (pow-pos (zeros - 3)))
 
-  wide-place : Place (zeros - 3 + 149) e (210 - kept) (top - kept) wide
-  wide-place = record {
+  wide-scaled : Scaled (zeros - 3 + 149) e (210 - kept) (top - kept) wide
+  wide-scaled = record {
     some-digit = wide-some;
     digits = omega (arith, wide-size, o .three, o .less);
     dropped = omega (arith, o .three, o .less);
@@ -106,16 +106,16 @@ module _ (s : ℤ) (e zeros : ℕ) (p : 0 < natAbs s) (o : Zeros (natAbs s) zero
       go h = record {
         downs =
             ap₂ (λ c j. packed c j 0xFF800000 0x7F7FFFFF) (h .downs) (h .shifts)
-            ∙ sign-down K e (210 - kept) (top - kept) wide wide-place ∙ ap holdDown (moved-down s e (zeros - 3) 149);
+            ∙ sign-down K e (210 - kept) (top - kept) wide wide-scaled ∙ ap holdDown (moved-down s e (zeros - 3) 149);
         ups =
             ap₂ (λ c j. packed c j 0xFF7FFFFF 0x7F800000) (h .ups) (h .shifts)
-            ∙ sign-up K e (210 - kept) (top - kept) wide wide-place ∙ ap holdUp (moved-up s e (zeros - 3) 149);
+            ∙ sign-up K e (210 - kept) (top - kept) wide wide-scaled ∙ ap holdUp (moved-up s e (zeros - 3) 149);
         nears =
             ap₂ (λ c j. packed c j 0x7F800000 0x7F800000) (h .nears) (h .shifts)
-            ∙ sign-near K e (210 - kept) (top - kept) wide wide-place ∙ ap holdNear (moved-near s e (zeros - 3) 149);
-        down-few = subst (λ c. natAbs c ≤ 2 ^ 24) (sym (h .downs)) (few-down K e (210 - kept) (top - kept) wide wide-place);
-        up-few = subst (λ c. natAbs c ≤ 2 ^ 24) (sym (h .ups)) (few-up K e (210 - kept) (top - kept) wide wide-place);
-        near-few = subst (λ c. natAbs c ≤ 2 ^ 24) (sym (h .nears)) (few-near K e (210 - kept) (top - kept) wide wide-place);
+            ∙ sign-near K e (210 - kept) (top - kept) wide wide-scaled ∙ ap holdNear (moved-near s e (zeros - 3) 149);
+        down-few = subst (λ c. natAbs c ≤ 2 ^ 24) (sym (h .downs)) (few-down K e (210 - kept) (top - kept) wide wide-scaled);
+        up-few = subst (λ c. natAbs c ≤ 2 ^ 24) (sym (h .ups)) (few-up K e (210 - kept) (top - kept) wide wide-scaled);
+        near-few = subst (λ c. natAbs c ≤ 2 ^ 24) (sym (h .nears)) (few-near K e (210 - kept) (top - kept) wide wide-scaled);
         low = omega (arith, h .shifts);
       }
 
@@ -143,7 +143,7 @@ abbrev none-cut : Ways
 none-cut = record { down = pos 0; up = pos 0; near = pos 0; shift = 0 }
 
 zero-is : IsCut (pos 0) none-cut
-unfolding packed place down up near lo hi nr ceil expo size MAX
+unfolding packed encode down up near lo hi nr ceil expo size MAX
 zero-is = record {
   downs = refl;
   ups = refl;

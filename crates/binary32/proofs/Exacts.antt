@@ -7,9 +7,9 @@ use Prim.Native.Nat.{ℕ}
 use lib.IntN.{ℤ}
 use Rattle.rounding.specs.Format.{binary32}
 use Rattle.rounding.specs.Rounding.{up, down, near}
+use Rattle.refusals.specs.Answer.{gives, refuse}
 use Rattle.binary32.specs.declared.parts.Parts.{Parts}
 use Rattle.binary32.specs.declared.exact.Exact.the-variants.{Value, Unknown}
-use Rattle.binary32.specs.declared.Rounded.the-variants.{Number, NotFinite, Overflow}
 use Rattle.binary32.specs.Number.{valueOf, finite, finites, held, hold}
 use Rattle.binary32.specs.Operations.{Way, on₂, with₂, answerOf, answer, checkedOf}
 use Rattle.binary32.specs.Steps.{of, Decoded, Same, Rounds}
@@ -51,12 +51,12 @@ pub checked-is : (op : ℤ → ℤ → Option ℤ) (a b z : ℕ) → finite z �
 unfolding checkedOf answer Fits
 checked-is op a b z f n = go (finites a b) refl
   where
-    told : (m : Option ℤ) → Fits m → cond (finite (hold z m)) (Number (hold z m)) Overflow ≡ answerOf m
-    told none k = ap (λ t. cond t (Number z) Overflow) f
-    told (some v) k = ap (λ t. cond t (Number (hold z (some v))) Overflow) (is-finite (hold z (some v)) (pattern-finite (k v refl)))
+    told : (m : Option ℤ) → Fits m → cond (finite (hold z m)) (gives (hold z m)) (refuse 5) ≡ answerOf m
+    told none k = ap (λ t. cond t (gives z) (refuse 5)) f
+    told (some v) k = ap (λ t. cond t (gives (hold z (some v))) (refuse 5)) (is-finite (hold z (some v)) (pattern-finite (k v refl)))
 
     go : (t : Bool) → finites a b ≡ t
-        → cond t (cond (finite (hold z (with₂ op a b))) (Number (hold z (with₂ op a b))) Overflow) NotFinite
-        ≡ cond t (answerOf (op (valueOf a) (valueOf b))) NotFinite
-    go true e = ap (λ m. cond (finite (hold z m)) (Number (hold z m)) Overflow) (with-some op a b e) ∙ told (op (valueOf a) (valueOf b)) n
+        → cond t (cond (finite (hold z (with₂ op a b))) (gives (hold z (with₂ op a b))) (refuse 5)) (refuse 3)
+        ≡ cond t (answerOf (op (valueOf a) (valueOf b))) (refuse 3)
+    go true e = ap (λ m. cond (finite (hold z m)) (gives (hold z m)) (refuse 5)) (with-some op a b e) ∙ told (op (valueOf a) (valueOf b)) n
     go false e = refl

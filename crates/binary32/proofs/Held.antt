@@ -9,9 +9,9 @@ use lib.Dec.{leb}
 use lib.IntN.{ℤ, pos, negsuc, negℤ}
 use borrow.Author.Tests.{lt-ltb, ltb-true, lt-leb, le-leb}
 use Rattle.rounding.specs.Format.{binary32, MAX, Form, Num}
-use Rattle.rounding.specs.Pattern.{val, place}
+use Rattle.rounding.specs.Pattern.{val, encode}
 use Rattle.rounding.proofs.Pattern.{val-max, val-form}
-use Rattle.rounding.proofs.Place.{val-place}
+use Rattle.rounding.proofs.Encoding.{val-encode}
 use Rattle.rounding.proofs.Sign.{num-neg}
 use Rattle.binary32.specs.Number.{signedBy, valueOf, finite, Finite, finites, held, patternOf, hold}
 use Rattle.binary32.specs.Operations.{with₂}
@@ -56,8 +56,8 @@ module _ (op : ℤ → ℤ → Option ℤ) (a b : ℕ) where
 
 -- ---- a number's pattern is finite and has its value; a finite pattern's value is a number
 
-place-low : {n : ℕ} → Form binary32 n → n ≤ MAX binary32 → place binary32 n < 255 * 2 ^ 23
-place-low {n} F h = val-max binary32 (place binary32 n) .0 (le-trans (le-of-eq (val-place binary32 F)) h)
+encode-low : {n : ℕ} → Form binary32 n → n ≤ MAX binary32 → encode binary32 n < 255 * 2 ^ 23
+encode-low {n} F h = val-max binary32 (encode binary32 n) .0 (le-trans (le-of-eq (val-encode binary32 F)) h)
 
 pub value-low : (q : ℕ) → q < 2 ^ 31 → valueOf q ≡ pos (val binary32 q)
 unfolding valueOf
@@ -72,15 +72,15 @@ value-high q h = ap₂ (λ t n. signedBy t (val binary32 n)) (le-leb (2 ^ 31) (2
 
 pub pattern-value : {v : ℤ} → Num binary32 v → valueOf (patternOf v) ≡ v
 pattern-value {v = pos n} N =
-    let l : place binary32 n < 255 * 2 ^ 23 = place-low (N .form) (N .within) in
-    value-low (place binary32 n) (omega arith) ∙ ap pos (val-place binary32 (N .form))
+    let l : encode binary32 n < 255 * 2 ^ 23 = encode-low (N .form) (N .within) in
+    value-low (encode binary32 n) (omega arith) ∙ ap pos (val-encode binary32 (N .form))
 pattern-value {v = negsuc k} N =
-    let l : place binary32 (suc k) < 255 * 2 ^ 23 = place-low (N .form) (N .within) in
-    value-high (place binary32 (suc k)) (omega arith) ∙ ap (λ x. negℤ (pos x)) (val-place binary32 (N .form))
+    let l : encode binary32 (suc k) < 255 * 2 ^ 23 = encode-low (N .form) (N .within) in
+    value-high (encode binary32 (suc k)) (omega arith) ∙ ap (λ x. negℤ (pos x)) (val-encode binary32 (N .form))
 
 pub pattern-finite : {v : ℤ} → Num binary32 v → Finite (patternOf v)
-pattern-finite {v = pos n} N = let l : place binary32 n < 255 * 2 ^ 23 = place-low (N .form) (N .within) in omega arith
-pattern-finite {v = negsuc k} N = let l : place binary32 (suc k) < 255 * 2 ^ 23 = place-low (N .form) (N .within) in omega arith
+pattern-finite {v = pos n} N = let l : encode binary32 n < 255 * 2 ^ 23 = encode-low (N .form) (N .within) in omega arith
+pattern-finite {v = negsuc k} N = let l : encode binary32 (suc k) < 255 * 2 ^ 23 = encode-low (N .form) (N .within) in omega arith
 
 pub value-num : (p : ℕ) → Finite p → Num binary32 (valueOf p)
 unfolding valueOf

@@ -2,7 +2,7 @@
 pub mod Ints
 pub mod Values
 -- rounding: a shifted magnitude, with its sign, from the signed shift and what it loses; then the pattern
-pub mod Places
+pub mod Encodings
 pub mod Shifted
 pub mod Signs
 pub mod Rests

@@ -44,7 +44,7 @@ module _ (f : Format) (K e t j n : ℕ) (h : 0 < n) (ej : size n + e - K - f .pr
   closest-is : closest (n * 2 ^ e) (step f (2 ^ K) (n * 2 ^ e)) ≡ closest n (2 ^ t)
   closest-is = closest-same (n * 2 ^ e) (step f (2 ^ K) (n * 2 ^ e)) n (2 ^ t) step-some (pow-pos t) cross
 
-  -- ---- the roundings: the number at place q, if there is one
+  -- ---- the roundings: the number with pattern q, if there is one
   abbrev at : ℕ → Option ℤ
   at q = cond (ltb q (limit f)) (some (pos (val f q))) none
 

@@ -16,18 +16,18 @@ use Rattle.rounding.proofs.Nearest.{near-odd}
 use Rattle.rounding.proofs.Sign.{natAbs-neg}
 use Rattle.binary32.specs.Number.{patternOf, holdDown, holdUp, holdNear}
 use Rattle.binary32.specs.Steps.{packed}
-use Rattle.binary32.proofs.Places.{at, past, plus, minus, cap-plus, cap-minus}
+use Rattle.binary32.proofs.Encodings.{at, past, plus, minus, cap-plus, cap-minus}
 use Rattle.binary32.proofs.Shifted.{up-above, up-below, near-above, floor-short, ceil-short, closest-short, floor-long, ceil-long, closest-long}
 
 -- the exponent field j of w * 2 ^ e / 2 ^ K, and the t digits of w that are dropped
-pub record Place (K e t j : ℕ) (w : ℤ) : Type 0 where
+pub record Scaled (K e t j : ℕ) (w : ℤ) : Type 0 where
   pub some-digit : 0 < natAbs w
   pub digits : size (natAbs w) + e - K - 24 ≡ j
   pub dropped : t + e ≡ j + K
 
 module _ (K e t j : ℕ) where
   -- ---- up
-  pub sign-up : (w : ℤ) → Place K e t j w → packed (ceilS w (2 ^ t)) j 0xFF7FFFFF 0x7F800000 ≡ holdUp (up binary32 (2 ^ K) (w *ℤ pos (2 ^ e)))
+  pub sign-up : (w : ℤ) → Scaled K e t j w → packed (ceilS w (2 ^ t)) j 0xFF7FFFFF 0x7F800000 ≡ holdUp (up binary32 (2 ^ K) (w *ℤ pos (2 ^ e)))
   sign-up (pos n) p =
       plus j (ceil n (2 ^ t)) 0xFF7FFFFF 0x7F800000
       ∙ ap holdUp (sym (up-above binary32 K e t j n (p .some-digit) (p .digits) (p .dropped)))
@@ -36,7 +36,7 @@ module _ (K e t j : ℕ) where
       ∙ ap holdUp (sym (up-below binary32 K e t j (suc k) (p .some-digit) (p .digits) (p .dropped)))
 
   -- ---- nearest
-  pub sign-near : (w : ℤ) → Place K e t j w
+  pub sign-near : (w : ℤ) → Scaled K e t j w
       → packed (signed w (closest (natAbs w) (2 ^ t))) j 0x7F800000 0x7F800000 ≡ holdNear (near binary32 (2 ^ K) (w *ℤ pos (2 ^ e)))
   sign-near (pos n) p =
       plus j (closest n (2 ^ t)) 0x7F800000 0x7F800000
@@ -47,7 +47,7 @@ module _ (K e t j : ℕ) where
       ∙ ap holdNear (sym (near-odd binary32 (2 ^ K) (pow-pos K) (pos (suc k * 2 ^ e))))
 
   -- ---- down, as the mirror image of up
-  pub sign-down : (w : ℤ) → Place K e t j w → packed (shrZ w (2 ^ t)) j 0xFF800000 0x7F7FFFFF ≡ holdDown (down binary32 (2 ^ K) (w *ℤ pos (2 ^ e)))
+  pub sign-down : (w : ℤ) → Scaled K e t j w → packed (shrZ w (2 ^ t)) j 0xFF800000 0x7F7FFFFF ≡ holdDown (down binary32 (2 ^ K) (w *ℤ pos (2 ^ e)))
   unfolding down
   sign-down (pos n) p =
       cap-plus j (n / 2 ^ t) 0xFF800000
@@ -60,17 +60,17 @@ module _ (K e t j : ℕ) where
       ∙ ap (λ X. holdDown (negate (up binary32 (2 ^ K) X))) (sym (negℤ-negℤ (pos (suc k * 2 ^ e))))
 
   -- ---- the significands have at most 24 digits, or are 2 ^ 24
-  pub few-up : (w : ℤ) → Place K e t j w → natAbs (ceilS w (2 ^ t)) ≤ 2 ^ 24
+  pub few-up : (w : ℤ) → Scaled K e t j w → natAbs (ceilS w (2 ^ t)) ≤ 2 ^ 24
   few-up (pos n) p = ceil-short binary32 K e t j n (p .some-digit) (p .digits) (p .dropped)
   few-up (negsuc k) p =
       omega (arith, natAbs-neg (pos (suc k / 2 ^ t)), floor-short binary32 K e t j (suc k) (p .some-digit) (p .digits) (p .dropped))
 
-  pub few-near : (w : ℤ) → Place K e t j w → natAbs (signed w (closest (natAbs w) (2 ^ t))) ≤ 2 ^ 24
+  pub few-near : (w : ℤ) → Scaled K e t j w → natAbs (signed w (closest (natAbs w) (2 ^ t))) ≤ 2 ^ 24
   few-near (pos n) p = closest-short binary32 K e t j n (p .some-digit) (p .digits) (p .dropped)
   few-near (negsuc k) p =
       omega (arith, natAbs-neg (pos (closest (suc k) (2 ^ t))), closest-short binary32 K e t j (suc k) (p .some-digit) (p .digits) (p .dropped))
 
-  pub few-down : (w : ℤ) → Place K e t j w → natAbs (shrZ w (2 ^ t)) ≤ 2 ^ 24
+  pub few-down : (w : ℤ) → Scaled K e t j w → natAbs (shrZ w (2 ^ t)) ≤ 2 ^ 24
   few-down (pos n) p = omega (arith, floor-short binary32 K e t j n (p .some-digit) (p .digits) (p .dropped))
   few-down (negsuc k) p =
       let c : natAbs (shrZ (negsuc k) (2 ^ t)) ≡ ceil (suc k) (2 ^ t) =

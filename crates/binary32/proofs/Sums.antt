@@ -66,9 +66,9 @@ spread x s m u v e = turn ∙ ap (λ n. x *ℤ pos n +ℤ s *ℤ pos u) (sym e)
     turn = by-ring (x ∷ s ∷ pos m ∷ pos u ∷ []) (search reading depth 20) tt
 
 -- 24 digits, shifted by at most 36 places, and 24 digits more
-pub placed-short : (x y : ℤ) (n : ℕ) → natAbs x ≤ 2 ^ 24 → natAbs y ≤ 2 ^ 24 → n ≤ 36
+pub shifted-sum-short : (x y : ℤ) (n : ℕ) → natAbs x ≤ 2 ^ 24 → natAbs y ≤ 2 ^ 24 → n ≤ 36
     → (natAbs (x *ℤ pos (2 ^ n)) < 2 ^ 61) × (natAbs (x *ℤ pos (2 ^ n) +ℤ y) < 2 ^ 61)
-placed-short x y n hx hy hn =
+shifted-sum-short x y n hx hy hn =
     let shifted : natAbs x * 2 ^ n ≤ 2 ^ 24 * 2 ^ 36 = mul-le-mul hx (pow-mono {i = n} {j = 36} hn) in
     let same : natAbs (x *ℤ pos (2 ^ n)) ≡ natAbs x * 2 ^ n = natAbs-mul x (pos (2 ^ n)) in
     (omega arith, omega (arith, natAbs-add (x *ℤ pos (2 ^ n)) y))
@@ -79,9 +79,9 @@ sgn-short (pos (suc n)) = omega arith
 sgn-short (negsuc n) = omega arith
 
 -- what the machine read
-pub placed-read : (x y z : ℤ) (n : ℕ) → natAbs x ≤ 2 ^ 24 → natAbs y ≤ 2 ^ 24
+pub shifted-sum-read : (x y z : ℤ) (n : ℕ) → natAbs x ≤ 2 ^ 24 → natAbs y ≤ 2 ^ 24
     → z ≡ toZ w64 (ofZ w64 x) *ℤ pos (2 ^ n) +ℤ toZ w64 (ofZ w64 y) → z ≡ x *ℤ pos (2 ^ n) +ℤ y
-placed-read x y z n hx hy e = e ∙ ap₂ (λ u v. u *ℤ pos (2 ^ n) +ℤ v) (read-small x (omega arith)) (read-small y (omega arith))
+shifted-sum-read x y z n hx hy e = e ∙ ap₂ (λ u v. u *ℤ pos (2 ^ n) +ℤ v) (read-small x (omega arith)) (read-small y (omega arith))
 
 pub sgn-read : (y z : ℤ) → natAbs y ≤ 2 ^ 24 → z ≡ sgn (toZ w64 (ofZ w64 y)) → z ≡ sgn y
 sgn-read y z h e = e ∙ ap sgn (read-small y (omega arith))
@@ -104,7 +104,7 @@ module _ {x y : Parts} {lift : ℕ} (h : Larger x y lift) (z : ℤ) where
       agree = subst (λ t. Agree (2 ^ (149 - lift)) t (of x +ℤ of y)) (sym whole) (record { ups = refl; downs = refl; nears = refl })
 
       short : natAbs z < 2 ^ 61
-      short = subst (λ t. natAbs t < 2 ^ 61) (sym e) (placed-short (x .sig) (y .sig) (x .exp - y .exp) (h .first .few) (h .second .few) d .1)
+      short = subst (λ t. natAbs t < 2 ^ 61) (sym e) (shifted-sum-short (x .sig) (y .sig) (x .exp - y .exp) (h .first .few) (h .second .few) d .1)
 
   -- far apart: x, and y's sign 36 places below
   pub same-apart : 36 < x .exp - y .exp → z ≡ x .sig *ℤ pos (2 ^ 36) +ℤ sgn (y .sig)
@@ -124,7 +124,7 @@ module _ {x y : Parts} {lift : ℕ} (h : Larger x y lift) (z : ℤ) where
           (sum-far (149 - lift) (x .exp) (y .exp) (x .sig) (y .sig) (h .first .full (omega arith)) (h .second .few) (omega arith))
 
       short : natAbs z < 2 ^ 61
-      short = subst (λ t. natAbs t < 2 ^ 61) (sym e) (placed-short (x .sig) (sgn (y .sig)) 36 (h .first .few) (sgn-short (y .sig)) (omega arith) .1)
+      short = subst (λ t. natAbs t < 2 ^ 61) (sym e) (shifted-sum-short (x .sig) (sgn (y .sig)) 36 (h .first .few) (sgn-short (y .sig)) (omega arith) .1)
 
 -- ---- the order of the summands
 module _ {x y : Parts} {lift : ℕ} (s : Summands x y lift) where

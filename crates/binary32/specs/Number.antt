@@ -5,7 +5,7 @@ use Prim.Native.Nat.{ℕ, suc, _+_, _-_, _*_, _%_, _^_, _<_}
 use lib.Dec.{leb, ltb}
 use lib.IntN.{ℤ, pos, negsuc, negℤ}
 use Rattle.rounding.specs.Format.{binary32}
-use Rattle.rounding.specs.Pattern.{val, place}
+use Rattle.rounding.specs.Pattern.{val, encode}
 
 -- ---- from a pattern to its number
 
@@ -38,8 +38,8 @@ negated p = cond (ltb p (2 ^ 31)) (p + 2 ^ 31) (p - 2 ^ 31)
 -- ---- from a number to its pattern: zero has the pattern 0, never that of minus zero
 
 abbrev pub patternOf : ℤ → ℕ
-patternOf (pos v) = place binary32 v
-patternOf (negsuc n) = 2 ^ 31 + place binary32 (suc n)
+patternOf (pos v) = encode binary32 v
+patternOf (negsuc n) = 2 ^ 31 + encode binary32 (suc n)
 
 -- where there is no number: a pattern of exponent field 255, named z
 abbrev pub hold : ℕ → Option ℤ → ℕ

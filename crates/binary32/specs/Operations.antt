@@ -5,9 +5,10 @@ use Prim.Native.Nat.{ℕ, _-_, _^_}
 use lib.IntN.{ℤ, _+ℤ_, _-ℤ_, _*ℤ_}
 use Rattle.rounding.specs.Format.{Format, binary32}
 use Rattle.rounding.specs.Rounding.{up, down, near}
+use Rattle.refusals.specs.Answer.{Answer, gives, refuses, refuse}
 use Rattle.binary32.specs.Number.{valueOf, finite, finites, held, patternOf}
 use Rattle.binary32.specs.declared.Rounded.{Rounded}
-use Rattle.binary32.specs.declared.Rounded.the-variants.{Number, NotFinite, Overflow}
+use Rattle.binary32.specs.declared.Rounded.the-variants.{Number, Refused}
 
 -- `up`, `down` or `near`
 abbrev pub Way : Type 0
@@ -45,55 +46,54 @@ plusOf way s t = on₂ (add way) (held s) t
 
 -- ---- of two patterns, with the refusals: 3 for exponent field 255, 5 where no finite number is right
 
-abbrev pub answerOf : Option ℤ → Rounded
-answerOf (some v) = Number (patternOf v)
-answerOf none = Overflow
+-- a `Rounded` of the code
+abbrev pub rounded : Rounded → Answer ℕ
+rounded (Number p) = gives p
+rounded (Refused r) = refuses r
 
-unfoldable pub answer : (ℤ → ℤ → Option ℤ) → ℕ → ℕ → Rounded
-answer op a b = cond (finites a b) (answerOf (op (valueOf a) (valueOf b))) NotFinite
+abbrev pub answerOf : Option ℤ → Answer ℕ
+answerOf (some v) = gives (patternOf v)
+answerOf none = refuse 5
 
--- the paper's number of an answer; 0 where it is not refused
-abbrev pub refusalOf : Rounded → ℕ
-refusalOf (Number p) = 0
-refusalOf NotFinite = 3
-refusalOf Overflow = 5
+unfoldable pub answer : (ℤ → ℤ → Option ℤ) → ℕ → ℕ → Answer ℕ
+answer op a b = cond (finites a b) (answerOf (op (valueOf a) (valueOf b))) (refuse 3)
 
 -- the same from a result r that holds a number or none
-unfoldable pub checkedOf : ℕ → ℕ → ℕ → Rounded
-checkedOf a b r = cond (finites a b) (cond (finite r) (Number r) Overflow) NotFinite
+unfoldable pub checkedOf : ℕ → ℕ → ℕ → Answer ℕ
+checkedOf a b r = cond (finites a b) (cond (finite r) (gives r) (refuse 5)) (refuse 3)
 
-abbrev pub addDown : ℕ → ℕ → Rounded
+abbrev pub addDown : ℕ → ℕ → Answer ℕ
 addDown = answer (add down)
 
-abbrev pub addUp : ℕ → ℕ → Rounded
+abbrev pub addUp : ℕ → ℕ → Answer ℕ
 addUp = answer (add up)
 
-abbrev pub addNear : ℕ → ℕ → Rounded
+abbrev pub addNear : ℕ → ℕ → Answer ℕ
 addNear = answer (add near)
 
-abbrev pub subDown : ℕ → ℕ → Rounded
+abbrev pub subDown : ℕ → ℕ → Answer ℕ
 subDown = answer (sub down)
 
-abbrev pub subUp : ℕ → ℕ → Rounded
+abbrev pub subUp : ℕ → ℕ → Answer ℕ
 subUp = answer (sub up)
 
-abbrev pub subNear : ℕ → ℕ → Rounded
+abbrev pub subNear : ℕ → ℕ → Answer ℕ
 subNear = answer (sub near)
 
-abbrev pub mulDown : ℕ → ℕ → Rounded
+abbrev pub mulDown : ℕ → ℕ → Answer ℕ
 mulDown = answer (mul down)
 
-abbrev pub mulUp : ℕ → ℕ → Rounded
+abbrev pub mulUp : ℕ → ℕ → Answer ℕ
 mulUp = answer (mul up)
 
-abbrev pub mulNear : ℕ → ℕ → Rounded
+abbrev pub mulNear : ℕ → ℕ → Answer ℕ
 mulNear = answer (mul near)
 
-abbrev pub midpointDown : ℕ → ℕ → Rounded
+abbrev pub midpointDown : ℕ → ℕ → Answer ℕ
 midpointDown = answer (midpoint down)
 
-abbrev pub midpointUp : ℕ → ℕ → Rounded
+abbrev pub midpointUp : ℕ → ℕ → Answer ℕ
 midpointUp = answer (midpoint up)
 
-abbrev pub midpointNear : ℕ → ℕ → Rounded
+abbrev pub midpointNear : ℕ → ℕ → Answer ℕ
 midpointNear = answer (midpoint near)

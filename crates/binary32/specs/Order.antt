@@ -11,7 +11,7 @@ use Rattle.binary32.specs.Number.{signedBy, valueOf}
 abbrev pub magnitudeOf : ℕ → ℕ
 magnitudeOf p = p % 2 ^ 31
 
--- the place of a pattern among all, both zeros at 0
+-- the rank of a pattern among all, both zeros at 0
 unfoldable pub keyOf : ℕ → ℤ
 keyOf p = signedBy (leb (2 ^ 31) p) (p % 2 ^ 31)
 

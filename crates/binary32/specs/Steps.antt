@@ -86,7 +86,7 @@ pub record Same (D : ℕ) (X : ℤ) (x : Parts) : Type 0 where
   pub small : Small (x .sig) (x .exp)
 
 -- two numbers to be multiplied, and their product
-pub record Factors (x y : Parts) : Type 0 where
+pub record ShortFactors (x y : Parts) : Type 0 where
   pub first : Short x
   pub second : Short y
 

@@ -3,9 +3,9 @@ ghost use mathlib.Core.Path.{_≡_};
 ghost use Prim.Native.Nat.{_-_, _^_, _≤_, _<_};
 ghost use lib.IntN.{pos, natAbs, _+ℤ_, _*ℤ_};
 ghost use Rattle.binary32.specs.Operations.{mul, lifted, with₂};
-ghost use Rattle.binary32.specs.Steps.{Factors, Summands, Larger, Same, ProductIs, SumIs, Rounds, sgn, earlier, later, of};
+ghost use Rattle.binary32.specs.Steps.{ShortFactors, Summands, Larger, Same, ProductIs, SumIs, Rounds, sgn, earlier, later, of};
+use crate::finite::are_finite;
 use crate::parts::Parts;
-use crate::parts::both_finite;
 use crate::parts::decode;
 use crate::parts::power;
 
@@ -17,7 +17,7 @@ pub enum Exact {
 
 // x × y, exactly.
 pub fn times(x: Parts, y: Parts) -> Parts
-    requires { ⌜ Factors x y ⌝ }
+    requires { ⌜ ShortFactors x y ⌝ }
     ensures { λ r. ⌜ ProductIs x y r ⌝ }
 {
     Parts {
@@ -40,7 +40,7 @@ fn sign(x: i64) -> i64
 }
 
 // x × 2^n + y
-fn placed(x: i64, n: u32, y: i64) -> i64
+fn shifted_sum(x: i64, n: u32, y: i64) -> i64
     requires { ⌜ (natAbs x ≤ 2 ^ 24) × (natAbs y ≤ 2 ^ 24) × (n ≤ 36) ⌝ }
     ensures { λ r. ⌜ r ≡ x *ℤ pos (2 ^ n) +ℤ y ⌝ }
 {
@@ -55,12 +55,12 @@ fn joined(x: Parts, y: Parts, lift: u32) -> Parts
     let d = x.exp - y.exp;
     if d <= 36 {
         return Parts {
-            sig: placed(x.sig, d, y.sig),
+            sig: shifted_sum(x.sig, d, y.sig),
             exp: y.exp + lift,
         };
     }
     Parts {
-        sig: placed(x.sig, 36, sign(y.sig)),
+        sig: shifted_sum(x.sig, 36, sign(y.sig)),
         exp: x.exp - 36 + lift,
     }
 }
@@ -97,7 +97,7 @@ pub fn plus(x: Parts, y: Parts, lift: u32) -> Parts
 pub fn product(a: u32, b: u32) -> Exact
     ensures { λ r. ⌜ Rounds (λ way. with₂ (mul way) a b) r ⌝ }
 {
-    if both_finite(a, b) {
+    if are_finite(a, b) {
         return Exact::Value(times(decode(a), decode(b)));
     }
     Exact::Unknown
@@ -108,7 +108,7 @@ pub fn total(a: u32, b: u32, lift: u32) -> Exact
     requires { ⌜ lift ≤ 149 ⌝ }
     ensures { λ r. ⌜ Rounds (λ way. with₂ (lifted lift way) a b) r ⌝ }
 {
-    if both_finite(a, b) {
+    if are_finite(a, b) {
         return Exact::Value(plus(decode(a), decode(b), lift));
     }
     Exact::Unknown

@@ -1,14 +1,17 @@
 // The numbers of binary32 on 32-bit patterns: each operation takes the exact value of its operands and rounds it once.
 // Minus zero is read as zero, and a zero result is the pattern 0. Whole numbers alone are used, no machine floats.
 ghost use mathlib.Core.Path.{_≡_};
-ghost use Rattle.binary32.specs.Operations.{addDown, addUp, addNear, subDown, subUp, subNear, mulDown, mulUp, mulNear, midpointDown, midpointUp, midpointNear, checkedOf};
+ghost use Rattle.binary32.specs.Operations.{addDown, addUp, addNear, subDown, subUp, subNear, mulDown, mulUp, mulNear, midpointDown, midpointUp, midpointNear, rounded, checkedOf};
 
 mod exact;
+pub mod finite;
 mod funnel;
 mod hold;
 pub mod order;
 pub mod partial;
 mod parts;
+
+use refusals::Refusal;
 
 // The format: precision, smallest exponent (one unit is 2^-149) and largest number.
 pub struct Binary32 {
@@ -23,106 +26,105 @@ impl Binary32 {
     pub const LARGEST: u32 = 0x7F7F_FFFF;
 }
 
-// An operation's answer: a number's pattern; 3, an operand has exponent field 255; 5, no finite number is right.
+// An operation's answer: a number's pattern, or 3, an operand has exponent field 255, or 5, no finite number is right.
 pub enum Rounded {
     Number(u32),
-    NotFinite,
-    Overflow,
+    Refused(Refusal),
 }
 
 // The answer of an operation on a and b, where r is its result as a pattern that holds a number or none.
 fn checked(a: u32, b: u32, r: u32) -> Rounded
-    ensures { λ z. ⌜ z ≡ checkedOf a b r ⌝ }
+    ensures { λ z. ⌜ rounded z ≡ checkedOf a b r ⌝ }
 {
-    if !parts::both_finite(a, b) {
-        return Rounded::NotFinite;
+    if !finite::are_finite(a, b) {
+        return Rounded::Refused(Refusal::of_matrix(3, 0));
     }
-    if parts::is_finite(r) {
+    if finite::is_finite(r) {
         return Rounded::Number(r);
     }
-    Rounded::Overflow
+    Rounded::Refused(Refusal::of_matrix(5, 0))
 }
 
 // a + b, rounded down.
 pub fn add_down(a: u32, b: u32) -> Rounded
-    ensures { λ r. ⌜ r ≡ addDown a b ⌝ }
+    ensures { λ r. ⌜ rounded r ≡ addDown a b ⌝ }
 {
     checked(a, b, partial::add_down(a, b))
 }
 
 // a + b, rounded up.
 pub fn add_up(a: u32, b: u32) -> Rounded
-    ensures { λ r. ⌜ r ≡ addUp a b ⌝ }
+    ensures { λ r. ⌜ rounded r ≡ addUp a b ⌝ }
 {
     checked(a, b, partial::add_up(a, b))
 }
 
 // a + b, rounded to nearest.
 pub fn add_near(a: u32, b: u32) -> Rounded
-    ensures { λ r. ⌜ r ≡ addNear a b ⌝ }
+    ensures { λ r. ⌜ rounded r ≡ addNear a b ⌝ }
 {
     checked(a, b, partial::add_near(a, b))
 }
 
 // a - b, rounded down.
 pub fn sub_down(a: u32, b: u32) -> Rounded
-    ensures { λ r. ⌜ r ≡ subDown a b ⌝ }
+    ensures { λ r. ⌜ rounded r ≡ subDown a b ⌝ }
 {
     checked(a, b, partial::sub_down(a, b))
 }
 
 // a - b, rounded up.
 pub fn sub_up(a: u32, b: u32) -> Rounded
-    ensures { λ r. ⌜ r ≡ subUp a b ⌝ }
+    ensures { λ r. ⌜ rounded r ≡ subUp a b ⌝ }
 {
     checked(a, b, partial::sub_up(a, b))
 }
 
 // a - b, rounded to nearest.
 pub fn sub_near(a: u32, b: u32) -> Rounded
-    ensures { λ r. ⌜ r ≡ subNear a b ⌝ }
+    ensures { λ r. ⌜ rounded r ≡ subNear a b ⌝ }
 {
     checked(a, b, partial::sub_near(a, b))
 }
 
 // a × b, rounded down.
 pub fn mul_down(a: u32, b: u32) -> Rounded
-    ensures { λ r. ⌜ r ≡ mulDown a b ⌝ }
+    ensures { λ r. ⌜ rounded r ≡ mulDown a b ⌝ }
 {
     checked(a, b, partial::mul_down(a, b))
 }
 
 // a × b, rounded up.
 pub fn mul_up(a: u32, b: u32) -> Rounded
-    ensures { λ r. ⌜ r ≡ mulUp a b ⌝ }
+    ensures { λ r. ⌜ rounded r ≡ mulUp a b ⌝ }
 {
     checked(a, b, partial::mul_up(a, b))
 }
 
 // a × b, rounded to nearest.
 pub fn mul_near(a: u32, b: u32) -> Rounded
-    ensures { λ r. ⌜ r ≡ mulNear a b ⌝ }
+    ensures { λ r. ⌜ rounded r ≡ mulNear a b ⌝ }
 {
     checked(a, b, partial::mul_near(a, b))
 }
 
 // The exact midpoint of a and b, rounded down.
 pub fn midpoint_down(a: u32, b: u32) -> Rounded
-    ensures { λ r. ⌜ r ≡ midpointDown a b ⌝ }
+    ensures { λ r. ⌜ rounded r ≡ midpointDown a b ⌝ }
 {
     checked(a, b, partial::midpoint_down(a, b))
 }
 
 // The exact midpoint of a and b, rounded up.
 pub fn midpoint_up(a: u32, b: u32) -> Rounded
-    ensures { λ r. ⌜ r ≡ midpointUp a b ⌝ }
+    ensures { λ r. ⌜ rounded r ≡ midpointUp a b ⌝ }
 {
     checked(a, b, partial::midpoint_up(a, b))
 }
 
 // The exact midpoint of a and b, rounded to nearest.
 pub fn midpoint_near(a: u32, b: u32) -> Rounded
-    ensures { λ r. ⌜ r ≡ midpointNear a b ⌝ }
+    ensures { λ r. ⌜ rounded r ≡ midpointNear a b ⌝ }
 {
     checked(a, b, partial::midpoint_near(a, b))
 }

@@ -20,7 +20,7 @@ pub fn magnitude(p: u32) -> u32
     p % 0x8000_0000
 }
 
-// The place of a pattern among all, both zeros at 0.
+// The rank of a pattern among all, both zeros at 0.
 fn key(p: u32) -> i64
     ensures { λ r. ⌜ r ≡ keyOf p ⌝ }
 {

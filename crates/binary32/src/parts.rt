@@ -1,31 +1,14 @@
 // A pattern taken apart, and small steps on the machine's numbers.
 ghost use mathlib.Core.Path.{_≡_};
-ghost use Prim.Native.Nat.{_*_, _^_, _≤_, _<_, min};
+ghost use Prim.Native.Nat.{_^_, _≤_, _<_, min};
 ghost use lib.IntN.{pos, natAbs};
-ghost use Rattle.binary32.specs.Number.{Finite, finite, finites, signedBy};
+ghost use Rattle.binary32.specs.Number.{Finite, signedBy};
 ghost use Rattle.binary32.specs.Steps.{Decoded};
 
 // sig × 2^exp: of a pattern's number in units of 2^-149, of an exact product or sum in 2^-149 of a unit.
 pub struct Parts {
     pub sig: i64,
     pub exp: u32,
-}
-
-// Whether the pattern stands for a number: exponent field 255 does not.
-pub fn is_finite(p: u32) -> bool
-    ensures { λ r. ⌜ r ≡ finite p ⌝ }
-{
-    p % 0x8000_0000 < 0x7F80_0000
-}
-
-// Whether both patterns stand for numbers.
-pub fn both_finite(a: u32, b: u32) -> bool
-    ensures { λ r. ⌜ r ≡ finites a b ⌝ }
-{
-    if !is_finite(a) {
-        return false;
-    }
-    is_finite(b)
 }
 
 // The smaller of two.

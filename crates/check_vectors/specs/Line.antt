@@ -6,20 +6,20 @@ use mathlib.Core.Option.{Option, none, some}
 use Prim.Native.Nat.{ℕ, _^_, _≤_, _<_}
 use lib.Dec.{eqb}
 use lib.ListN.{length, getD, take, drop}
-use Rattle.binary32.specs.Operations.{addDown, addUp, addNear, subDown, subUp, subNear, mulDown, mulUp, mulNear, midpointDown, midpointUp, midpointNear}
-use Rattle.binary32.specs.declared.Rounded.{Rounded}
+use Rattle.refusals.specs.Answer.{Answer}
+use Rattle.binary32.specs.Operations.{addDown, addUp, addNear, subDown, subUp, subNear, mulDown, mulUp, mulNear, midpointDown, midpointUp, midpointNear, rounded}
 use Rattle.check_vectors.specs.declared.line.Word.{Word}
 use Rattle.check_vectors.specs.declared.line.Word.the-variants.{Pattern, Other}
-use Rattle.check_vectors.specs.declared.line.Answer.{Answer}
-use Rattle.check_vectors.specs.declared.line.Answer.the-variants.{Is, Malformed}
+use Rattle.check_vectors.specs.declared.line.Reply.{Reply}
+use Rattle.check_vectors.specs.declared.line.Reply.the-variants.{Is, Malformed}
 use Rattle.check_vectors.specs.Text.{glyph, capitals, textOf}
 
 -- one of three by the letter of its direction: d u n
-abbrev pub byDirection : ℕ → Rounded → Rounded → Rounded → Option Rounded
+abbrev pub byDirection : ℕ → Answer ℕ → Answer ℕ → Answer ℕ → Option (Answer ℕ)
 byDirection y low high close = cond (eqb y 100) (some low) (cond (eqb y 117) (some high) (cond (eqb y 110) (some close) none))
 
 -- the result that two letters ask for, the first of them + - x m
-unfoldable pub resultOf : ℕ → ℕ → ℕ → ℕ → Option Rounded
+unfoldable pub resultOf : ℕ → ℕ → ℕ → ℕ → Option (Answer ℕ)
 resultOf x y a b =
     cond (eqb x 43) (byDirection y (addDown a b) (addUp a b) (addNear a b))
     (cond (eqb x 45) (byDirection y (subDown a b) (subUp a b) (subNear a b))
@@ -42,7 +42,7 @@ pub record Framed (line : List ℕ) : Type 0 where
   pub feed : getD line 29 0 ≡ 10
 
 -- a line that asks for an operation of a and b, whose result is r
-pub record Asks (line : List ℕ) (r : Rounded) : Type 0 where
+pub record Asks (line : List ℕ) (r : Answer ℕ) : Type 0 where
   pub framed : Framed line
   pub a : ℕ
   pub b : ℕ
@@ -52,7 +52,7 @@ pub record Asks (line : List ℕ) (r : Rounded) : Type 0 where
 
 -- the line of a test vector, with the right result
 pub record Right (line : List ℕ) : Type 0 where
-  pub r : Rounded
+  pub r : Answer ℕ
   pub asks : Asks line r
   pub says : take 8 (drop 21 line) ≡ textOf r
 
@@ -71,10 +71,10 @@ abbrev pub Spelt : List ℕ → Word → Type 0
 Spelt s (Pattern n) = Spells s n
 Spelt s Other = Unit {0}
 
-abbrev pub Results : ℕ → ℕ → ℕ → ℕ → Answer → Type 0
-Results x y a b (Is r) = resultOf x y a b ≡ some r
+abbrev pub Results : ℕ → ℕ → ℕ → ℕ → Reply → Type 0
+Results x y a b (Is r) = resultOf x y a b ≡ some (rounded r)
 Results x y a b Malformed = Unit {0}
 
-abbrev pub Answers : List ℕ → Answer → Type 0
-Answers line (Is r) = Asks line r
-Answers line Malformed = Unit {0}
+abbrev pub Replies : List ℕ → Reply → Type 0
+Replies line (Is r) = Asks line (rounded r)
+Replies line Malformed = Unit {0}

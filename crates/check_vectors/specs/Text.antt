@@ -3,8 +3,7 @@ use mathlib.Core.Bool.{cond}
 use mathlib.Core.List.{List, [], _∷_, _++_}
 use Prim.Native.Nat.{ℕ, zero, suc, _+_, _/_, _%_}
 use lib.Dec.{ltb}
-use Rattle.binary32.specs.declared.Rounded.{Rounded}
-use Rattle.binary32.specs.declared.Rounded.the-variants.{Number, NotFinite, Overflow}
+use Rattle.refusals.specs.Answer.{Answer, gives, refuses}
 
 -- the hexadecimal capital of a number below 16
 unfoldable pub glyph : ℕ → ℕ
@@ -15,8 +14,11 @@ unfoldable pub capitals : ℕ → ℕ → List ℕ
 capitals zero n = []
 capitals (suc k) n = capitals k (n / 16) ++ (glyph (n % 16) ∷ [])
 
--- 'refuse ' and the number of the refusal, or the pattern
-unfoldable pub textOf : Rounded → List ℕ
-textOf (Number p) = capitals 8 p
-textOf NotFinite = 114 ∷ 101 ∷ 102 ∷ 117 ∷ 115 ∷ 101 ∷ 32 ∷ 51 ∷ []
-textOf Overflow = 114 ∷ 101 ∷ 102 ∷ 117 ∷ 115 ∷ 101 ∷ 32 ∷ 53 ∷ []
+-- 'refuse ' and a number's last digit
+unfoldable pub refuseText : ℕ → List ℕ
+refuseText n = 114 ∷ 101 ∷ 102 ∷ 117 ∷ 115 ∷ 101 ∷ 32 ∷ glyph (n % 16) ∷ []
+
+-- the pattern, or the number of the refusal
+unfoldable pub textOf : Answer ℕ → List ℕ
+textOf (gives p) = capitals 8 p
+textOf (refuses r) = refuseText (r .number)

@@ -2,7 +2,7 @@
 // (d u n), then come two operands and the result in hexadecimal capitals; a refused result is `refuse 3` or `refuse 5`.
 ghost use mathlib.Core.Path.{_≡_};
 ghost use lib.ListN.{length};
-ghost use Rattle.check_vectors.specs.Line.{Digit, Spelt, Results, Framed, Answers, Right, When};
+ghost use Rattle.check_vectors.specs.Line.{Digit, Spelt, Results, Framed, Replies, Right, When};
 use crate::text::text_of;
 use binary32::Rounded;
 
@@ -13,7 +13,7 @@ pub enum Word {
 }
 
 // The answer to a line's question, if it has one.
-pub enum Answer {
+pub enum Reply {
     Is(Rounded),
     Malformed,
 }
@@ -46,35 +46,35 @@ fn pattern(s: &[u8]) -> Word
 }
 
 // The operation and the direction that two letters name.
-fn operate(x: u8, y: u8, a: u32, b: u32) -> Answer
+fn operate(x: u8, y: u8, a: u32, b: u32) -> Reply
     ensures { λ r. ⌜ Results x y a b r ⌝ }
 {
     match x {
         b'+' => match y {
-            b'd' => Answer::Is(binary32::add_down(a, b)),
-            b'u' => Answer::Is(binary32::add_up(a, b)),
-            b'n' => Answer::Is(binary32::add_near(a, b)),
-            _ => Answer::Malformed,
+            b'd' => Reply::Is(binary32::add_down(a, b)),
+            b'u' => Reply::Is(binary32::add_up(a, b)),
+            b'n' => Reply::Is(binary32::add_near(a, b)),
+            _ => Reply::Malformed,
         },
         b'-' => match y {
-            b'd' => Answer::Is(binary32::sub_down(a, b)),
-            b'u' => Answer::Is(binary32::sub_up(a, b)),
-            b'n' => Answer::Is(binary32::sub_near(a, b)),
-            _ => Answer::Malformed,
+            b'd' => Reply::Is(binary32::sub_down(a, b)),
+            b'u' => Reply::Is(binary32::sub_up(a, b)),
+            b'n' => Reply::Is(binary32::sub_near(a, b)),
+            _ => Reply::Malformed,
         },
         b'x' => match y {
-            b'd' => Answer::Is(binary32::mul_down(a, b)),
-            b'u' => Answer::Is(binary32::mul_up(a, b)),
-            b'n' => Answer::Is(binary32::mul_near(a, b)),
-            _ => Answer::Malformed,
+            b'd' => Reply::Is(binary32::mul_down(a, b)),
+            b'u' => Reply::Is(binary32::mul_up(a, b)),
+            b'n' => Reply::Is(binary32::mul_near(a, b)),
+            _ => Reply::Malformed,
         },
         b'm' => match y {
-            b'd' => Answer::Is(binary32::midpoint_down(a, b)),
-            b'u' => Answer::Is(binary32::midpoint_up(a, b)),
-            b'n' => Answer::Is(binary32::midpoint_near(a, b)),
-            _ => Answer::Malformed,
+            b'd' => Reply::Is(binary32::midpoint_down(a, b)),
+            b'u' => Reply::Is(binary32::midpoint_up(a, b)),
+            b'n' => Reply::Is(binary32::midpoint_near(a, b)),
+            _ => Reply::Malformed,
         },
-        _ => Answer::Malformed,
+        _ => Reply::Malformed,
     }
 }
 
@@ -98,17 +98,17 @@ fn is_framed(line: &[u8]) -> bool
 }
 
 // The library's answer to what the line asks.
-pub fn answer_to(line: &[u8]) -> Answer
-    ensures { λ r. ⌜ Answers (now (line .entry)) r ⌝ }
+pub fn answer_to(line: &[u8]) -> Reply
+    ensures { λ r. ⌜ Replies (now (line .entry)) r ⌝ }
 {
     if !is_framed(line) {
-        return Answer::Malformed;
+        return Reply::Malformed;
     }
     let Word::Pattern(a) = pattern(&line[3..11]) else {
-        return Answer::Malformed;
+        return Reply::Malformed;
     };
     let Word::Pattern(b) = pattern(&line[12..20]) else {
-        return Answer::Malformed;
+        return Reply::Malformed;
     };
     operate(line[0], line[1], a, b)
 }
@@ -118,10 +118,10 @@ pub fn holds(line: &[u8]) -> bool
     ensures { λ r. ⌜ When r (Right (now (line .entry))) ⌝ }
 {
     match answer_to(line) {
-        Answer::Is(r) => {
+        Reply::Is(r) => {
             let text = text_of(r);
             check::same(&line[21..29], &text)
         }
-        Answer::Malformed => false,
+        Reply::Malformed => false,
     }
 }

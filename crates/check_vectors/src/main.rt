@@ -11,7 +11,7 @@ ghost use Rattle.check_vectors.specs.Line.{Right};
 ghost use Rattle.check_vectors.specs.Count.{Counted, AllRight, Room};
 use libc::STDIN_FILENO;
 use libc::STDOUT_FILENO;
-use line::Answer;
+use line::Reply;
 use line::answer_to;
 use line::holds;
 use text::text_of;
@@ -40,12 +40,12 @@ fn print_difference(line: &[u8]) {
     io::write_all(STDOUT_FILENO, b"vector ");
     io::write_all(STDOUT_FILENO, &line[..n]);
     match answer_to(line) {
-        Answer::Is(r) => {
+        Reply::Is(r) => {
             let text = text_of(r);
             io::write_all(STDOUT_FILENO, b" library ");
             io::write_all(STDOUT_FILENO, &text);
         }
-        Answer::Malformed => {
+        Reply::Malformed => {
             io::write_all(STDOUT_FILENO, b" is malformed");
         }
     }

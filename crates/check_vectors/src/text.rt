@@ -1,7 +1,8 @@
 // A result as text, in eight bytes.
 ghost use mathlib.Core.Path.{_≡_};
 ghost use Prim.Native.Nat.{_<_};
-ghost use Rattle.check_vectors.specs.Text.{glyph, capitals, textOf};
+ghost use Rattle.binary32.specs.Operations.{rounded};
+ghost use Rattle.check_vectors.specs.Text.{glyph, capitals, refuseText, textOf};
 use binary32::Rounded;
 
 // The capital of a value.
@@ -26,12 +27,18 @@ fn capitals_of(p: u32) -> [u8; 8]
     text
 }
 
+fn refuse(number: u8) -> [u8; 8]
+    ensures { λ t. ⌜ t ≡ refuseText number ⌝ }
+{
+    let digit = capital((number % 16) as u32);
+    [b'r', b'e', b'f', b'u', b's', b'e', b' ', digit]
+}
+
 pub fn text_of(r: Rounded) -> [u8; 8]
-    ensures { λ t. ⌜ t ≡ textOf r ⌝ }
+    ensures { λ t. ⌜ t ≡ textOf (rounded r) ⌝ }
 {
     match r {
         Rounded::Number(p) => capitals_of(p),
-        Rounded::NotFinite => *b"refuse 3",
-        Rounded::Overflow => *b"refuse 5",
+        Rounded::Refused(x) => refuse(x.number),
     }
 }

@@ -1,95 +1,95 @@
 -- Laws of the whole job, one for each way out, and what its answer tells. Assumes nothing.
 use mathlib.Core.Path.{_≡_, refl, sym, ap, _∙_}
 use mathlib.Core.List.{List}
-use Prim.Native.Nat.{ℕ}
+use Prim.Native.Nat.{ℕ, _≤_}
+use native.Mathlib.Omega.{arith}
 use Rattle.refusals.specs.declared.Refusal.{Refusal}
-use Rattle.refusals.specs.Report.{namedOf}
-use Rattle.sheets.specs.declared.Outcome.{Outcome}
-use Rattle.sheets.specs.declared.Outcome.the-variants as O
+use Rattle.refusals.specs.Refusal.{named}
+use Rattle.refusals.specs.Answer.{Answer, gives, refuses, done, naming}
+use Rattle.refusals.proofs.Answers.{gives-injective, not-both, then-gives, then-refuses, then-tells}
+use Rattle.sheets.specs.declared.Shape.{Shape}
+use Rattle.sheets.specs.declared.Shape.the-variants as S
 use Rattle.sheets.specs.declared.Written.{Written}
 use Rattle.sheets.specs.declared.Written.the-variants as W
 use Rattle.sheets.specs.Layout.{rowsOf, columnsOf}
-use Rattle.sheets.specs.Writing.{writeOf, outAfter}
-use Rattle.products.specs.declared.Outcome as P
-use Rattle.products.specs.declared.Outcome.the-variants as Pv
-use Rattle.products.specs.Product.{outcomeOf}
-use Rattle.coupling.specs.Job.{zeros, operands, produced, Multiplied, productOf, Sheets, resultLowers, resultUppers, writeAs, afterProduct, jobOf, outOf}
-use Rattle.coupling.proofs.Stages.{not-done}
-
-pub record Produced (p : P.Outcome) (r c x y : ℕ) : Type 0 where
-  pub outcome : p ≡ Pv.Done
-  pub rows : r ≡ x
-  pub columns : c ≡ y
-
-rowsIn : Outcome → ℕ
-rowsIn (O.Done x y) = x
-rowsIn (O.Refused x) = 0
-
-columnsIn : Outcome → ℕ
-columnsIn (O.Done x y) = y
-columnsIn (O.Refused x) = 0
-
-produced-tells : (r c : ℕ) (p : P.Outcome) (x y : ℕ) → produced r c p ≡ O.Done x y → Produced p r c x y
-unfolding rowsIn columnsIn
-produced-tells r c Pv.Done x y e = record { outcome = refl; rows = ap rowsIn e; columns = ap columnsIn e }
-produced-tells r c (Pv.Refused z) x y e = absurd (not-done e)
+use Rattle.sheets.specs.Reading.{shape}
+use Rattle.sheets.specs.Writing.{written, writeOf, outAfter}
+use Rattle.sheets.proofs.Rooms.{bytes-tell}
+use Rattle.products.specs.Product.{productOf}
+use Rattle.products.specs.Demand.{Keeps}
+use Rattle.coupling.specs.Job.{array, operands, sheetsRead, sheetsProductOf, Sheets, resultLowers, resultUppers, jobOf, outOf}
 
 -- ---- the product is there, with rows and columns r and c and its bounds in lo and up
 pub record Ready (method : ℕ) (a b : List ℕ) (r c : ℕ) (lo up : List ℕ) : Type 0 where
-  pub product : productOf method a b 1024 1024 ≡ O.Done r c
-  pub outcome : outcomeOf (operands method a b 1024 1024) ≡ Pv.Done
+  pub product : sheetsProductOf method a b 1024 1024 ≡ gives (r, c)
   pub rows : rowsOf a ≡ r
   pub columns : columnsOf b ≡ c
-  pub made : Multiplied (operands method a b 1024 1024) zeros zeros (O.Done r c) lo up
+  pub lowers : lo ≡ resultLowers method a b
+  pub uppers : up ≡ resultUppers method a b
+  pub keeps : Keeps (operands method a b 1024 1024) lo up
+
+-- what a product of two sheets that is not refused tells
+pub record Produced (method : ℕ) (a b : List ℕ) (r c : ℕ) : Type 0 where
+  pub read : (x : ℕ × ℕ) × (sheetsRead method a b ≡ gives x)
+  pub product : productOf (operands method a b 1024 1024) ≡ done
+  pub rows : rowsOf a ≡ r
+  pub columns : columnsOf b ≡ c
+
+pub produced : (method : ℕ) (a b : List ℕ) (r c : ℕ) → sheetsProductOf method a b 1024 1024 ≡ gives (r, c) → Produced method a b r c
+unfolding sheetsProductOf
+produced method a b r c e =
+    let s = then-tells (sheetsRead method a b) _ (r, c) e in
+    let t = then-tells (productOf (operands method a b 1024 1024)) (gives (rowsOf a, columnsOf b)) (r, c) (s .1) in
+    let p : _≡_ {A = ℕ × ℕ} (rowsOf a, columnsOf b) (r, c) = gives-injective (t .1) in
+    record { read = s .0; product = t .0 .1; rows = ap (λ (x : ℕ × ℕ). x .0) p; columns = ap (λ (x : ℕ × ℕ). x .1) p }
 
 module _ (method : ℕ) (a b : List ℕ) where
-  pub ready : {o : Outcome} {r c : ℕ} {lo up : List ℕ} → Sheets method a b zeros zeros o lo up → o ≡ O.Done r c → Ready method a b r c lo up
-  ready {o = o} {r = r} {c = c} {lo = lo} {up = up} s e =
-      let m : Multiplied (operands method a b 1024 1024) zeros zeros o lo up = s .made r c e in
-      let t = produced-tells (rowsOf a) (columnsOf b) (outcomeOf (operands method a b 1024 1024)) r c (sym (m .answer) ∙ e) in
-      record {
-        product = sym (s .answer) ∙ e;
-        outcome = t .outcome;
-        rows = t .rows;
-        columns = t .columns;
-        made = record { answer = sym e ∙ m .answer; lowers = m .lowers; uppers = m .uppers; keeps = m .keeps };
-      }
+  pub ready : {o : Shape} {r c : ℕ} {lo up : List ℕ} → Sheets method a b array array o lo up → o ≡ S.Sizes r c → Ready method a b r c lo up
+  ready {o = o} {r = r} {c = c} s e =
+      let p : sheetsProductOf method a b 1024 1024 ≡ gives (r, c) = sym (s .answer) ∙ ap shape e in
+      let t = produced method a b r c p in
+      record { product = p; rows = t .rows; columns = t .columns; lowers = s .lowers; uppers = s .uppers; keeps = s .keeps (r, c) (ap shape e) }
 
-  pub job-refused : (room : ℕ) {o : Outcome} {lo up : List ℕ} (x : Refusal) → Sheets method a b zeros zeros o lo up → o ≡ O.Refused x → W.Refused x ≡ jobOf method a b room
+  abbrev last : ℕ → Answer ℕ
+  last room = naming 3 (writeOf (rowsOf a) (columnsOf b) (resultLowers method a b) (resultUppers method a b) room)
+
+  pub job-refused : (room : ℕ) {o : Shape} {lo up : List ℕ} (x : Refusal) → Sheets method a b array array o lo up → o ≡ S.Refused x → refuses x ≡ jobOf method a b room
   unfolding jobOf
-  job-refused room x s e = ap (λ o. afterProduct o (writeAs (writeOf (rowsOf a) (columnsOf b) (resultLowers method a b) (resultUppers method a b) room))) (sym e ∙ s .answer)
+  job-refused room x s e = then-refuses _ (last room) x (sym (s .answer) ∙ ap shape e)
 
-  pub out-refused : (x : Refusal) (d : List ℕ) → d ≡ outOf method a b (W.Refused x) d
+  pub out-refused : (x : Refusal) (d : List ℕ) → d ≡ outOf method a b (refuses x) d
   unfolding outOf outAfter
   out-refused x d = refl
 
   module _ {r c : ℕ} {lo up : List ℕ} (R : Ready method a b r c lo up) where
-    written : (room : ℕ) (w : Written) → w ≡ writeOf r c lo up room → w ≡ writeOf (rowsOf a) (columnsOf b) (resultLowers method a b) (resultUppers method a b) room
-    written room w e =
-        e ∙ ap (λ n. writeOf n c lo up room) (sym (R .rows)) ∙ ap (λ n. writeOf (rowsOf a) n lo up room) (sym (R .columns))
-        ∙ ap (λ l. writeOf (rowsOf a) (columnsOf b) l up room) (R .made .lowers) ∙ ap (λ l. writeOf (rowsOf a) (columnsOf b) (resultLowers method a b) l room) (R .made .uppers)
-
-    pub job-written : (room : ℕ) (w : Written) → w ≡ writeOf r c lo up room → writeAs w ≡ jobOf method a b room
+    pub job-written : (room : ℕ) (w : Answer ℕ) → w ≡ writeOf r c lo up room → naming 3 w ≡ jobOf method a b room
     unfolding jobOf
     job-written room w e =
-        ap writeAs (written room w e)
-        ∙ ap (λ o. afterProduct o (writeAs (writeOf (rowsOf a) (columnsOf b) (resultLowers method a b) (resultUppers method a b) room))) (sym (R .product))
+        let f : w ≡ writeOf (rowsOf a) (columnsOf b) (resultLowers method a b) (resultUppers method a b) room = e ∙ rw (R .rows, R .columns, R .lowers, R .uppers) in
+        then-gives _ (r, c) (last room) (naming 3 w) (R .product) (ap (naming 3) f)
 
-    out-written : (w : Written) (d d′ : List ℕ) → d′ ≡ outAfter r c lo up w d → d′ ≡ outOf method a b w d
+    out-written : (w : Answer ℕ) (d d′ : List ℕ) → d′ ≡ outAfter r c lo up w d → d′ ≡ outOf method a b w d
     unfolding outOf
-    out-written w d d′ e =
-        e ∙ ap (λ n. outAfter n c lo up w d) (sym (R .rows)) ∙ ap (λ n. outAfter (rowsOf a) n lo up w d) (sym (R .columns))
-        ∙ ap (λ l. outAfter (rowsOf a) (columnsOf b) l up w d) (R .made .lowers) ∙ ap (λ l. outAfter (rowsOf a) (columnsOf b) (resultLowers method a b) l w d) (R .made .uppers)
+    out-written w d d′ e = e ∙ rw (R .rows, R .columns, R .lowers, R .uppers)
 
-    pub job-bytes : (room n : ℕ) (w : Written) → w ≡ writeOf r c lo up room → w ≡ W.Bytes n → W.Bytes n ≡ jobOf method a b room
-    job-bytes room n w e f = ap writeAs (sym f) ∙ job-written room w e
+    pub out-bytes : (n : ℕ) (w : Written) (d d′ : List ℕ) → d′ ≡ outAfter r c lo up (written w) d → w ≡ W.Bytes n → d′ ≡ outOf method a b (gives n) d
+    out-bytes n w d d′ e f = out-written (gives n) d d′ (e ∙ ap (λ v. outAfter r c lo up (written v) d) f)
 
-    pub out-bytes : (n : ℕ) (w : Written) (d d′ : List ℕ) → d′ ≡ outAfter r c lo up w d → w ≡ W.Bytes n → d′ ≡ outOf method a b (W.Bytes n) d
-    out-bytes n w d d′ e f = out-written (W.Bytes n) d d′ (e ∙ ap (λ v. outAfter r c lo up v d) f)
+    pub job-room : (room : ℕ) (x y : Refusal) (w : Written) → written w ≡ writeOf r c lo up room → w ≡ W.Refused x → y ≡ named 3 x → refuses y ≡ jobOf method a b room
+    job-room room x y w e f g = ap refuses g ∙ job-written room (refuses x) (sym (ap written f) ∙ e)
 
-    pub job-room : (room : ℕ) (x y : Refusal) (w : Written) → w ≡ writeOf r c lo up room → w ≡ W.Refused x → y ≡ namedOf 3 x → W.Refused y ≡ jobOf method a b room
-    job-room room x y w e f g = ap W.Refused g ∙ ap writeAs (sym f) ∙ job-written room w e
-
-    pub out-room : (x y : Refusal) (w : Written) (d d′ : List ℕ) → d′ ≡ outAfter r c lo up w d → w ≡ W.Refused x → d′ ≡ outOf method a b (W.Refused y) d
+    pub out-room : (x y : Refusal) (w : Written) (d d′ : List ℕ) → d′ ≡ outAfter r c lo up (written w) d → w ≡ W.Refused x → d′ ≡ outOf method a b (refuses y) d
     unfolding outAfter outOf
-    out-room x y w d d′ e f = e ∙ ap (λ v. outAfter r c lo up v d) f
+    out-room x y w d d′ e f = e ∙ ap (λ v. outAfter r c lo up (written v) d) f
+
+-- ---- a length that the job answers is small
+named-tells : (w : Answer ℕ) (n : ℕ) → naming 3 w ≡ gives n → w ≡ gives n
+named-tells (gives m) n e = e
+named-tells (refuses x) n e = absurd (not-both e)
+
+pub job-small : (method : ℕ) (a b : List ℕ) (room n : ℕ) → gives n ≡ jobOf method a b room → n ≤ 16400
+unfolding jobOf
+job-small method a b room n e =
+    let t = then-tells (sheetsProductOf method a b 1024 1024) (last method a b room) n (sym e) in
+    let g = bytes-tell (rowsOf a) (columnsOf b) (resultLowers method a b) (resultUppers method a b) room n (named-tells _ n (t .1)) in
+    omega (arith, g .bytes, g .few, g .counted)

@@ -1,9 +1,3 @@
-pub mod Methods
 pub mod Stages
 pub mod Jobs
-pub mod Places
-pub mod ReadPlaces
-pub mod WritePlaces
-pub mod ProductPlaces
-pub mod Codes
 pub mod Deliveries

@@ -6,10 +6,8 @@ use lib.ListN.{getD, take}
 use Rattle.enclosure.specs.Cell.{Cell}
 use Rattle.enclosure.specs.Demand.{Kept}
 use Rattle.enclosure.specs.Methods.{Range}
+use Rattle.refusals.specs.Answer.{Answer, gives, refuses}
 use Rattle.binary32.specs.Number.{valueOf}
-use Rattle.sheets.specs.declared.Outcome.the-variants as O
-use Rattle.sheets.specs.declared.Written.{Written}
-use Rattle.sheets.specs.declared.Written.the-variants as W
 use Rattle.sheets.specs.Layout.{rowsOf, columnsOf}
 use Rattle.products.specs.Matrix.{Matrix, cellAt}
 use Rattle.products.specs.Checks.{chosen}
@@ -32,13 +30,13 @@ rangeIn s columns i j = record { lower = valueOf (getD (lowersIn s) (i * columns
 
 -- ---- a and b are sheets that fit, s is one of A's rows and B's columns, and what was demanded of a product holds of its ranges
 pub record Delivered (method : ℕ) (a b s : List ℕ) : Type 0 where
-  pub first : sheetRead a ≡ O.Done (rowsOf a) (columnsOf a)
-  pub second : sheetRead b ≡ O.Done (rowsOf b) (columnsOf b)
+  pub first : sheetRead a ≡ gives (rowsOf a, columnsOf a)
+  pub second : sheetRead b ≡ gives (rowsOf b, columnsOf b)
   pub inner : columnsOf a ≡ rowsOf b
-  pub reads : sheetRead s ≡ O.Done (rowsOf a) (columnsOf b)
+  pub reads : sheetRead s ≡ gives (rowsOf a, columnsOf b)
   pub keeps : (i j : ℕ) → i < rowsOf a → j < columnsOf b → Kept (chosen method) (columnsOf a) (rowIn a i) (columnIn b j) (rangeIn s (columnsOf b) i j)
 
 -- of the job's answer, and the buffer that it left
-unfoldable pub JobKeeps : ℕ → List ℕ → List ℕ → Written → List ℕ → Type 0
-JobKeeps method a b (W.Bytes n) out = Delivered method a b (take n out)
-JobKeeps method a b (W.Refused x) out = Unit {0}
+unfoldable pub JobKeeps : ℕ → List ℕ → List ℕ → Answer ℕ → List ℕ → Type 0
+JobKeeps method a b (gives n) out = Delivered method a b (take n out)
+JobKeeps method a b (refuses x) out = Unit {0}

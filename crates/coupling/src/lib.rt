@@ -2,41 +2,30 @@
 // Work is in arrays of 1,024 numbers. A refusal leaves the out buffer as it was.
 ghost use mathlib.Core.Path.{_≡_};
 ghost use lib.ListN.{length};
-ghost use Rattle.sheets.specs.Reading.{readOf, lowersAfter, uppersAfter};
-ghost use Rattle.products.specs.Checks.{given, known, methodOf};
-ghost use Rattle.coupling.specs.Code.{coded};
+ghost use Rattle.refusals.specs.Answer.{naming, coded};
+ghost use Rattle.sheets.specs.Reading.{shape, readOf, lowersAfter, uppersAfter};
+ghost use Rattle.sheets.specs.Writing.{written};
+ghost use Rattle.products.specs.Checks.{given};
 ghost use Rattle.coupling.specs.Demand.{JobKeeps};
-ghost use Rattle.coupling.specs.Job.{readAs, Multiplied, Sheets, jobOf, outOf};
-
-mod answer;
-
-use refusals::Refusal;
-use refusals::named;
-use sheets::Outcome;
+ghost use Rattle.coupling.specs.Job.{Multiplied, Sheets, jobOf, outOf};
+use products::methods::check_method;
+use refusals::Outcome;
+use sheets::Shape;
 use sheets::Written;
 
-fn is_method(method: u32) -> bool
-    ensures { λ r. ⌜ r ≡ known (methodOf method) ⌝ }
-{
-    match method {
-        1 | 3 | 4 | 7 => true,
-        _ => false,
-    }
-}
-
 // Reads a sheet; a refusal names this matrix.
-fn read_as(matrix: u32, s: &[u8], lowers: &mut [u32], uppers: &mut [u32]) -> Outcome
-    ensures answer { λ r. ⌜ r ≡ readAs matrix (readOf (now (s .entry)) (length (now (lowers .entry))) (length (now (uppers .entry)))) ⌝ }
-    ensures below { λ r. ⌜ now (lowers .exit) ≡ lowersAfter (now (s .entry)) r (now (lowers .entry)) ⌝ }
-    ensures above { λ r. ⌜ now (uppers .exit) ≡ uppersAfter (now (s .entry)) r (now (uppers .entry)) ⌝ }
+fn read_as(matrix: u8, s: &[u8], lowers: &mut [u32], uppers: &mut [u32]) -> Shape
+    ensures answer { λ r. ⌜ shape r ≡ naming matrix (readOf (now (s .entry)) (length (now (lowers .entry))) (length (now (uppers .entry)))) ⌝ }
+    ensures below { λ r. ⌜ now (lowers .exit) ≡ lowersAfter (now (s .entry)) (shape r) (now (lowers .entry)) ⌝ }
+    ensures above { λ r. ⌜ now (uppers .exit) ≡ uppersAfter (now (s .entry)) (shape r) (now (uppers .entry)) ⌝ }
 {
     match sheets::read(s, lowers, uppers) {
-        Outcome::Done(rows, columns) => Outcome::Done(rows, columns),
-        Outcome::Refused(r) => Outcome::Refused(named(matrix, r)),
+        Shape::Sizes(rows, columns) => Shape::Sizes(rows, columns),
+        Shape::Refused(r) => Shape::Refused(r.named(matrix)),
     }
 }
 
-// The product of two matrices, with work arrays of its own: rows and columns of the result, or the product's refusal.
+// The product of two matrices, with work arrays of its own.
 fn multiply(
     method: u32,
     a_rows: usize,
@@ -56,7 +45,7 @@ fn multiply(
     let mut ra = [0u32; 1024];
     let mut mb = [0u32; 1024];
     let mut rb = [0u32; 1024];
-    match products::product(
+    products::product(
         method,
         a_rows,
         a_columns,
@@ -72,26 +61,28 @@ fn multiply(
         &mut rb,
         lo,
         up,
-    ) {
-        products::Outcome::Done => Outcome::Done(a_rows, b_columns),
-        products::Outcome::Refused(r) => Outcome::Refused(r),
-    }
+    )
 }
 
 // 9, then A's sheet, then B's, then their product. That A's columns are B's rows is the product's first check.
-pub fn multiply_sheets(method: u32, a: &[u8], b: &[u8], lo: &mut [u32], up: &mut [u32]) -> Outcome
+pub fn multiply_sheets(method: u32, a: &[u8], b: &[u8], lo: &mut [u32], up: &mut [u32]) -> Shape
     ensures { λ r. ⌜ Sheets method (now (a .entry)) (now (b .entry)) (now (lo .entry)) (now (up .entry)) r (now (lo .exit)) (now (up .exit)) ⌝ }
 {
-    if !is_method(method) {
-        return Outcome::Refused(Refusal::Method);
+    match check_method(method) {
+        Outcome::Done => {}
+        Outcome::Refused(r) => {
+            return Shape::Refused(r);
+        }
     }
     let mut al = [0u32; 1024];
     let mut au = [0u32; 1024];
     let mut bl = [0u32; 1024];
     let mut bu = [0u32; 1024];
     match read_as(1, a, &mut al, &mut au) {
-        Outcome::Done(a_rows, a_columns) => match read_as(2, b, &mut bl, &mut bu) {
-            Outcome::Done(b_rows, b_columns) => multiply(
+        Shape::Refused(r) => Shape::Refused(r),
+        Shape::Sizes(a_rows, a_columns) => match read_as(2, b, &mut bl, &mut bu) {
+            Shape::Refused(r) => Shape::Refused(r),
+            Shape::Sizes(b_rows, b_columns) => match multiply(
                 method,
                 a_rows,
                 a_columns,
@@ -103,27 +94,28 @@ pub fn multiply_sheets(method: u32, a: &[u8], b: &[u8], lo: &mut [u32], up: &mut
                 &bu,
                 lo,
                 up,
-            ),
-            Outcome::Refused(r) => Outcome::Refused(r),
+            ) {
+                Outcome::Refused(r) => Shape::Refused(r),
+                Outcome::Done => Shape::Sizes(a_rows, b_columns),
+            },
         },
-        Outcome::Refused(r) => Outcome::Refused(r),
     }
 }
 
 // The whole job; 11 names the result.
 fn run(method: u32, a: &[u8], b: &[u8], out: &mut [u8]) -> Written
-    ensures answer { λ r. ⌜ r ≡ jobOf method (now (a .entry)) (now (b .entry)) (length (now (out .entry))) ⌝ }
-    ensures left { λ r. ⌜ now (out .exit) ≡ outOf method (now (a .entry)) (now (b .entry)) r (now (out .entry)) ⌝ }
-    ensures keeps { λ r. ⌜ JobKeeps method (now (a .entry)) (now (b .entry)) r (now (out .exit)) ⌝ }
+    ensures answer { λ r. ⌜ written r ≡ jobOf method (now (a .entry)) (now (b .entry)) (length (now (out .entry))) ⌝ }
+    ensures left { λ r. ⌜ now (out .exit) ≡ outOf method (now (a .entry)) (now (b .entry)) (written r) (now (out .entry)) ⌝ }
+    ensures keeps { λ r. ⌜ JobKeeps method (now (a .entry)) (now (b .entry)) (written r) (now (out .exit)) ⌝ }
 {
     let mut lo = [0u32; 1024];
     let mut up = [0u32; 1024];
     match multiply_sheets(method, a, b, &mut lo, &mut up) {
-        Outcome::Done(rows, columns) => match sheets::put(rows, columns, &lo, &up, out) {
+        Shape::Refused(r) => Written::Refused(r),
+        Shape::Sizes(rows, columns) => match sheets::put(rows, columns, &lo, &up, out) {
             Written::Bytes(n) => Written::Bytes(n),
-            Written::Refused(r) => Written::Refused(named(3, r)),
+            Written::Refused(r) => Written::Refused(r.named(3)),
         },
-        Outcome::Refused(r) => Written::Refused(r),
     }
 }
 
@@ -131,9 +123,12 @@ fn run(method: u32, a: &[u8], b: &[u8], out: &mut [u8]) -> Written
 // The ranges of a sheet written, read back, enclose every product of picks from the two sheets.
 #[no_mangle]
 pub extern "C" fn coupling_multiply(method: u32, a: &[u8], b: &[u8], out: &mut [u8]) -> u32
-    ensures answer { λ r. ⌜ r ≡ coded (jobOf method (now (a .entry)) (now (b .entry)) (length (now (out .entry)))) ⌝ }
+    ensures answer { λ r. ⌜ r ≡ coded (λ n. n) (jobOf method (now (a .entry)) (now (b .entry)) (length (now (out .entry)))) ⌝ }
     ensures left { λ r. ⌜ now (out .exit) ≡ outOf method (now (a .entry)) (now (b .entry)) (jobOf method (now (a .entry)) (now (b .entry)) (length (now (out .entry)))) (now (out .entry)) ⌝ }
     ensures keeps { λ r. ⌜ JobKeeps method (now (a .entry)) (now (b .entry)) (jobOf method (now (a .entry)) (now (b .entry)) (length (now (out .entry)))) (now (out .exit)) ⌝ }
 {
-    answer::code(run(method, a, b, out))
+    match run(method, a, b, out) {
+        Written::Bytes(n) => n as u32,
+        Written::Refused(r) => r.code(),
+    }
 }

@@ -76,6 +76,6 @@ module _ {A : Arithmetic} (L : Laws A) where
       (record {
         lower-side = sum-below L units (λ l. leastTerm A (a l) (b l)) (λ l. leastCorner (a l) (b l)) k
             (λ l i t f. least-term-below (a l) (b l) t f) (c .first);
-        upper-side = sum-above L units (λ l. greatestTerm A (a l) (b l)) (λ l. greatestCorner (a l) (b l)) k
+        upper-side = sum-above L units (λ l. greatestTerm A (a l) (b l)) (λ l. greatestCorner (a l) (b l)) 0 k
             (λ l i t f. greatest-term-above (a l) (b l) t f) (d .first);
       })

@@ -47,7 +47,7 @@ module _ {A : Arithmetic} (L : Laws A) (k : ℕ) (a b : ℕ → Cell) where
 
   pub centre-above : {s : ℤ} → centre A k a b up ≡ some s → Σ< k (mids a b) ≼ s *ℤ pos units
   unfolding centre total
-  centre-above h = sum-above L units (λ l. midTerm A up (a l) (b l)) (mids a b) k (λ l i t f. mids-above L a b l t f) h
+  centre-above h = sum-above L units (λ l. midTerm A up (a l) (b l)) (mids a b) 0 k (λ l i t f. mids-above L a b l t f) h
 
   pub centre-below : {s : ℤ} → centre A k a b down ≡ some s → s *ℤ pos units ≼ Σ< k (mids a b)
   unfolding centre total
@@ -57,9 +57,9 @@ module _ {A : Arithmetic} (L : Laws A) (k : ℕ) (a b : ℕ → Cell) where
     pub radius-above : {r : ℤ} → radius₄ A k a b ≡ some r → Σ< k (inner a b) +ℤ Σ< k (outer a b) ≼ r *ℤ pos units
     unfolding radius₄ total
     radius-above h =
-        let c = bound (total A k a b up (innerTerm A) (pos 0)) _ h in
+        let c = bound _ _ h in
         continued-above L units (λ l. outerTerm A (a l) (b l)) (outer a b) (c .value)
-        (sum-above L units (λ l. innerTerm A (a l) (b l)) (inner a b) k (λ l i t f. inner-above L a b l t f) (c .first))
+        (sum-above L units (λ l. innerTerm A (a l) (b l)) (inner a b) _ k (λ l i t f. inner-above L a b l t f) (c .first))
         k (λ l i t f. outer-above L a b l t (oka l i .rad-nonneg) f) (c .then)
 
     pub four-covers : (e : Range) → entry A four k a b ≡ some e → Covers units k a b e

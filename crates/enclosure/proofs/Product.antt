@@ -8,7 +8,7 @@ use Rattle.enclosure.specs.Arithmetic.{of}
 use Rattle.enclosure.specs.Cell.{Cell}
 use Rattle.enclosure.specs.Methods.{Method, Range, entry}
 use Rattle.enclosure.specs.Fraction.{Fraction, In}
-use Rattle.enclosure.specs.Demand.{Valid, Kept, productOf}
+use Rattle.enclosure.specs.Demand.{Valid, Kept, fractionProduct}
 use Rattle.enclosure.proofs.Demand.{binary32-encloses, demand-kept}
 
 module _ (m : Method) (M k N : ℕ) (few : k ≤ 32) (A B : ℕ → ℕ → Cell)
@@ -18,7 +18,7 @@ module _ (m : Method) (M k N : ℕ) (few : k ≤ 32) (A B : ℕ → ℕ → Cell
   pub product-encloses : (X Y : ℕ → ℕ → Fraction)
       → ((i l : ℕ) → i < M → l < k → In (units binary32) (A i l .low) (A i l .high) (X i l))
       → ((l j : ℕ) → l < k → j < N → In (units binary32) (B l j .low) (B l j .high) (Y l j))
-      → (i j : ℕ) → i < M → j < N → In (units binary32) (e i j .lower) (e i j .upper) (productOf k X Y i j)
+      → (i j : ℕ) → i < M → j < N → In (units binary32) (e i j .lower) (e i j .upper) (fractionProduct k X Y i j)
   product-encloses X Y p q i j i< j< =
       binary32-encloses m k (λ l. A i l) (λ l. B l j) (e i j) few (λ l l<. va i l i< l<) (λ l l<. vb l j l< j<) (h i j i< j<)
       (λ l. X i l) (λ l. Y l j) (λ l l<. p i l i< l<) (λ l l<. q l j l< j<)

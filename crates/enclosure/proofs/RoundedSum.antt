@@ -36,8 +36,8 @@ module _ (N : ℕ) (S v : ℤ) where
   from-zero-below : v *ℤ pos N ≼ pos 0 +ℤ S → v *ℤ pos N ≼ S
   from-zero-below h = lin-le (pos N ∷ S ∷ v ∷ []) (le h ∷ []) (search reading depth 20) (omega arith)
 
-  zero-above : pos 0 ≼ pos 0 *ℤ pos N
-  zero-above = lin-le (pos N ∷ []) [] (search reading depth 20) (omega arith)
+  zero-above : (m : ℕ) → pos 0 ≼ pos m *ℤ pos N
+  zero-above m = lin-le (pos N ∷ pos m ∷ []) (le (nonneg m ⊠ nonneg N) ∷ []) (search reading depth 20) (omega arith)
 
   zero-below : pos 0 *ℤ pos N ≼ pos 0
   zero-below = lin-le (pos N ∷ []) [] (search reading depth 20) (omega arith)
@@ -66,8 +66,9 @@ module _ {A : Arithmetic} (L : Laws A) (N : ℕ) (f : ℕ → Option ℤ) (X : �
       let i = continued-below s p n (λ l i. h l (omega arith)) (c .ran) in
       turn-below N X₀ (Σ< n X) (X n) (c .before) (c .term) v i (h n (omega arith) (c .term) (c .got)) (down-sum L (c .added))
 
-  pub sum-above : (n : ℕ) → Above n → {v : ℤ} → sum (A .up 1) f (pos 0) n ≡ some v → Σ< n X ≼ v *ℤ pos N
-  sum-above n h {v} e = from-zero-above N (Σ< n X) v (continued-above (pos 0) (zero-above N (Σ< n X) v) n h e)
+  -- from zero, or any number above it
+  pub sum-above : (m n : ℕ) → Above n → {v : ℤ} → sum (A .up 1) f (pos m) n ≡ some v → Σ< n X ≼ v *ℤ pos N
+  sum-above m n h {v} e = from-zero-above N (Σ< n X) v (continued-above (pos m) (zero-above N (Σ< n X) v m) n h e)
 
   pub sum-below : (n : ℕ) → Below n → {v : ℤ} → sum (A .down 1) f (pos 0) n ≡ some v → v *ℤ pos N ≼ Σ< n X
   sum-below n h {v} e = from-zero-below N (Σ< n X) v (continued-below (pos 0) (zero-below N (Σ< n X) v) n h e)

@@ -85,7 +85,7 @@ module _ {A : Arithmetic} (L : Laws A) (k : ℕ) (a b : ℕ → Cell) (oka : Eac
       let d = bound (up 1 (c .value +ℤ pos tiny)) _ (c .then) in
       continued-above L N (λ l. outerTerm A (a l) (b l)) outer-exact (d .value)
       (constant-above N tiny (c .value) (d .value) (Σ< k raised-exact)
-      (sum-above L N (λ l. raisedTerm A k (a l) (b l)) raised-exact k (λ l i t f. raised-above l t f) (c .first)) (up-sum L (d .first)))
+      (sum-above L N (λ l. raisedTerm A k (a l) (b l)) raised-exact 0 k (λ l i t f. raised-above l t f) (c .first)) (up-sum L (d .first)))
       k (λ l i t f. finer P units (outer a b l) t (outer-above L a b l t (oka l i .rad-nonneg) f)) (d .then)
 
   raised-sum : Σ< k raised-exact ≡ pos ((k + 2) * magnitudes k (mids a b)) +ℤ pos (2 * P) *ℤ Σ< k (inner a b)

@@ -1,10 +1,8 @@
--- An answer as one 32-bit number. Definitions only.
-use Prim.Native.Nat.{ℕ}
-use Rattle.binary32.specs.declared.Rounded.{Rounded}
-use Rattle.binary32.specs.declared.Rounded.the-variants.{Number, NotFinite, Overflow}
+-- An answer as one pattern. Definitions only.
+use Prim.Native.Nat.{ℕ, _+_}
+use Rattle.refusals.specs.Answer.{Answer, gives, refuses}
 
 -- a number's pattern never has exponent field 255, so a refusal's number stands in such a pattern
-abbrev pub coded : Rounded → ℕ
-coded (Number p) = p
-coded NotFinite = 0x7F800003
-coded Overflow = 0x7F800005
+abbrev pub patternFor : Answer ℕ → ℕ
+patternFor (gives p) = p
+patternFor (refuses r) = 0x7F800000 + r .number

@@ -1,100 +1,99 @@
 // The operations of binary32 for callers in C. Each takes two patterns and returns the pattern of the result, or, where the operation is
 // refused, 0x7F800003 (refusal 3, an operand has exponent field 255) or 0x7F800005 (refusal 5, no finite number is right).
 ghost use mathlib.Core.Path.{_≡_};
-ghost use Rattle.binary32.specs.Operations.{addDown, addUp, addNear, subDown, subUp, subNear, mulDown, mulUp, mulNear, midpointDown, midpointUp, midpointNear};
-ghost use Rattle.face.specs.Code.{coded};
+ghost use Rattle.binary32.specs.Operations.{addDown, addUp, addNear, subDown, subUp, subNear, mulDown, mulUp, mulNear, midpointDown, midpointUp, midpointNear, rounded};
+ghost use Rattle.face.specs.Code.{patternFor};
 use binary32::Rounded;
 
-fn code(r: Rounded) -> u32
-    ensures { λ z. ⌜ z ≡ coded r ⌝ }
+fn pattern_for(r: Rounded) -> u32
+    ensures { λ z. ⌜ z ≡ patternFor (rounded r) ⌝ }
 {
     match r {
         Rounded::Number(p) => p,
-        Rounded::NotFinite => 0x7F80_0003,
-        Rounded::Overflow => 0x7F80_0005,
+        Rounded::Refused(x) => 0x7F80_0000 + x.number as u32,
     }
 }
 
 #[no_mangle]
 pub extern "C" fn fody_add_down(a: u32, b: u32) -> u32
-    ensures { λ r. ⌜ r ≡ coded (addDown a b) ⌝ }
+    ensures { λ r. ⌜ r ≡ patternFor (addDown a b) ⌝ }
 {
-    code(binary32::add_down(a, b))
+    pattern_for(binary32::add_down(a, b))
 }
 
 #[no_mangle]
 pub extern "C" fn fody_add_up(a: u32, b: u32) -> u32
-    ensures { λ r. ⌜ r ≡ coded (addUp a b) ⌝ }
+    ensures { λ r. ⌜ r ≡ patternFor (addUp a b) ⌝ }
 {
-    code(binary32::add_up(a, b))
+    pattern_for(binary32::add_up(a, b))
 }
 
 #[no_mangle]
 pub extern "C" fn fody_add_near(a: u32, b: u32) -> u32
-    ensures { λ r. ⌜ r ≡ coded (addNear a b) ⌝ }
+    ensures { λ r. ⌜ r ≡ patternFor (addNear a b) ⌝ }
 {
-    code(binary32::add_near(a, b))
+    pattern_for(binary32::add_near(a, b))
 }
 
 #[no_mangle]
 pub extern "C" fn fody_sub_down(a: u32, b: u32) -> u32
-    ensures { λ r. ⌜ r ≡ coded (subDown a b) ⌝ }
+    ensures { λ r. ⌜ r ≡ patternFor (subDown a b) ⌝ }
 {
-    code(binary32::sub_down(a, b))
+    pattern_for(binary32::sub_down(a, b))
 }
 
 #[no_mangle]
 pub extern "C" fn fody_sub_up(a: u32, b: u32) -> u32
-    ensures { λ r. ⌜ r ≡ coded (subUp a b) ⌝ }
+    ensures { λ r. ⌜ r ≡ patternFor (subUp a b) ⌝ }
 {
-    code(binary32::sub_up(a, b))
+    pattern_for(binary32::sub_up(a, b))
 }
 
 #[no_mangle]
 pub extern "C" fn fody_sub_near(a: u32, b: u32) -> u32
-    ensures { λ r. ⌜ r ≡ coded (subNear a b) ⌝ }
+    ensures { λ r. ⌜ r ≡ patternFor (subNear a b) ⌝ }
 {
-    code(binary32::sub_near(a, b))
+    pattern_for(binary32::sub_near(a, b))
 }
 
 #[no_mangle]
 pub extern "C" fn fody_mul_down(a: u32, b: u32) -> u32
-    ensures { λ r. ⌜ r ≡ coded (mulDown a b) ⌝ }
+    ensures { λ r. ⌜ r ≡ patternFor (mulDown a b) ⌝ }
 {
-    code(binary32::mul_down(a, b))
+    pattern_for(binary32::mul_down(a, b))
 }
 
 #[no_mangle]
 pub extern "C" fn fody_mul_up(a: u32, b: u32) -> u32
-    ensures { λ r. ⌜ r ≡ coded (mulUp a b) ⌝ }
+    ensures { λ r. ⌜ r ≡ patternFor (mulUp a b) ⌝ }
 {
-    code(binary32::mul_up(a, b))
+    pattern_for(binary32::mul_up(a, b))
 }
 
 #[no_mangle]
 pub extern "C" fn fody_mul_near(a: u32, b: u32) -> u32
-    ensures { λ r. ⌜ r ≡ coded (mulNear a b) ⌝ }
+    ensures { λ r. ⌜ r ≡ patternFor (mulNear a b) ⌝ }
 {
-    code(binary32::mul_near(a, b))
+    pattern_for(binary32::mul_near(a, b))
 }
 
 #[no_mangle]
 pub extern "C" fn fody_midpoint_down(a: u32, b: u32) -> u32
-    ensures { λ r. ⌜ r ≡ coded (midpointDown a b) ⌝ }
+    ensures { λ r. ⌜ r ≡ patternFor (midpointDown a b) ⌝ }
 {
-    code(binary32::midpoint_down(a, b))
+    pattern_for(binary32::midpoint_down(a, b))
 }
 
 #[no_mangle]
 pub extern "C" fn fody_midpoint_up(a: u32, b: u32) -> u32
-    ensures { λ r. ⌜ r ≡ coded (midpointUp a b) ⌝ }
+    ensures { λ r. ⌜ r ≡ patternFor (midpointUp a b) ⌝ }
 {
-    code(binary32::midpoint_up(a, b))
+    pattern_for(binary32::midpoint_up(a, b))
 }
 
 #[no_mangle]
 pub extern "C" fn fody_midpoint_near(a: u32, b: u32) -> u32
-    ensures { λ r. ⌜ r ≡ coded (midpointNear a b) ⌝ }
+    ensures { λ r. ⌜ r ≡ patternFor (midpointNear a b) ⌝ }
 {
-    code(binary32::midpoint_near(a, b))
+    pattern_for(binary32::midpoint_near(a, b))
 }

@@ -1,3 +1,4 @@
 pub mod Rounded
 pub mod Faults
 pub mod Converting
+pub mod Clearing

@@ -1,111 +1,96 @@
 // Intervals of binary32 numbers in both representations: bounds [a, b] with a ≤ b, and midpoint and radius <m, r> with r ≥ 0.
 ghost use mathlib.Core.Path.{_≡_};
-ghost use Rattle.binary32.specs.Number.{finite};
-ghost use Rattle.intervals.specs.declared.Fault.the-variants.{Fine};
-ghost use Rattle.intervals.specs.Conversion.{faultOf, midOf, radOf, midradOf, boundedOf, boundsOf};
+ghost use Rattle.intervals.specs.Conversion.{faultOf, radiusFaultOf, midOf, radOf, converted, midradOf, bounded, outwardOf, boundsOf};
+use binary32::Rounded;
+use binary32::add_up;
+use binary32::finite::are_finite;
 use binary32::order::at_most;
-use binary32::partial::add_up;
-use binary32::partial::midpoint_up;
-use binary32::partial::sub_down;
-use binary32::partial::sub_up;
+use binary32::partial;
+use binary32::sub_down;
 use refusals::Refusal;
 
-// What is wrong with a pair of bounds: nothing; 3, exponent field 255; 4, the lower one is above.
-pub enum Fault {
-    Fine,
-    Infinite,
-    Above,
-}
+pub mod slices;
 
 // A midpoint and a radius, or the refusal.
 pub enum Converted {
     MidRad(u32, u32),
-    NoMidRad(Refusal),
+    Refused(Refusal),
 }
 
 // A lower and an upper bound, or the refusal.
 pub enum Bounded {
     Bounds(u32, u32),
-    NoBounds(Refusal),
+    Refused(Refusal),
 }
 
-pub fn is_finite(p: u32) -> bool
-    ensures { λ r. ⌜ r ≡ finite p ⌝ }
-{
-    p % 0x8000_0000 < 0x7F80_0000
-}
-
-// 3 before 4.
-pub fn check(lo: u32, hi: u32) -> Fault
+// What is wrong with a pair of bounds: 0, nothing; 3, exponent field 255; 4, the lower one is above.
+pub fn check(lo: u32, hi: u32) -> u8
     ensures { λ r. ⌜ r ≡ faultOf lo hi ⌝ }
 {
-    if !is_finite(lo) {
-        return Fault::Infinite;
+    if !are_finite(lo, hi) {
+        return 3;
     }
-    if !is_finite(hi) {
-        return Fault::Infinite;
+    if at_most(lo, hi) { 0 } else { 4 }
+}
+
+// The same of a midpoint and a radius: 4, the radius is below zero.
+fn check_radius(m: u32, r: u32) -> u8
+    ensures { λ z. ⌜ z ≡ radiusFaultOf m r ⌝ }
+{
+    if !are_finite(m, r) {
+        return 3;
     }
-    if at_most(lo, hi) {
-        return Fault::Fine;
-    }
-    Fault::Above
+    if at_most(0, r) { 0 } else { 4 }
 }
 
 // The exact midpoint of two numbers in order, rounded up.
 fn midpoint(lo: u32, hi: u32) -> u32
-    requires { ⌜ faultOf lo hi ≡ Fine ⌝ }
+    requires { ⌜ faultOf lo hi ≡ 0 ⌝ }
     ensures { λ r. ⌜ r ≡ midOf lo hi ⌝ }
 {
-    midpoint_up(lo, hi)
+    partial::midpoint_up(lo, hi)
 }
 
 // The distance from it to the lower bound, rounded up: it reaches the upper bound too, and is never refused.
 fn radius(lo: u32, hi: u32, mid: u32) -> u32
-    requires { ⌜ (faultOf lo hi ≡ Fine) × (mid ≡ midOf lo hi) ⌝ }
+    requires { ⌜ (faultOf lo hi ≡ 0) × (mid ≡ midOf lo hi) ⌝ }
     ensures { λ r. ⌜ r ≡ radOf lo hi ⌝ }
 {
-    sub_up(mid, lo)
+    partial::sub_up(mid, lo)
 }
 
 // From bounds: m is the exact midpoint rounded up, r is m - a rounded up. It is never refused for overflow.
 pub fn to_midrad(lo: u32, hi: u32) -> Converted
-    ensures { λ r. ⌜ r ≡ midradOf lo hi ⌝ }
+    ensures { λ r. ⌜ converted r ≡ midradOf lo hi ⌝ }
 {
-    match check(lo, hi) {
-        Fault::Fine => {
-            let m = midpoint(lo, hi);
-            Converted::MidRad(m, radius(lo, hi, m))
-        }
-        Fault::Infinite => Converted::NoMidRad(Refusal::NotFinite(0, 0, 0)),
-        Fault::Above => Converted::NoMidRad(Refusal::Crossed(0, 0, 0)),
+    let fault = check(lo, hi);
+    if fault != 0 {
+        return Converted::Refused(Refusal::of_matrix(fault, 0));
     }
+    let m = midpoint(lo, hi);
+    Converted::MidRad(m, radius(lo, hi, m))
 }
 
-// Two bounds that each hold a number or none.
-fn both_held(lo: u32, hi: u32) -> Bounded
-    ensures { λ z. ⌜ z ≡ boundedOf lo hi ⌝ }
+// lo less amount rounded down, and hi plus amount rounded up.
+pub fn outward(lo: u32, hi: u32, amount: u32) -> Bounded
+    ensures { λ r. ⌜ bounded r ≡ outwardOf lo hi amount ⌝ }
 {
-    if !is_finite(lo) {
-        return Bounded::NoBounds(Refusal::Overflow(0, 0, 0));
+    match sub_down(lo, amount) {
+        Rounded::Number(a) => match add_up(hi, amount) {
+            Rounded::Number(b) => Bounded::Bounds(a, b),
+            Rounded::Refused(r) => Bounded::Refused(r),
+        },
+        Rounded::Refused(r) => Bounded::Refused(r),
     }
-    if !is_finite(hi) {
-        return Bounded::NoBounds(Refusal::Overflow(0, 0, 0));
-    }
-    Bounded::Bounds(lo, hi)
 }
 
 // To bounds: m - r rounded down, m + r rounded up.
 pub fn to_bounds(m: u32, r: u32) -> Bounded
-    ensures { λ z. ⌜ z ≡ boundsOf m r ⌝ }
+    ensures { λ z. ⌜ bounded z ≡ boundsOf m r ⌝ }
 {
-    if !is_finite(m) {
-        return Bounded::NoBounds(Refusal::NotFinite(0, 0, 0));
+    let fault = check_radius(m, r);
+    if fault != 0 {
+        return Bounded::Refused(Refusal::of_matrix(fault, 0));
     }
-    if !is_finite(r) {
-        return Bounded::NoBounds(Refusal::NotFinite(0, 0, 0));
-    }
-    if !at_most(0, r) {
-        return Bounded::NoBounds(Refusal::Crossed(0, 0, 0));
-    }
-    both_held(sub_down(m, r), add_up(m, r))
+    outward(m, m, r)
 }

@@ -1,66 +1,50 @@
 -- Laws of the text for the job's answer, and of the input that it is for. Assumes nothing.
-use mathlib.Core.Path.{_≡_, sym, ap, ap₂, subst, _∙_}
+use mathlib.Core.Path.{_≡_, sym, ap, ap₂, _∙_}
 use mathlib.Core.List.{List, _++_}
 use Prim.Native.Nat.{ℕ, _-_, _≤_, _<_, min}
 use native.Mathlib.Omega.{arith}
 use lib.ListN.{length, take, drop, length-append, length-drop}
 use lib.Seq.{take-all}
 use Rattle.refusals.specs.declared.Refusal.{Refusal}
-use Rattle.refusals.specs.declared.Report.{Report}
-use Rattle.refusals.specs.Report.{reportOf}
-use Rattle.sheets.specs.declared.Outcome.{Outcome}
-use Rattle.sheets.specs.declared.Outcome.the-variants as O
+use Rattle.sheets.specs.declared.Shape as Sh
+use Rattle.sheets.specs.declared.Shape.the-variants as S
 use Rattle.sheets.specs.Layout.{rowsOf, columnsOf}
+use Rattle.sheets.specs.Reading as reading
 use Rattle.sheets.proofs.Answers.{done-tells}
-use Rattle.coupling.specs.Job.{zeros, productOf, Sheets}
-use Rattle.coupling.proofs.Places.{number-small}
-use Rattle.coupling.proofs.ReadPlaces.{ReadWithin}
-use Rattle.coupling.proofs.Codes.{product-within}
-use Rattle.coupling.proofs.Jobs.{Ready}
-use Rattle.coupling.proofs.Deliveries.{read-both}
+use Rattle.coupling.specs.Job.{array, sheetsProductOf, Sheets}
+use Rattle.coupling.proofs.Jobs.{Ready, produced}
+use Rattle.coupling.proofs.Deliveries.{both-read}
 use Rattle.print_product.specs.Lines.{refusedLine}
 use Rattle.print_product.specs.Input.{methodIn, lengthOfA}
 use Rattle.print_product.specs.Printed.{productText, answerText, sheetsText, printedOf}
 use Rattle.print_product.proofs.InputLaws.{behind-digit}
 
 abbrev pub textOf : ℕ → List ℕ → List ℕ → List ℕ
-textOf method a b = answerText method a b (productOf method a b 1024 1024)
+textOf method a b = answerText method a b (sheetsProductOf method a b 1024 1024)
 
 -- ---- a product
 
-pub record Shape (r c : ℕ) : Type 0 where
+pub record Few (r c : ℕ) : Type 0 where
   pub rows : r ≤ 32
   pub some-column : 0 < c
   pub columns : c ≤ 32
 
 module _ (method : ℕ) (a b : List ℕ) where
-  pub shape : {r c : ℕ} {lo up : List ℕ} → Ready method a b r c lo up → Shape r c
-  shape {r = r} {c = c} R =
-      let both = read-both method a b r c (R .product) in
+  pub few : {r c : ℕ} {lo up : List ℕ} → Ready method a b r c lo up → Few r c
+  few {r = r} {c = c} R =
+      let p = produced method a b r c (R .product) in
+      let both = both-read method a b (p .read .0) (p .read .1) in
       let s = done-tells a 1024 1024 (rowsOf a) (columnsOf a) (both .0) .sized in
       let t = done-tells b 1024 1024 (rowsOf b) (columnsOf b) (both .1) .sized in
       record { rows = omega (arith, R .rows, s .rows); some-column = omega (arith, R .columns, t .some-column); columns = omega (arith, R .columns, t .columns) }
 
   pub product-text : {r c : ℕ} {lo up : List ℕ} → Ready method a b r c lo up → productText method r c lo up ≡ textOf method a b
-  product-text {r = r} {c = c} R = ap₂ (productText method r c) (R .made .lowers) (R .made .uppers) ∙ sym (ap (answerText method a b) (R .product))
+  product-text {r = r} {c = c} R = ap₂ (productText method r c) (R .lowers) (R .uppers) ∙ sym (ap (answerText method a b) (R .product))
 
   -- ---- a refusal
 
-  pub record Small (x : Report) : Type 0 where
-    pub number : x .number < 100
-    pub matrix : x .matrix < 100
-    pub row : x .row < 10000
-    pub column : x .column < 10000
-
-  pub refused-small : {o : Outcome} {lo up : List ℕ} (x : Refusal) (y : Report) → Sheets method a b zeros zeros o lo up → o ≡ O.Refused x → y ≡ reportOf x → Small y
-  refused-small x y s e f =
-      let w = subst ReadWithin (sym (s .answer) ∙ e) (product-within method a b) in
-      subst Small (sym f)
-      (record { number = omega (arith, number-small x); matrix = omega (arith, w .matrix); row = omega (arith, w .row); column = omega (arith, w .column) })
-
-  pub refused-text : {o : Outcome} {lo up : List ℕ} (x : Refusal) (y : Report) → Sheets method a b zeros zeros o lo up → o ≡ O.Refused x → y ≡ reportOf x
-      → refusedLine y ≡ textOf method a b
-  refused-text x y s e f = ap refusedLine f ∙ ap (answerText method a b) (sym e ∙ s .answer)
+  pub refused-text : {o : Sh.Shape} {lo up : List ℕ} (x : Refusal) → Sheets method a b array array o lo up → o ≡ S.Refused x → refusedLine x ≡ textOf method a b
+  refused-text x s e = ap (answerText method a b) (sym (ap reading.shape e) ∙ s .answer)
 
 -- ---- the input: what stands from a place on
 

@@ -9,13 +9,13 @@ use lib.ListN.{length, take, drop, length-drop}
 use lib.Seq.{take-all, take-take, getD-take, length-take-le}
 use borrow.Author.Tests.{leb-true, leb-false, lt-leb}
 use Rattle.refusals.specs.declared.Refusal.{Refusal}
-use Rattle.refusals.specs.declared.Refusal.the-variants as R
-use Rattle.sheets.specs.declared.Outcome.{Outcome}
-use Rattle.sheets.specs.declared.Outcome.the-variants as O
+use Rattle.refusals.specs.Refusal.{ofMatrix}
+use Rattle.refusals.specs.Answer.{Answer, gives, refuses, refuse, then, naming}
+use Rattle.refusals.proofs.Answers.{not-both, then-tells}
 use Rattle.sheets.specs.Layout.{u16At, framed, countOf}
 use Rattle.sheets.specs.Reading.{readOf}
-use Rattle.products.specs.Checks.{known, methodOf}
-use Rattle.coupling.specs.Job.{readAs, sheetRead, afterRead, productOf}
+use Rattle.products.specs.Checks.{checkMethod}
+use Rattle.coupling.specs.Job.{sheetRead, sheetsProductOf}
 use Rattle.print_product.specs.Input.{digitValue, lengthOfA, sheetA, sheetB}
 use Rattle.print_product.specs.Printed.{answerText, sheetsText, printedOf}
 use Rattle.print_product.proofs.Answers.{textOf}
@@ -32,31 +32,29 @@ not-framed s h = rw (lt-leb (length s) 16400 h) (go (eqb (length s % 16) 0) (leb
     go true false = refl
     go false b = refl
 
-too-long : (s : List ℕ) → 16400 < length s → sheetRead s ≡ O.Refused (R.Layout 0)
+too-long : (s : List ℕ) → 16400 < length s → sheetRead s ≡ refuse 6
 unfolding readOf
 too-long s h = rw (not-framed s h)
 
 -- ---- the text where a sheet is refused does not depend on what comes after that sheet
 
-module _ (method : ℕ) (x : Refusal) where
-  first-refused : (a b : List ℕ) → sheetRead a ≡ O.Refused x → textOf method a b ≡ answerText method [] [] (cond (known (methodOf method)) (readAs 1 (O.Refused x)) (O.Refused R.Method))
-  unfolding productOf readAs
-  first-refused a b e = rw e (go (known (methodOf method)))
-    where
-      go : (t : Bool) → answerText method a b (cond t (readAs 1 (O.Refused x)) (O.Refused R.Method)) ≡ answerText method [] [] (cond t (readAs 1 (O.Refused x)) (O.Refused R.Method))
-      go true = refl
-      go false = refl
+-- of an answer that is refused in the end, the text does not show the sheets
+refused-shows : (method : ℕ) (a b : List ℕ) (o next : Answer (ℕ × ℕ)) → ((v : ℕ × ℕ) → o ≡ gives v → ⊥) → answerText method a b (then o next) ≡ answerText method [] [] o
+refused-shows method a b (gives v) next h = absurd (h v refl)
+refused-shows method a b (refuses y) next h = refl
 
-  second-refused : (a b : List ℕ) → sheetRead b ≡ O.Refused x
-      → textOf method a b ≡ answerText method [] [] (cond (known (methodOf method)) (afterRead (readAs 1 (sheetRead a)) (readAs 2 (O.Refused x))) (O.Refused R.Method))
-  unfolding productOf readAs
-  second-refused a b e = rw e (go (known (methodOf method)) (sheetRead a))
-    where
-      go : (t : Bool) (o : Outcome) → answerText method a b (cond t (afterRead (readAs 1 o) (readAs 2 (O.Refused x))) (O.Refused R.Method))
-          ≡ answerText method [] [] (cond t (afterRead (readAs 1 o) (readAs 2 (O.Refused x))) (O.Refused R.Method))
-      go true (O.Done r c) = refl
-      go true (O.Refused y) = refl
-      go false o = refl
+module _ (method : ℕ) (x : Refusal) where
+  first-refused : (a b : List ℕ) → sheetRead a ≡ refuses x → textOf method a b ≡ answerText method [] [] (then (checkMethod method) (naming 1 (refuses x)))
+  unfolding sheetsProductOf
+  first-refused a b e = rw e (refused-shows method a b (then (checkMethod method) (naming 1 (refuses x))) _ (λ v h. not-both (then-tells (checkMethod method) _ v h .1)))
+
+  second-refused : (a b : List ℕ) → sheetRead b ≡ refuses x
+      → textOf method a b ≡ answerText method [] [] (then (checkMethod method) (then (naming 1 (sheetRead a)) (naming 2 (refuses x))))
+  unfolding sheetsProductOf
+  second-refused a b e =
+      rw e
+      (refused-shows method a b (then (checkMethod method) (then (naming 1 (sheetRead a)) (naming 2 (refuses x)))) _
+      (λ v h. not-both (then-tells (naming 1 (sheetRead a)) _ v (then-tells (checkMethod method) _ v h .1) .1)))
 
 -- ---- both sheets, cut
 
@@ -85,16 +83,16 @@ module _ (method : ℕ) (s : List ℕ) (long : 32801 < length s) where
           let m : lengthOfA (take 32801 s) ≡ k = first-cut ∙ omega arith in
           let n : lengthOfA s ≡ k = first-whole ∙ omega arith in
           let same : take k (take 32801 s) ≡ take k s = take-take k 32801 s (omega arith) in
-          let b : sheetRead (drop k (take 32801 s)) ≡ O.Refused (R.Layout 0) = too-long (drop k (take 32801 s)) (omega (arith, length-drop k (take 32801 s), cut-length)) in
-          let c : sheetRead (drop k s) ≡ O.Refused (R.Layout 0) = too-long (drop k s) (omega (arith, length-drop k s)) in
-          rw (m, n, same) (second-refused method (R.Layout 0) (take k s) (drop k (take 32801 s)) b ∙ sym (second-refused method (R.Layout 0) (take k s) (drop k s) c))
+          let b : sheetRead (drop k (take 32801 s)) ≡ refuse 6 = too-long (drop k (take 32801 s)) (omega (arith, length-drop k (take 32801 s), cut-length)) in
+          let c : sheetRead (drop k s) ≡ refuse 6 = too-long (drop k s) (omega (arith, length-drop k s)) in
+          rw (m, n, same) (second-refused method (ofMatrix 6 0) (take k s) (drop k (take 32801 s)) b ∙ sym (second-refused method (ofMatrix 6 0) (take k s) (drop k s) c))
       go false e =
           let k : ℕ = 16 * countOf s in
           let many : 16400 < k = leb-false k 16400 e in
           let m : length (sheetA (take 32801 s)) ≡ lengthOfA (take 32801 s) = length-take-le (lengthOfA (take 32801 s)) (take 32801 s) (omega (arith, first-cut, cut-length)) in
           let n : length (sheetA s) ≡ lengthOfA s = length-take-le (lengthOfA s) s (omega (arith, first-whole)) in
-          first-refused method (R.Layout 0) (sheetA (take 32801 s)) (sheetB (take 32801 s)) (too-long (sheetA (take 32801 s)) (omega (arith, m, first-cut)))
-          ∙ sym (first-refused method (R.Layout 0) (sheetA s) (sheetB s) (too-long (sheetA s) (omega (arith, n, first-whole))))
+          first-refused method (ofMatrix 6 0) (sheetA (take 32801 s)) (sheetB (take 32801 s)) (too-long (sheetA (take 32801 s)) (omega (arith, m, first-cut)))
+          ∙ sym (first-refused method (ofMatrix 6 0) (sheetA s) (sheetB s) (too-long (sheetA s) (omega (arith, n, first-whole))))
 
 sheets-cut : (method : ℕ) (s : List ℕ) → sheetsText method (take 32801 s) ≡ sheetsText method s
 sheets-cut method s = go (leb (length s) 32801) refl

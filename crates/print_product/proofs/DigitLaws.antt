@@ -10,7 +10,7 @@ use borrow.Author.Tests.{lt-ltb, le-ltb}
 use lib.ListN.{length, take, drop, set, length-append, take-append-drop}
 use lib.Seq.{drop-cons, lt-length-set, getD-set-same, drop-set-lt, take-set-le}
 use Rattle.sheets.specs.Sheet.{over}
-use Rattle.print_product.specs.Digits.{digit, digits, placesTo, places, decimal, hexadecimal}
+use Rattle.print_product.specs.Digits.{digit, digits, digitCountTo, digitCount, decimal, hexadecimal}
 use Rattle.print_product.specs.Put.{Put}
 
 -- ---- one digit, and k of them
@@ -57,29 +57,29 @@ digits-end b k n e at last i rest d out z l h f g =
 
 -- ---- how many decimal digits a number has
 
-pub places-one : (t n : ℕ) → n < 10 → 1 ≡ placesTo t n
-unfolding placesTo
-places-one zero n h = refl
-places-one (suc t) n h = rw (lt-ltb n 10 h)
+pub digit-count-one : (t n : ℕ) → n < 10 → 1 ≡ digitCountTo t n
+unfolding digitCountTo
+digit-count-one zero n h = refl
+digit-count-one (suc t) n h = rw (lt-ltb n 10 h)
 
-pub places-more : (t m n k : ℕ) → t ≡ suc m → 10 ≤ n → k ≡ placesTo m (n / 10) → suc k ≡ placesTo t n
-unfolding placesTo
-places-more t m n k e h f = rw (e, le-ltb n 10 h, f)
+pub digit-count-more : (t m n k : ℕ) → t ≡ suc m → 10 ≤ n → k ≡ digitCountTo m (n / 10) → suc k ≡ digitCountTo t n
+unfolding digitCountTo
+digit-count-more t m n k e h f = rw (e, le-ltb n 10 h, f)
 
-pub places-below : (k t n : ℕ) → n < 10 ^ suc k → placesTo t n ≤ suc k
-unfolding placesTo
-places-below k zero n h = omega arith
-places-below zero (suc t) n h = rw (lt-ltb n 10 (omega arith)) (omega arith)
-places-below (suc k) (suc t) n h = go (ltb n 10) (places-below k t (n / 10) (omega (arith, pow-suc 10 (suc k))))
+pub digit-count-below : (k t n : ℕ) → n < 10 ^ suc k → digitCountTo t n ≤ suc k
+unfolding digitCountTo
+digit-count-below k zero n h = omega arith
+digit-count-below zero (suc t) n h = rw (lt-ltb n 10 (omega arith)) (omega arith)
+digit-count-below (suc k) (suc t) n h = go (ltb n 10) (digit-count-below k t (n / 10) (omega (arith, pow-suc 10 (suc k))))
   where
-    go : (b : Bool) → placesTo t (n / 10) ≤ suc k → cond b 1 (suc (placesTo t (n / 10))) ≤ suc (suc k)
+    go : (b : Bool) → digitCountTo t (n / 10) ≤ suc k → cond b 1 (suc (digitCountTo t (n / 10))) ≤ suc (suc k)
     go true p = omega arith
     go false p = omega arith
 
 -- ---- fields, with the byte that ends them
 
-pub decimal-length : (n e : ℕ) → length (decimal n ++ (e ∷ [])) ≡ places n + 1
-decimal-length n e = length-append (decimal n) (e ∷ []) ∙ ap (λ k. k + 1) (digits-length 10 (places n) n)
+pub decimal-length : (n e : ℕ) → length (decimal n ++ (e ∷ [])) ≡ digitCount n + 1
+decimal-length n e = length-append (decimal n) (e ∷ []) ∙ ap (λ k. k + 1) (digits-length 10 (digitCount n) n)
 
 pub hexadecimal-length : (p e : ℕ) → length (hexadecimal p ++ (e ∷ [])) ≡ 9
 hexadecimal-length p e = length-append (hexadecimal p) (e ∷ []) ∙ ap (λ k. k + 1) (digits-length 16 8 p)

@@ -6,16 +6,15 @@ use Prim.Native.Nat.{ℕ}
 use lib.Ieee.{size}
 use Rattle.rounding.specs.Format.{MAX, expo}
 use Rattle.rounding.specs.Rounding.{ceil, lo, hi, up, down}
-use Rattle.rounding.specs.Pattern.{val, place}
+use Rattle.rounding.specs.Pattern.{val, encode}
 use Rattle.enclosure.specs.Sums.{sum}
 use Rattle.enclosure.specs.Conversion.{mid, rad}
 use Rattle.enclosure.specs.Methods.{entry, ends, radius₄, centre, total, innerTerm, outerRadius, outerTerm, midTerm}
-use Rattle.refusals.specs.Report.{reportOf, namedOf}
+use Rattle.refusals.specs.Sizes.{checkSize, checkLengths, checkFit}
 use Rattle.binary32.specs.Number.{valueOf}
 use Rattle.binary32.specs.Operations.{answer}
 use Rattle.intervals.specs.Conversion.{faultOf}
 use Rattle.sheets.specs.Layout.{u16At, u32At, blank, recordOf, framed}
-use Rattle.sheets.specs.Sizes.{fitOf}
 use Rattle.sheets.specs.Wear.{unitsOf, amountOf}
 use Rattle.sheets.specs.Cell.{widenedOf}
 use Rattle.sheets.specs.Chain.{judgeOf, visitOf, walk, chainOf}
@@ -24,22 +23,22 @@ use Rattle.sheets.specs.Sheet.{recordBytes}
 use Rattle.products.specs.Lists.{tabulate, first}
 use Rattle.products.specs.Matrix.{cellAt}
 use Rattle.products.specs.Entries.{entryOf, entryAt, stopOf}
-use Rattle.products.specs.Checks.{methodOf, checkMethod, checkSizes, longEnough, checkOperands, checkLent, checkLengths, checkCells, checkBoth, checkShapes, checkOf}
-use Rattle.products.specs.Product.{outcomeOf, resultAfter}
-use Rattle.coupling.specs.Job.{readAs, productOf}
-use Rattle.print_product.specs.Digits.{digit, digits, placesTo}
+use Rattle.products.specs.Checks.{methodOf, checkMethod, checkSizes, checkOperands, checkLent, checkSlices, checkCells, checkBoth, checkShapes, checkOf}
+use Rattle.products.specs.Product.{productOf, resultAfter}
+use Rattle.coupling.specs.Job.{sheetsProductOf, boundsAfter}
+use Rattle.print_product.specs.Digits.{digit, digits, digitCountTo}
 use Rattle.print_product.specs.Lines.{productLine, cellLine, refusedLine}
 use Rattle.print_product.specs.Input.{digitValue, lengthOfA}
 use Rattle.print_product.specs.Printed.{cellLines, sheetsText, printedOf}
 
 -- refused 9 0 0 0
 none : printedOf [] ≡ 114 ∷ 101 ∷ 102 ∷ 117 ∷ 115 ∷ 101 ∷ 100 ∷ 32 ∷ 57 ∷ 32 ∷ 48 ∷ 32 ∷ 48 ∷ 32 ∷ 48 ∷ 10 ∷ []
-unfolding printedOf sheetsText digitValue lengthOfA refusedLine digit digits placesTo productOf methodOf reportOf
+unfolding printedOf sheetsText digitValue lengthOfA refusedLine digit digits digitCountTo sheetsProductOf checkMethod methodOf
 none = refl
 
 -- refused 6 1 0 0
 alone : printedOf (52 ∷ []) ≡ 114 ∷ 101 ∷ 102 ∷ 117 ∷ 115 ∷ 101 ∷ 100 ∷ 32 ∷ 54 ∷ 32 ∷ 49 ∷ 32 ∷ 48 ∷ 32 ∷ 48 ∷ 10 ∷ []
-unfolding printedOf sheetsText digitValue lengthOfA refusedLine digit digits placesTo productOf methodOf readAs readOf framed reportOf namedOf
+unfolding printedOf sheetsText digitValue lengthOfA refusedLine digit digits digitCountTo sheetsProductOf checkMethod methodOf readOf framed
 alone = refl
 
 -- one row and one column, class 0
@@ -50,8 +49,8 @@ sheet l u = recordBytes 1 1 1 2 0 ++ recordBytes 0 0 0 l u
 four : printedOf (52 ∷ sheet 0x3F800000 0x40000000 ++ sheet 0xBF800000 0x40400000)
     ≡ (112 ∷ 114 ∷ 111 ∷ 100 ∷ 117 ∷ 99 ∷ 116 ∷ 32 ∷ 52 ∷ 32 ∷ 49 ∷ 32 ∷ 49 ∷ 10 ∷ [])
     ++ (48 ∷ 32 ∷ 48 ∷ 32 ∷ 67 ∷ 48 ∷ 52 ∷ 48 ∷ 48 ∷ 48 ∷ 48 ∷ 48 ∷ 32 ∷ 52 ∷ 48 ∷ 67 ∷ 48 ∷ 48 ∷ 48 ∷ 48 ∷ 48 ∷ 10 ∷ [])
-unfolding printedOf sheetsText digitValue lengthOfA productLine cellLine cellLines digit digits placesTo productOf readAs
-    u16At u32At blank recordOf framed fitOf unitsOf amountOf widenedOf judgeOf visitOf walk chainOf readOf putIn sliceAfter recordBytes
-    outcomeOf resultAfter checkOf checkShapes checkMethod methodOf checkSizes checkLengths checkOperands checkLent longEnough checkBoth checkCells first
-    stopOf tabulate entryAt entryOf cellAt entry radius₄ centre total sum innerTerm outerRadius outerTerm midTerm faultOf answer valueOf mid rad up down lo hi ceil expo size MAX val place ends bind
+unfolding printedOf sheetsText digitValue lengthOfA productLine cellLine cellLines digit digits digitCountTo sheetsProductOf boundsAfter
+    u16At u32At blank recordOf framed checkFit checkSize checkLengths unitsOf amountOf widenedOf judgeOf visitOf walk chainOf readOf putIn sliceAfter recordBytes
+    productOf resultAfter checkOf checkShapes checkMethod methodOf checkSizes checkSlices checkOperands checkLent checkBoth checkCells first
+    stopOf tabulate entryAt entryOf cellAt entry radius₄ centre total sum innerTerm outerRadius outerTerm midTerm faultOf answer valueOf mid rad up down lo hi ceil expo size MAX val encode ends bind
 four = refl

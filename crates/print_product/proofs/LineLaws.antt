@@ -5,20 +5,20 @@ use Prim.Native.Nat.{ℕ, suc, _+_, _/_, _%_, _^_, _≤_, _<_}
 use native.Mathlib.Numerals.{add-one}
 use native.Mathlib.Omega.{arith}
 use lib.ListN.{length, getD, length-append}
-use Rattle.print_product.specs.Digits.{places, decimal}
+use Rattle.print_product.specs.Digits.{digitCount, decimal}
 use Rattle.print_product.specs.Lines.{productLine, cellLine}
 use Rattle.print_product.specs.Printed.{cellLines}
 use Rattle.print_product.specs.Put.{Put}
-use Rattle.print_product.proofs.DigitLaws.{digits-length, places-below, decimal-length}
+use Rattle.print_product.proofs.DigitLaws.{digits-length, digit-count-below, decimal-length}
 use Rattle.print_product.proofs.Puts.{put-more, put-length}
 
 -- ---- fields
 
 digits-below : (k n : ℕ) → n < 10 ^ suc k → length (decimal n) ≤ k + 1
-digits-below k n h = omega (arith, digits-length 10 (places n) n, places-below k n n h)
+digits-below k n h = omega (arith, digits-length 10 (digitCount n) n, digit-count-below k n n h)
 
 pub decimal-below : (k n e : ℕ) → n < 10 ^ suc k → length (decimal n ++ (e ∷ [])) ≤ k + 2
-decimal-below k n e h = omega (arith, decimal-length n e, places-below k n n h)
+decimal-below k n e h = omega (arith, decimal-length n e, digit-count-below k n n h)
 
 pub put-four : {at : ℕ} {t u v w d : List ℕ} {r₁ r₂ r₃ r₄ : ℕ} {o₁ o₂ o₃ o₄ : List ℕ} → at + length t + length u + length v ≤ length d
     → Put at t d r₁ o₁ → Put r₁ u o₁ r₂ o₂ → Put r₂ v o₂ r₃ o₃ → Put r₃ w o₃ r₄ o₄ → Put at (t ++ (u ++ (v ++ w))) d r₄ o₄

@@ -14,15 +14,15 @@ digits b zero n = []
 digits b (suc k) n = digits b k (n / b) ++ (digit (n % b) ∷ [])
 
 -- how many decimal digits n has; t bounds the divisions, and n of them are enough
-unfoldable pub placesTo : ℕ → ℕ → ℕ
-placesTo zero n = 1
-placesTo (suc t) n = cond (ltb n 10) 1 (suc (placesTo t (n / 10)))
+unfoldable pub digitCountTo : ℕ → ℕ → ℕ
+digitCountTo zero n = 1
+digitCountTo (suc t) n = cond (ltb n 10) 1 (suc (digitCountTo t (n / 10)))
 
-abbrev pub places : ℕ → ℕ
-places n = placesTo n n
+abbrev pub digitCount : ℕ → ℕ
+digitCount n = digitCountTo n n
 
 abbrev pub decimal : ℕ → List ℕ
-decimal n = digits 10 (places n) n
+decimal n = digits 10 (digitCount n) n
 
 -- a pattern: eight capitals
 abbrev pub hexadecimal : ℕ → List ℕ

@@ -1,7 +1,7 @@
 -- The lines that are printed: fields one space apart, and a line feed at the end. Definitions only (01, "The printed product").
 use mathlib.Core.List.{List, [], _∷_, _++_}
 use Prim.Native.Nat.{ℕ}
-use Rattle.refusals.specs.declared.Report.{Report}
+use Rattle.refusals.specs.declared.Refusal.{Refusal}
 use Rattle.print_product.specs.Digits.{decimal, hexadecimal}
 
 abbrev pub line : List (List ℕ) → List ℕ
@@ -25,5 +25,5 @@ unfoldable pub cellLine : ℕ → ℕ → ℕ → ℕ → List ℕ
 cellLine i j l u = line (decimal i ∷ decimal j ∷ hexadecimal l ∷ hexadecimal u ∷ [])
 
 -- number, matrix, row, column
-unfoldable pub refusedLine : Report → List ℕ
+unfoldable pub refusedLine : Refusal → List ℕ
 refusedLine x = line (refused ∷ decimal (x .number) ∷ decimal (x .matrix) ∷ decimal (x .row) ∷ decimal (x .column) ∷ [])

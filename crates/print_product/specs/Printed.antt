@@ -2,10 +2,8 @@
 use mathlib.Core.List.{List, [], _++_}
 use Prim.Native.Nat.{ℕ, zero, suc, _*_, _/_, _%_}
 use lib.ListN.{getD}
-use Rattle.refusals.specs.Report.{reportOf}
-use Rattle.sheets.specs.declared.Outcome.{Outcome}
-use Rattle.sheets.specs.declared.Outcome.the-variants as O
-use Rattle.coupling.specs.Job.{productOf, resultLowers, resultUppers}
+use Rattle.refusals.specs.Answer.{Answer, gives, refuses}
+use Rattle.coupling.specs.Job.{sheetsProductOf, resultLowers, resultUppers}
 use Rattle.print_product.specs.Lines.{productLine, cellLine, refusedLine}
 use Rattle.print_product.specs.Input.{methodIn, sheetsIn, sheetA, sheetB}
 
@@ -19,13 +17,13 @@ abbrev pub productText : ℕ → ℕ → ℕ → List ℕ → List ℕ → List 
 productText method rows columns lo up = productLine method rows columns ++ cellLines columns lo up (rows * columns)
 
 -- the job's answer, by the method and the sheets A and B
-abbrev pub answerText : ℕ → List ℕ → List ℕ → Outcome → List ℕ
-answerText method a b (O.Done r c) = productText method r c (resultLowers method a b) (resultUppers method a b)
-answerText method a b (O.Refused x) = refusedLine (reportOf x)
+abbrev pub answerText : ℕ → List ℕ → List ℕ → Answer (ℕ × ℕ) → List ℕ
+answerText method a b (gives x) = productText method (x .0) (x .1) (resultLowers method a b) (resultUppers method a b)
+answerText method a b (refuses x) = refusedLine x
 
 -- s: both sheets
 unfoldable pub sheetsText : ℕ → List ℕ → List ℕ
-sheetsText method s = answerText method (sheetA s) (sheetB s) (productOf method (sheetA s) (sheetB s) 1024 1024)
+sheetsText method s = answerText method (sheetA s) (sheetB s) (sheetsProductOf method (sheetA s) (sheetB s) 1024 1024)
 
 unfoldable pub printedOf : List ℕ → List ℕ
 printedOf input = sheetsText (methodIn input) (sheetsIn input)

@@ -5,7 +5,7 @@ ghost use Rattle.print_product.specs.Lines.{productLine, cellLine, refus
 ghost use Rattle.print_product.specs.Printed.{cellLines, productText};
 ghost use Rattle.print_product.specs.Put.{Put};
 use crate::put;
-use refusals::Report;
+use refusals::Refusal;
 
 // "product", method, rows, columns.
 fn product_line(out: &mut [u8], method: usize, rows: usize, columns: usize) -> usize
@@ -74,13 +74,13 @@ pub fn product_text(
 }
 
 // "refused", number, matrix, row, column.
-pub fn refused_line(out: &mut [u8], report: Report) -> usize
-    requires { ⌜ (report .number < 100) × (report .matrix < 100) × (report .row < 10000) × (report .column < 10000) × (24 ≤ length (now out)) ⌝ }
-    ensures { λ r. ⌜ Put 0 (refusedLine report) (now (out .entry)) r (now (out .exit)) ⌝ }
+pub fn refused_line(out: &mut [u8], refusal: Refusal) -> usize
+    requires { ⌜ 24 ≤ length (now out) ⌝ }
+    ensures { λ r. ⌜ Put 0 (refusedLine refusal) (now (out .entry)) r (now (out .exit)) ⌝ }
 {
     let mut at = put::bytes(out, 0, b"refused ");
-    at = put::decimal(out, at, report.number as usize, b' ');
-    at = put::decimal(out, at, report.matrix as usize, b' ');
-    at = put::decimal(out, at, report.row, b' ');
-    put::decimal(out, at, report.column, b'\n')
+    at = put::decimal(out, at, refusal.number as usize, b' ');
+    at = put::decimal(out, at, refusal.matrix as usize, b' ');
+    at = put::decimal(out, at, refusal.row as usize, b' ');
+    put::decimal(out, at, refusal.column as usize, b'\n')
 }

@@ -14,7 +14,7 @@ mod put;
 
 use libc::STDIN_FILENO;
 use libc::STDOUT_FILENO;
-use sheets::Outcome;
+use sheets::Shape;
 
 // 1 + 16,400 + 16,401 bytes: one more than a digit and two sheets have at most. What is printed depends on no later byte (proofs/Cuts).
 const INPUT: usize = 32802;
@@ -41,8 +41,8 @@ fn sheets_text(method: usize, s: &[u8], out: &mut [u8]) -> usize
     let mut up = [0u32; 1024];
     let end = input::length_of_a(s);
     match coupling::multiply_sheets(method as u32, &s[..end], &s[end..], &mut lo, &mut up) {
-        Outcome::Done(rows, columns) => lines::product_text(out, method, rows, columns, &lo, &up),
-        Outcome::Refused(r) => lines::refused_line(out, refusals::describe(r)),
+        Shape::Sizes(rows, columns) => lines::product_text(out, method, rows, columns, &lo, &up),
+        Shape::Refused(r) => lines::refused_line(out, r),
     }
 }
 

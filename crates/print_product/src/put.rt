@@ -3,7 +3,7 @@ ghost use mathlib.Core.Path.{_≡_};
 ghost use mathlib.Core.List.{[], _∷_, _++_};
 ghost use Prim.Native.Nat.{_+_, _≤_, _<_};
 ghost use lib.ListN.{length};
-ghost use Rattle.print_product.specs.Digits.{digit as Digits·digit, digits as Digits·digits, places as Digits·places};
+ghost use Rattle.print_product.specs.Digits.{digit as Digits·digit, digits as Digits·digits, digitCount as Digits·digitCount};
 ghost use Rattle.print_product.specs.Digits.{decimal as Digits·decimal, hexadecimal as Digits·hexadecimal};
 ghost use Rattle.print_product.specs.Put.{Put};
 
@@ -45,9 +45,9 @@ fn digits(out: &mut [u8], at: usize, base: usize, count: usize, n: usize, end: u
 }
 
 // How many decimal digits a number has.
-fn places(n: usize) -> usize
+fn digit_count(n: usize) -> usize
     requires { ⌜ n < 10000 ⌝ }
-    ensures { λ r. ⌜ r ≡ Digits·places n ⌝ }
+    ensures { λ r. ⌜ r ≡ Digits·digitCount n ⌝ }
 {
     if n < 10 {
         return 1;
@@ -60,10 +60,10 @@ fn places(n: usize) -> usize
 
 // A decimal number, then one byte.
 pub fn decimal(out: &mut [u8], at: usize, n: usize, end: u8) -> usize
-    requires { ⌜ (n < 10000) × (at + Digits·places n + 1 ≤ length (now out)) ⌝ }
+    requires { ⌜ (n < 10000) × (at + Digits·digitCount n + 1 ≤ length (now out)) ⌝ }
     ensures { λ r. ⌜ Put at (Digits·decimal n ++ (end ∷ [])) (now (out .entry)) r (now (out .exit)) ⌝ }
 {
-    digits(out, at, 10, places(n), n, end)
+    digits(out, at, 10, digit_count(n), n, end)
 }
 
 // A pattern in eight hexadecimal capitals, then one byte.

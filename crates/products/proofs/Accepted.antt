@@ -5,7 +5,7 @@ use mathlib.Core.Logic.{_⊎_}
 use Prim.Native.Nat.{ℕ, _*_, _≤_}
 use native.Mathlib.Omega.{arith}
 use lib.ListN.{length}
-use Rattle.products.specs.declared.Outcome.the-variants.{Done}
+use Rattle.refusals.specs.Answer.{done}
 use Rattle.products.specs.Lists.{front}
 use Rattle.products.specs.Matrix.{AllFine, midAt, radAt}
 use Rattle.products.specs.MidRad.{Sized}
@@ -16,7 +16,7 @@ use Rattle.products.proofs.EntryExt.{ByMidRad}
 use Rattle.products.proofs.Chosen.{numbered, by-mid-rad}
 use Rattle.products.proofs.MidRads.{Converted, converted-front, mid-rads}
 
-module _ (g : Given) (ok : checkOf g ≡ Done) where
+module _ (g : Given) (ok : checkOf g ≡ done) where
   abbrev known : Checked g
   known = checked-tells g ok
 

@@ -2,45 +2,26 @@
 use mathlib.Core.Path.{_≡_, refl, sym, subst}
 use mathlib.Core.Bool.{Bool, true, false, not, cond}
 use mathlib.Core.Option.{Option, none, some}
-use Prim.Native.Nat.{ℕ, zero, suc, _*_, _/_, _%_, _≤_, _<_}
+use Prim.Native.Nat.{ℕ, _*_, _/_, _%_, _≤_}
 use native.Mathlib.Omega.{arith}
-use lib.Dec.{T, leb, ltb, eqb, leb→le, eqb→eq, ltb→lt, nltb→le}
+use lib.Dec.{T, ltb, eqb, eqb→eq, nltb→le}
 use lib.ListN.{length}
+use borrow.Author.Tests.{eqb-true}
 use Rattle.enclosure.specs.Methods.{Method}
-use Rattle.intervals.specs.declared.Fault.{Fault}
-use Rattle.intervals.specs.declared.Fault.the-variants.{Fine, Infinite, Above}
-use Rattle.refusals.specs.declared.Refusal.{Refusal}
-use Rattle.refusals.specs.declared.Refusal.the-variants as R
-use Rattle.products.specs.declared.Outcome.{Outcome}
-use Rattle.products.specs.declared.Outcome.the-variants.{Done, Refused}
+use Rattle.refusals.specs.Refusal.{ofMatrix, ofCell}
+use Rattle.refusals.specs.Answer.{refuses, done}
+use Rattle.refusals.specs.Sizes.{checkSize, checkLengths}
+use Rattle.refusals.proofs.Answers.{not-both, then-tells, unless-tells}
+use Rattle.refusals.proofs.SizeLaws.{size-tells, lengths-tell}
 use Rattle.products.specs.Lists.{first}
 use Rattle.products.specs.Matrix.{Matrix, faultAt, AllFine}
-use Rattle.products.specs.Checks.{Given, Covered, then, unless, methodOf, known, checkMethod, sized, checkSizes, longEnough, checkOperands, checkLent, checkLengths, faulty, refusalAt, checkCells, checkBoth, checkShapes, checkOf}
+use Rattle.products.specs.Checks.{Given, Covered, methodOf, known, checkMethod, checkSizes, checkOperands, checkLent, checkSlices, faulty, checkCells, checkBoth, checkShapes, checkOf}
 use Rattle.products.proofs.Firsts.{first-le, first-before}
 
--- ---- one answer, and the first of two
-no-refusal : (r : Refusal) → Refused r ≡ Done → ⊥
-no-refusal r e = let z : _≡_ {A = ℕ} 0 1 = cc in absurd (omega arith)
-
-pub then-tells : (a n : Outcome) → then a n ≡ Done → (a ≡ Done) × (n ≡ Done)
-then-tells Done n e = (refl, e)
-then-tells (Refused r) n e = absurd (no-refusal r e)
-
-unless-tells : (b : Bool) (r : Refusal) → unless b r ≡ Done → b ≡ true
-unless-tells true r e = refl
-unless-tells false r e = absurd (no-refusal r e)
-
-and-tells : (a b : Bool) → cond a b false ≡ true → (a ≡ true) × (b ≡ true)
-and-tells true b e = (refl, e)
-and-tells false b e = let z : _≡_ {A = ℕ} 0 1 = cc in absurd (omega arith)
-
-is-le : (a b : ℕ) → leb a b ≡ true → a ≤ b
-is-le a b e = leb→le a b (subst T (sym e) tt)
-
 -- ---- 9
-pub method-tells : (n : ℕ) → checkMethod n ≡ Done → (m : Method) × (methodOf n ≡ some m)
+pub method-tells : (n : ℕ) → checkMethod n ≡ done → (m : Method) × (methodOf n ≡ some m)
 unfolding checkMethod
-method-tells n e = go (methodOf n) (unless-tells (known (methodOf n)) R.Method e)
+method-tells n e = go (methodOf n) (unless-tells (known (methodOf n)) (ofMatrix 9 0) e)
   where
     go : (o : Option Method) → known o ≡ true → (m : Method) × (o ≡ some m)
     go (some m) e = (m, refl)
@@ -58,20 +39,13 @@ pub record Sized (ar ac br bc : ℕ) : Type 0 where
   pub b-columns-below : bc ≤ 32
   pub inner : ac ≡ br
 
-pub sized-tells : (rows columns : ℕ) → sized rows columns ≡ true → (1 ≤ rows) × (rows ≤ 32) × (1 ≤ columns) × (columns ≤ 32)
-sized-tells rows columns e =
-    let a = and-tells (leb 1 rows) _ e in
-    let b = and-tells (leb rows 32) _ (a .1) in
-    let c = and-tells (leb 1 columns) _ (b .1) in
-    (is-le 1 rows (a .0), is-le rows 32 (b .0), is-le 1 columns (c .0), is-le columns 32 (c .1))
-
-pub sizes-tell : (ar ac br bc : ℕ) → checkSizes ar ac br bc ≡ Done → Sized ar ac br bc
+pub sizes-tell : (ar ac br bc : ℕ) → checkSizes ar ac br bc ≡ done → Sized ar ac br bc
 unfolding checkSizes
 sizes-tell ar ac br bc e =
-    let t = then-tells (unless (sized ar ac) (R.Size 1)) _ e in
-    let a = sized-tells ar ac (unless-tells (sized ar ac) (R.Size 1) (t .0)) in
-    let s = and-tells (sized br bc) (eqb ac br) (unless-tells (cond (sized br bc) (eqb ac br) false) (R.Size 2) (t .1)) in
-    let b = sized-tells br bc (s .0) in
+    let t = then-tells (checkSize 1 ar ac) _ tt e in
+    let u = then-tells (checkSize 2 br bc) _ tt (t .1) in
+    let a = size-tells ar ac 1 (t .0 .1) in
+    let b = size-tells br bc 2 (u .0 .1) in
     record {
       a-rows-above = a .0;
       a-rows-below = a .1;
@@ -81,16 +55,10 @@ sizes-tell ar ac br bc e =
       b-rows-below = b .1;
       b-columns-above = b .2;
       b-columns-below = b .3;
-      inner = eqb→eq ac br (subst T (sym (s .1)) tt);
+      inner = eqb→eq ac br (subst T (sym (unless-tells (eqb ac br) (ofMatrix 1 2) (u .1))) tt);
     }
 
 -- ---- 2
-pub lengths-tell : (matrix cells one two : ℕ) → longEnough matrix cells one two ≡ Done → (cells ≤ one) × (cells ≤ two)
-unfolding longEnough
-lengths-tell matrix cells one two e =
-    let s = and-tells (leb cells one) (leb cells two) (unless-tells _ (R.Short matrix) e) in
-    (is-le cells one (s .0), is-le cells two (s .1))
-
 pub record Long (g : Given) : Type 0 where
   pub a-cells : (g .a-rows * g .a-columns ≤ length (g .A .lowers)) × (g .a-rows * g .a-columns ≤ length (g .A .uppers))
   pub b-cells : (g .b-rows * g .b-columns ≤ length (g .B .lowers)) × (g .b-rows * g .b-columns ≤ length (g .B .uppers))
@@ -98,49 +66,34 @@ pub record Long (g : Given) : Type 0 where
   pub b-work : (g .b-rows * g .b-columns ≤ g .b-mids) × (g .b-rows * g .b-columns ≤ g .b-rads)
   pub result : (g .a-rows * g .b-columns ≤ g .lowers) × (g .a-rows * g .b-columns ≤ g .uppers)
 
-pub all-lengths-tell : (g : Given) → checkLengths g ≡ Done → Long g
-unfolding checkLengths checkOperands checkLent
-all-lengths-tell g e =
+pub slices-tell : (g : Given) → checkSlices g ≡ done → Long g
+unfolding checkSlices checkOperands checkLent
+slices-tell g e =
     let a = g .a-rows * g .a-columns in
     let b = g .b-rows * g .b-columns in
     let c = g .a-rows * g .b-columns in
-    let s = then-tells (checkOperands a b (g .A) (g .B)) _ e in
-    let t = then-tells (longEnough 1 a (length (g .A .lowers)) (length (g .A .uppers))) _ (s .0) in
-    let u = then-tells (longEnough 0 a (g .a-mids) (g .a-rads)) _ (s .1) in
-    let v = then-tells (longEnough 0 b (g .b-mids) (g .b-rads)) _ (u .1) in
+    let s = then-tells (checkOperands a b (g .A) (g .B)) _ tt e in
+    let t = then-tells (checkLengths 1 a (length (g .A .lowers)) (length (g .A .uppers))) _ tt (s .0 .1) in
+    let u = then-tells (checkLengths 0 a (g .a-mids) (g .a-rads)) _ tt (s .1) in
+    let v = then-tells (checkLengths 0 b (g .b-mids) (g .b-rads)) _ tt (u .1) in
     record {
-      a-cells = lengths-tell 1 a _ _ (t .0);
+      a-cells = lengths-tell 1 a _ _ (t .0 .1);
       b-cells = lengths-tell 2 b _ _ (t .1);
-      a-work = lengths-tell 0 a _ _ (u .0);
-      b-work = lengths-tell 0 b _ _ (v .0);
+      a-work = lengths-tell 0 a _ _ (u .0 .1);
+      b-work = lengths-tell 0 b _ _ (v .0 .1);
       result = lengths-tell 3 c _ _ (v .1);
     }
 
 -- ---- 3 and 4
 
--- the test holds at the first index at which it does
-first-holds : (test : ℕ → Bool) (n : ℕ) → first test n < n → test (first test n) ≡ true
-unfolding first
-first-holds test zero h = absurd (omega arith)
-first-holds test (suc n) h = go (ltb (first test n) n) (test n) (ltb→lt (first test n) n) refl (λ l. first-holds test n l) h
+not-faulty : (n : ℕ) → faulty n ≡ false → n ≡ 0
+not-faulty n t = go (eqb n 0) refl t
   where
-    go : (t u : Bool) → (T t → first test n < n) → test n ≡ u → (first test n < n → test (first test n) ≡ true)
-        → cond t (first test n) (cond u n (suc n)) < suc n → test (cond t (first test n) (cond u n (suc n))) ≡ true
-    go true u f e i h = i (f tt)
-    go false true f e i h = e
-    go false false f e i h = absurd (omega arith)
+    go : (b : Bool) → eqb n 0 ≡ b → not b ≡ false → n ≡ 0
+    go true e t = eqb-true n 0 e
+    go false e t = let z : _≡_ {A = ℕ} 0 1 = cc in absurd (omega arith)
 
-fault-told : (matrix i j : ℕ) (f : Fault) → faulty f ≡ true → refusalAt matrix i j f ≡ Done → ⊥
-fault-told matrix i j Fine t e = let z : _≡_ {A = ℕ} 0 1 = cc in omega arith
-fault-told matrix i j Infinite t e = no-refusal (R.NotFinite matrix i j) e
-fault-told matrix i j Above t e = no-refusal (R.Crossed matrix i j) e
-
-not-faulty : (f : Fault) → faulty f ≡ false → f ≡ Fine
-not-faulty Fine t = refl
-not-faulty Infinite t = let z : _≡_ {A = ℕ} 0 1 = cc in absurd (omega arith)
-not-faulty Above t = let z : _≡_ {A = ℕ} 0 1 = cc in absurd (omega arith)
-
-pub cells-tell : (matrix rows columns : ℕ) (X : Matrix) → checkCells matrix rows columns X ≡ Done → AllFine X (rows * columns)
+pub cells-tell : (matrix rows columns : ℕ) (X : Matrix) → checkCells matrix rows columns X ≡ done → AllFine X (rows * columns)
 unfolding checkCells
 cells-tell matrix rows columns X e c l = not-faulty (faultAt X c) (first-before test n all c l)
   where
@@ -150,24 +103,24 @@ cells-tell matrix rows columns X e c l = not-faulty (faultAt X c) (first-before 
     test : ℕ → Bool
     test c = faulty (faultAt X c)
 
-    go : (t : Bool) → (T t → first test n < n) → (T (not t) → n ≤ first test n)
-        → cond t (refusalAt matrix (first test n / columns) (first test n % columns) (faultAt X (first test n))) Done ≡ Done → n ≤ first test n
-    go true f g e = absurd (fault-told matrix _ _ (faultAt X (first test n)) (first-holds test n (f tt)) e)
-    go false f g e = g tt
+    go : (t : Bool) → (T (not t) → n ≤ first test n)
+        → cond t (refuses (ofCell (faultAt X (first test n)) matrix (first test n / columns) (first test n % columns))) done ≡ done → n ≤ first test n
+    go true g e = absurd (not-both e)
+    go false g e = g tt
 
     all : first test n ≡ n
     all =
-        let h : n ≤ first test n = go (ltb (first test n) n) (ltb→lt (first test n) n) (nltb→le (first test n) n) e in
+        let h : n ≤ first test n = go (ltb (first test n) n) (nltb→le (first test n) n) e in
         let i : first test n ≤ n = first-le test n in
         omega arith
 
 -- ---- all of them
 module _ (g : Given) where
-  pub shapes-tell : checkShapes g ≡ Done → ((m : Method) × (methodOf (g .method) ≡ some m)) × Sized (g .a-rows) (g .a-columns) (g .b-rows) (g .b-columns)
+  pub shapes-tell : checkShapes g ≡ done → ((m : Method) × (methodOf (g .method) ≡ some m)) × Sized (g .a-rows) (g .a-columns) (g .b-rows) (g .b-columns)
   unfolding checkShapes
   shapes-tell e =
-      let s = then-tells (checkMethod (g .method)) _ e in
-      (method-tells (g .method) (s .0), sizes-tell (g .a-rows) (g .a-columns) (g .b-rows) (g .b-columns) (s .1))
+      let s = then-tells (checkMethod (g .method)) _ tt e in
+      (method-tells (g .method) (s .0 .1), sizes-tell (g .a-rows) (g .a-columns) (g .b-rows) (g .b-columns) (s .1))
 
   -- what the cells' check asks for
   pub a-covered : Sized (g .a-rows) (g .a-columns) (g .b-rows) (g .b-columns) → Long g → Covered (g .a-rows) (g .a-columns) (g .A .lowers) (g .A .uppers)
@@ -183,17 +136,17 @@ pub record Checked (g : Given) : Type 0 where
   pub a-fine : AllFine (g .A) (g .a-rows * g .a-columns)
   pub b-fine : AllFine (g .B) (g .b-rows * g .b-columns)
 
-pub checked-tells : (g : Given) → checkOf g ≡ Done → Checked g
+pub checked-tells : (g : Given) → checkOf g ≡ done → Checked g
 unfolding checkOf checkBoth
 checked-tells g e =
-    let s = then-tells (checkShapes g) _ e in
-    let t = then-tells (checkLengths g) _ (s .1) in
-    let u = then-tells (checkCells 1 (g .a-rows) (g .a-columns) (g .A)) (checkCells 2 (g .b-rows) (g .b-columns) (g .B)) (t .1) in
-    let v = shapes-tell g (s .0) in
+    let s = then-tells (checkShapes g) _ tt e in
+    let t = then-tells (checkSlices g) _ tt (s .1) in
+    let u = then-tells (checkCells 1 (g .a-rows) (g .a-columns) (g .A)) (checkCells 2 (g .b-rows) (g .b-columns) (g .B)) tt (t .1) in
+    let v = shapes-tell g (s .0 .1) in
     record {
       method = v .0;
       sizes = v .1;
-      lengths = all-lengths-tell g (t .0);
-      a-fine = cells-tell 1 (g .a-rows) (g .a-columns) (g .A) (u .0);
+      lengths = slices-tell g (t .0 .1);
+      a-fine = cells-tell 1 (g .a-rows) (g .a-columns) (g .A) (u .0 .1);
       b-fine = cells-tell 2 (g .b-rows) (g .b-columns) (g .B) (u .1);
     }

@@ -1,34 +1,28 @@
 -- The conversion of a cell without a fault: what its midpoint and its radius are, and that it is not refused.
 use mathlib.Core.Path.{_≡_, sym, ap, _∙_}
 use Prim.Native.Nat.{ℕ}
-use native.Mathlib.Omega.{arith}
-use Rattle.intervals.specs.declared.Fault.the-variants.{Fine}
-use Rattle.intervals.specs.declared.Converted.{Converted}
-use Rattle.intervals.specs.declared.Converted.the-variants.{MidRad, NoMidRad}
-use Rattle.intervals.specs.Conversion.{byFault, midradOf}
 use Rattle.refusals.specs.declared.Refusal.{Refusal}
+use Rattle.refusals.specs.Answer.{gives}
+use Rattle.refusals.proofs.Answers.{gives-injective, not-both, passing-on}
+use Rattle.intervals.specs.declared.Converted.{Converted}
+use Rattle.intervals.specs.declared.Converted.the-variants.{MidRad, Refused}
+use Rattle.intervals.specs.Conversion.{converted, midradOf}
 use Rattle.products.specs.Matrix.{Matrix, lowerAt, upperAt, midAt, radAt, faultAt}
 
--- at place c of X, for the answer z of the conversion
-module _ (X : Matrix) (c : ℕ) (fine : faultAt X c ≡ Fine) (z : Converted) (e : z ≡ midradOf (lowerAt X c) (upperAt X c)) where
-  converted : z ≡ MidRad (midAt X c) (radAt X c)
+-- at position c of X, for the answer z of the conversion
+module _ (X : Matrix) (c : ℕ) (fine : faultAt X c ≡ 0) (z : Converted) (e : converted z ≡ midradOf (lowerAt X c) (upperAt X c)) where
+  is : converted z ≡ gives (midAt X c, radAt X c)
   unfolding midradOf
-  converted = e ∙ ap (λ f. byFault f (lowerAt X c) (upperAt X c)) fine
+  is = e ∙ sym (passing-on (faultAt X c) _ fine)
+
+  pair-is : (m r : ℕ) → z ≡ MidRad m r → _≡_ {A = ℕ × ℕ} (m, r) (midAt X c, radAt X c)
+  pair-is m r f = gives-injective (sym (ap converted f) ∙ is)
 
   pub fine-mid : (m r : ℕ) → z ≡ MidRad m r → m ≡ midAt X c
-  fine-mid m r f = go (sym f ∙ converted)
-    where
-      go : MidRad m r ≡ MidRad (midAt X c) (radAt X c) → m ≡ midAt X c
-      go e = cc
+  fine-mid m r f = ap (λ p. p .0) (pair-is m r f)
 
   pub fine-rad : (m r : ℕ) → z ≡ MidRad m r → r ≡ radAt X c
-  fine-rad m r f = go (sym f ∙ converted)
-    where
-      go : MidRad m r ≡ MidRad (midAt X c) (radAt X c) → r ≡ radAt X c
-      go e = cc
+  fine-rad m r f = ap (λ p. p .1) (pair-is m r f)
 
-  pub fine-refused : (x : Refusal) → z ≡ NoMidRad x → ⊥
-  fine-refused x f = go (sym f ∙ converted)
-    where
-      go : NoMidRad x ≡ MidRad (midAt X c) (radAt X c) → ⊥
-      go e = let z : _≡_ {A = ℕ} 0 1 = cc in omega arith
+  pub fine-refused : (x : Refusal) → z ≡ Refused x → ⊥
+  fine-refused x f = not-both (sym (ap converted f) ∙ is)

@@ -1,4 +1,4 @@
--- The order of places is the order of exact products: so the corner of the lesser place has the lesser product, and the one of the greater place the greater.
+-- The order of ranks is the order of exact products: so the corner of the lesser rank has the lesser product, and the one of the greater rank the greater.
 use mathlib.Core.Path.{_≡_, sym, ap, _∙_, subst}
 use mathlib.Core.Bool.{Bool, true, false, cond, not}
 use mathlib.Core.List.{[], _∷_}
@@ -21,7 +21,7 @@ use Rattle.rounding.proofs.Sign.{neg-le, of-neg-le, pos-le-neg, neg-le-pos}
 use Rattle.products.specs.declared.times.Product.{Product}
 use Rattle.products.specs.declared.corners.Corner.{Corner}
 use Rattle.products.specs.Exact.{Exact}
-use Rattle.products.specs.Corners.{placeOf, lesserOf, greaterOf}
+use Rattle.products.specs.Corners.{rankOf, lesserOf, greaterOf}
 
 -- ---- magnitudes
 
@@ -87,21 +87,21 @@ module _ (m n e f : ℕ) (p : Digits m e) (q : Digits n f) (h : m + e * 2 ^ 47 �
 
 -- ---- values
 
-pub place-neg : (n e : ℕ) → placeOf (negsuc n) e ≡ negℤ (pos (suc n + e * 2 ^ 47))
-unfolding placeOf
-place-neg n e = lin-eq (pos n ∷ pos e ∷ []) [] (search reading depth 20) (omega arith)
+pub rank-neg : (n e : ℕ) → rankOf (negsuc n) e ≡ negℤ (pos (suc n + e * 2 ^ 47))
+unfolding rankOf
+rank-neg n e = lin-eq (pos n ∷ pos e ∷ []) [] (search reading depth 20) (omega arith)
 
-signed-order : (s t : ℤ) (e f : ℕ) → Digits (natAbs s) e → Digits (natAbs t) f → placeOf s e ≼ placeOf t f
+signed-order : (s t : ℤ) (e f : ℕ) → Digits (natAbs s) e → Digits (natAbs t) f → rankOf s e ≼ rankOf t f
     → s *ℤ pos (2 ^ e) ≼ t *ℤ pos (2 ^ f)
-unfolding placeOf
+unfolding rankOf
 signed-order (pos m) (pos n) e f p q h = of-le (digits-order m n e f p q (to-le h))
-signed-order (pos m) (negsuc n) e f p q h = absurd (no (pos-le-neg (subst (λ z. placeOf (pos m) e ≼ z) (place-neg n f) h)))
+signed-order (pos m) (negsuc n) e f p q h = absurd (no (pos-le-neg (subst (λ z. rankOf (pos m) e ≼ z) (rank-neg n f) h)))
   where
     no : suc n + f * 2 ^ 47 ≡ 0 → ⊥
     no k = omega arith
 signed-order (negsuc m) (pos n) e f p q h = neg-le-pos (suc m * 2 ^ e) (n * 2 ^ f)
 signed-order (negsuc m) (negsuc n) e f p q h =
-    neg-le (digits-order (suc n) (suc m) f e q p (of-neg-le (subst (λ z. z ≼ negℤ (pos (suc n + f * 2 ^ 47))) (place-neg m e) (subst (λ z. placeOf (negsuc m) e ≼ z) (place-neg n f) h))))
+    neg-le (digits-order (suc n) (suc m) f e q p (of-neg-le (subst (λ z. z ≼ negℤ (pos (suc n + f * 2 ^ 47))) (rank-neg m e) (subst (λ z. rankOf (negsuc m) e ≼ z) (rank-neg n f) h))))
 
 digits-of : {X : ℤ} {p : Product} → Exact X p → Digits (natAbs (p .sig)) (p .exp)
 digits-of x = record { few = x .few; full = x .full; some = x .some; none = x .none }
@@ -109,20 +109,20 @@ digits-of x = record { few = x .few; full = x .full; some = x .some; none = x .n
 cancel : (K : ℕ) {X Y : ℤ} → 0 < K → X *ℤ pos K ≼ Y *ℤ pos K → X ≼ Y
 cancel K {X} {Y} k h = cancel-le {c = pos K} (of-lt k) (lin-le (X ∷ Y ∷ pos K ∷ []) (le h ∷ []) (search reading depth 20) (omega arith))
 
-pub place-order : {X Y : ℤ} {p q : Product} → Exact X p → Exact Y q → placeOf (p .sig) (p .exp) ≼ placeOf (q .sig) (q .exp) → X ≼ Y
-place-order {Y = Y} {p = p} {q = q} x y h =
+pub rank-order : {X Y : ℤ} {p q : Product} → Exact X p → Exact Y q → rankOf (p .sig) (p .exp) ≼ rankOf (q .sig) (q .exp) → X ≼ Y
+rank-order {Y = Y} {p = p} {q = q} x y h =
     cancel (2 ^ 801) (pow-pos 801)
     (subst (λ z. z ≼ Y *ℤ pos (2 ^ 801)) (x .value) (subst (λ z. p .sig *ℤ pos (2 ^ (p .exp)) ≼ z) (y .value) (signed-order (p .sig) (q .sig) (p .exp) (q .exp) (digits-of x) (digits-of y) h)))
 
 -- ---- corners
 
-abbrev place-of : Corner → ℤ
-place-of r = placeOf (r .product .sig) (r .product .exp)
+abbrev rank-of : Corner → ℤ
+rank-of r = rankOf (r .product .sig) (r .product .exp)
 
--- the exact product r is X, at its place
+-- the exact product r is X, at its rank
 pub record At (X : ℤ) (r : Corner) : Type 0 where
   pub exact : Exact X (r .product)
-  pub place : r .place ≡ placeOf (r .product .sig) (r .product .exp)
+  pub rank : r .rank ≡ rankOf (r .product .sig) (r .product .exp)
 
 pub min-left : {a b : ℤ} → a ≼ b → a ≡ minℤ a b
 min-left {a} {b} h = ≼-antisym (≼-min (≼-refl a) h) (min-≼-l a b)
@@ -137,18 +137,18 @@ pub max-right : {a b : ℤ} → a ≼ b → b ≡ maxℤ a b
 max-right {a} {b} h = ≼-antisym (≼-max-r a b) (max-≼ h (≼-refl b))
 
 module _ {X Y : ℤ} {x y : Corner} (p : At X x) (q : At Y y) where
-  first : T (leZ (x .place) (y .place)) → X ≼ Y
-  first t = place-order (p .exact) (q .exact) (subst (λ z. z ≼ place-of y) (p .place) (subst (λ z. x .place ≼ z) (q .place) (leZ-yes t)))
+  first : T (leZ (x .rank) (y .rank)) → X ≼ Y
+  first t = rank-order (p .exact) (q .exact) (subst (λ z. z ≼ rank-of y) (p .rank) (subst (λ z. x .rank ≼ z) (q .rank) (leZ-yes t)))
 
-  second : T (not (leZ (x .place) (y .place))) → Y ≼ X
+  second : T (not (leZ (x .rank) (y .rank))) → Y ≼ X
   second t =
-      place-order (q .exact) (p .exact)
-      (subst (λ z. z ≼ place-of x) (q .place) (subst (λ z. y .place ≼ z) (p .place)
-      (⊎-elim (λ h. absurd (T-not (leZ (x .place) (y .place)) t (h .le))) ≼-of-≺ (≼-or-≺ (x .place) (y .place)))))
+      rank-order (q .exact) (p .exact)
+      (subst (λ z. z ≼ rank-of x) (q .rank) (subst (λ z. y .rank ≼ z) (p .rank)
+      (⊎-elim (λ h. absurd (T-not (leZ (x .rank) (y .rank)) t (h .le))) ≼-of-≺ (≼-or-≺ (x .rank) (y .rank)))))
 
   pub lesser-at : At (minℤ X Y) (lesserOf x y)
   unfolding lesserOf
-  lesser-at = go (leZ (x .place) (y .place)) first second
+  lesser-at = go (leZ (x .rank) (y .rank)) first second
     where
       go : (t : Bool) → (T t → X ≼ Y) → (T (not t) → Y ≼ X) → At (minℤ X Y) (cond t x y)
       go true f g = subst (λ z. At z x) (min-left (f tt)) p
@@ -156,7 +156,7 @@ module _ {X Y : ℤ} {x y : Corner} (p : At X x) (q : At Y y) where
 
   pub greater-at : At (maxℤ X Y) (greaterOf x y)
   unfolding greaterOf
-  greater-at = go (leZ (x .place) (y .place)) first second
+  greater-at = go (leZ (x .rank) (y .rank)) first second
     where
       go : (t : Bool) → (T t → X ≼ Y) → (T (not t) → Y ≼ X) → At (maxℤ X Y) (cond t y x)
       go true f g = subst (λ z. At z y) (max-right (f tt)) q

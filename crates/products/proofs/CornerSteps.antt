@@ -1,4 +1,4 @@
--- The corners of two cells: of their four exact products the one of the least place is the least, and the one of the greatest place the greatest,
+-- The corners of two cells: of their four exact products the one of the least rank is the least, and the one of the greatest rank the greatest,
 -- and these two alone are rounded.
 use mathlib.Core.Path.{_≡_, sym, ap₂, _∙_, subst}
 use Prim.Native.Nat.{_^_}
@@ -28,7 +28,7 @@ pub corner-at : {u v : ℤ} {x y : Number} {r : Corner} → Worth u x → Worth 
 corner-at {x = x} {y = y} {r = r} h k c =
     record {
       exact = subst (λ z. Exact z (r .product)) (ap₂ _*ℤ_ (h .1) (k .1)) (exact-worths x y (r .product) (h .0) (k .0) (c .product));
-      place = c .place;
+      rank = c .rank;
     }
 
 module _ (al au bl bu : ℤ) where

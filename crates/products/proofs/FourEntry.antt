@@ -26,7 +26,7 @@ use Rattle.products.specs.Running.{Ended}
 use Rattle.products.specs.Centred.{addsOf, zeroCentred, AllNumbers, Added, Grown, refusedCentred, CentredSum}
 use Rattle.products.specs.Derived.{outerOf}
 use Rattle.products.specs.MidRad.{midRadAt, entryFrom}
-use Rattle.products.proofs.Writing.{place-entry-from}
+use Rattle.products.proofs.Writing.{position-entry-from}
 use Rattle.products.proofs.Carrying.{holds-runs, holds-none, mirrored-is, negate-none, up-more, sum-stays}
 use Rattle.products.proofs.CornerTerms.{zero-value}
 use Rattle.products.proofs.Radii.{grown-below}
@@ -162,7 +162,7 @@ module _ (p : Spot) where
       let z = adds-not (a-rad l) w t in
       (up-same _ v l (outer-zero (left l) (right l) w (zero-value (a-rad l) (z .0)) (z .1) h) x (S .0), S .1)
 
-  -- ---- the entry, at place c by rows
+  -- ---- the entry, at position c by rows
   pub radius-stays : MiddleNone → (next : ℤ → Option ℤ) → OneNone (middles down (p .k)) (middles up (p .k)) (bind (inners (p .k)) next)
   unfolding MiddleNone bind
   radius-stays (inl e) next = inl e
@@ -179,7 +179,7 @@ module _ (p : Spot) where
 
     is : entryBy four c ≡ ends (of binary32) radius (middles down (p .k)) (middles up (p .k))
     unfolding entry radius₄ centre total middles inners outers
-    is = place-entry-from four (p .k) (p .n) (p .i) (p .j) c at in-row (p .ma) (p .ra) (p .mb) (p .rb)
+    is = position-entry-from four (p .k) (p .n) (p .i) (p .j) c at in-row (p .ma) (p .ra) (p .mb) (p .rb)
 
     pub four-middle : MiddleNone → entryBy four c ≡ none
     four-middle o = is ∙ ends-none radius (middles down (p .k)) (middles up (p .k)) (radius-stays o (λ v. outers v (p .k)))

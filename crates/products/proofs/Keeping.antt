@@ -13,22 +13,21 @@ use Rattle.enclosure.specs.Demand.{Valid, ValidCells, Kept}
 use Rattle.enclosure.proofs.Demand.{demand-kept}
 use Rattle.binary32.specs.Number.{valueOf}
 use Rattle.binary32.proofs.Held.{pattern-value}
-use Rattle.intervals.specs.declared.Fault.the-variants.{Fine}
 use Rattle.intervals.proofs.Faults.{fine-tells}
-use Rattle.refusals.specs.declared.Refusal.the-variants as R
-use Rattle.products.specs.declared.Outcome.{Outcome}
-use Rattle.products.specs.declared.Outcome.the-variants.{Done, Refused}
+use Rattle.refusals.specs.Refusal.{ofCell}
+use Rattle.refusals.specs.Answer.{Answer, refuses, done}
+use Rattle.refusals.proofs.Answers.{not-both, then-tells}
 use Rattle.products.specs.Lists.{front}
 use Rattle.products.specs.Matrix.{Matrix, lowerAt, upperAt, cellAt, faultAt}
 use Rattle.products.specs.Entries.{entryOf, refused, lowerOf, upperOf, stopOf}
 use Rattle.products.specs.Checks.{Given, chosen, checkOf}
-use Rattle.products.specs.Product.{entries, cells, stop, outcomeOf, resultAfter, Left}
+use Rattle.products.specs.Product.{entries, cells, stop, productOf, resultAfter, Left}
 use Rattle.products.specs.Demand.{Keeps, rowOf, columnOf, rangeAt}
-use Rattle.products.proofs.CheckTells.{Checked, checked-tells, then-tells}
+use Rattle.products.proofs.CheckTells.{Checked, checked-tells}
 use Rattle.products.proofs.EntryNumbers.{entry-numbers}
 use Rattle.products.proofs.Firsts.{first-le, first-before}
 use Rattle.products.proofs.Fronts.{getD-front}
-use Rattle.products.proofs.Writing.{below, place-entry}
+use Rattle.products.proofs.Writing.{below, position-entry}
 
 -- ---- an entry that is not refused
 record Accepted (m : Option Range) : Type 0 where
@@ -43,7 +42,7 @@ accepted none h = absurd (no h)
     no e = subst (λ x. cond x (Unit {0}) ⊥) e tt
 
 -- ---- a cell without a fault
-valid : (X : Matrix) (c : ℕ) → faultAt X c ≡ Fine → Valid binary32 (cellAt X c)
+valid : (X : Matrix) (c : ℕ) → faultAt X c ≡ 0 → Valid binary32 (cellAt X c)
 unfolding cellAt
 valid X c h =
     let o = fine-tells (lowerAt X c) (upperAt X c) h in
@@ -70,7 +69,7 @@ module _ (g : Given) (ok : Checked g) where
   entry-at i j = entryOf (chosen (g .method)) (g .a-columns) (g .b-columns) (g .A) (g .B) i j
 
   here : (i j : ℕ) → j < g .b-columns → entries g (i * g .b-columns + j) ≡ entry-at i j
-  here i j h = place-entry (chosen (g .method)) (g .a-columns) (g .b-columns) i j (i * g .b-columns + j) refl h (g .A) (g .B)
+  here i j h = position-entry (chosen (g .method)) (g .a-columns) (g .b-columns) i j (i * g .b-columns + j) refl h (g .A) (g .B)
 
   -- where none is refused, that entry is accepted
   accepted-at : stop g ≡ cells g → (i j : ℕ) → i < g .a-rows → j < g .b-columns → Accepted (entry-at i j)
@@ -100,33 +99,30 @@ module _ (g : Given) where
   unfolding stopOf
   bounded = first-le (λ c. refused (entries g c)) (cells g)
 
-  outcome-tells : outcomeOf g ≡ Done → (checkOf g ≡ Done) × (stop g ≡ cells g)
-  unfolding outcomeOf
-  outcome-tells e =
-      let t = then-tells (checkOf g) _ e in
-      (t .0, whole (ltb (stop g) (cells g)) refl (t .1))
+  done-tells : productOf g ≡ done → (checkOf g ≡ done) × (stop g ≡ cells g)
+  unfolding productOf
+  done-tells e =
+      let t = then-tells (checkOf g) _ tt e in
+      (t .0 .1, whole (ltb (stop g) (cells g)) refl (t .1))
     where
-      no : Refused (R.Overflow 3 (stop g / g .b-columns) (stop g % g .b-columns)) ≡ Done → ⊥
-      no e = let z : _≡_ {A = ℕ} 0 1 = cc in absurd (omega arith)
-
-      whole : (b : Bool) → ltb (stop g) (cells g) ≡ b → cond b (Refused (R.Overflow 3 (stop g / g .b-columns) (stop g % g .b-columns))) Done ≡ Done → stop g ≡ cells g
-      whole true t e = absurd (no e)
+      whole : (b : Bool) → ltb (stop g) (cells g) ≡ b → cond b (refuses (ofCell 5 3 (stop g / g .b-columns) (stop g % g .b-columns))) done ≡ done → stop g ≡ cells g
+      whole true t e = absurd (not-both e)
       whole false t e =
           let h : cells g ≤ stop g = ltb-false (stop g) (cells g) t in
           let l : stop g ≤ cells g = bounded in
           omega arith
 
-  result-done : (bound : Option Range → ℕ) (d : List ℕ) → checkOf g ≡ Done → stop g ≡ cells g → resultAfter g bound d ≡ front (cells g) (λ c. bound (entries g c)) d
+  result-done : (bound : Option Range → ℕ) (d : List ℕ) → checkOf g ≡ done → stop g ≡ cells g → resultAfter g bound d ≡ front (cells g) (λ c. bound (entries g c)) d
   unfolding resultAfter
   result-done bound d e s = rw (e, le-ltb (stop g) (cells g) (omega arith))
 
-pub left-keeps : {g : Given} {ma ra mb rb lo up : List ℕ} {r : Outcome} {ma′ ra′ mb′ rb′ lo′ up′ : List ℕ} → Left g ma ra mb rb lo up r ma′ ra′ mb′ rb′ lo′ up′
-    → Left g ma ra mb rb lo up r ma′ ra′ mb′ rb′ lo′ up′ × Keeps g r lo′ up′
+pub left-keeps : {g : Given} {ma ra mb rb lo up : List ℕ} {r : Answer (Unit {0})} {ma′ ra′ mb′ rb′ lo′ up′ : List ℕ} → Left g ma ra mb rb lo up r ma′ ra′ mb′ rb′ lo′ up′
+    → Left g ma ra mb rb lo up r ma′ ra′ mb′ rb′ lo′ up′ × Keeps g lo′ up′
 unfolding Keeps
 left-keeps {g = g} {lo = lo} {up = up} L = (
   L,
-  λ done i j hi hj.
-      let t = outcome-tells g (sym (L .outcome) ∙ done) in
+  λ e i j hi hj.
+      let t = done-tells g e in
       rw (L .lowers ∙ result-done g lowerOf lo (t .0) (t .1), L .uppers ∙ result-done g upperOf up (t .0) (t .1))
       (keeps-at g (checked-tells g (t .0)) lo up (t .1) i j hi hj),
 )

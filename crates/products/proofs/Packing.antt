@@ -15,9 +15,9 @@ use Rattle.algebra.proofs.Linear.{reading, eq, lin-absurd}
 use Rattle.algebra.proofs.Power.{pow-split}
 use Rattle.rounding.specs.Format.{binary32, MAX, Form, Num}
 use Rattle.rounding.proofs.Grid.{form-of}
-use Rattle.rounding.specs.Pattern.{place}
+use Rattle.rounding.specs.Pattern.{encode}
 use Rattle.rounding.proofs.Pattern.{val-pattern}
-use Rattle.rounding.proofs.Place.{place-val}
+use Rattle.rounding.proofs.Encoding.{encode-val}
 use Rattle.binary32.specs.Number.{patternOf}
 use Rattle.products.specs.declared.number.Number.{Number}
 use Rattle.products.specs.Number.{worth, Normal, IsNumber}
@@ -38,9 +38,9 @@ fields-low m exp h = sym (ap (λ t. cond t ((exp - 400) * 2 ^ 23 + m) (m / 2 ^ (
 pub fields-capped : (m exp : ℕ) → m ≤ 2 ^ 24 → exp < 400 → m / 2 ^ min (400 - exp) 61 ≡ fieldsOf m exp
 fields-capped m exp h l = ap natAbs (capped (pos m) (400 - exp) (omega arith)) ∙ fields-low m exp l
 
--- m * 2 ^ j has the place j * 2 ^ 23 + m
-place-of : (j m : ℕ) → m ≤ 2 ^ 24 → (j ≡ 0) ⊎ (2 ^ 23 ≤ m) → place binary32 (m * 2 ^ j) ≡ j * 2 ^ 23 + m
-place-of j m h s = ap (place binary32) (sym (val-pattern binary32 j m h s)) ∙ place-val binary32 (j * 2 ^ 23 + m)
+-- m * 2 ^ j has the encode j * 2 ^ 23 + m
+encode-of : (j m : ℕ) → m ≤ 2 ^ 24 → (j ≡ 0) ⊎ (2 ^ 23 ≤ m) → encode binary32 (m * 2 ^ j) ≡ j * 2 ^ 23 + m
+encode-of j m h s = ap (encode binary32) (sym (val-pattern binary32 j m h s)) ∙ encode-val binary32 (j * 2 ^ 23 + m)
 
 -- over plain numbers: a * 2 ^ 400 = s * 2 ^ e
 module _ (a s e : ℕ) (h : a * 2 ^ 400 ≡ s * 2 ^ e) where
@@ -59,8 +59,8 @@ module _ (a s e : ℕ) (h : a * 2 ^ 400 ≡ s * 2 ^ e) where
 at-most : (a k : ℕ) → 0 < k → a ≤ a * k
 at-most a k p = omega (arith, mul-le-mul-left a p)
 
-pub place-is : (x : Number) → Normal x → place binary32 (natAbs (worth x)) ≡ fieldsOf (natAbs (x .sig)) (x .exp)
-place-is x n = ⊎-elim high low (le-or-lt 400 (x .exp))
+pub encode-is : (x : Number) → Normal x → encode binary32 (natAbs (worth x)) ≡ fieldsOf (natAbs (x .sig)) (x .exp)
+encode-is x n = ⊎-elim high low (le-or-lt 400 (x .exp))
   where
     a : ℕ
     a = natAbs (worth x)
@@ -68,8 +68,8 @@ place-is x n = ⊎-elim high low (le-or-lt 400 (x .exp))
     m : ℕ
     m = natAbs (x .sig)
 
-    high : 400 ≤ x .exp → place binary32 a ≡ fieldsOf m (x .exp)
-    high h = ap (place binary32) (over a m (x .exp) (worth-abs x n) h) ∙ place-of (x .exp - 400) m (n .few) (inr (n .full some)) ∙ fields-high m (x .exp) h
+    high : 400 ≤ x .exp → encode binary32 a ≡ fieldsOf m (x .exp)
+    high h = ap (encode binary32) (over a m (x .exp) (worth-abs x n) h) ∙ encode-of (x .exp - 400) m (n .few) (inr (n .full some)) ∙ fields-high m (x .exp) h
       where
         some : 0 < m
         some = ⊎-elim (λ e. absurd (no (n .low e))) (λ l. l) (eq-zero-or-pos m)
@@ -77,8 +77,8 @@ place-is x n = ⊎-elim high low (le-or-lt 400 (x .exp))
             no : x .exp ≡ 64 → ⊥
             no e = omega arith
 
-    low : x .exp < 400 → place binary32 a ≡ fieldsOf m (x .exp)
-    low h = ap (place binary32) (sym (mul-one a)) ∙ place-of 0 a few (inl refl) ∙ sym quotient ∙ fields-low m (x .exp) h
+    low : x .exp < 400 → encode binary32 a ≡ fieldsOf m (x .exp)
+    low h = ap (encode binary32) (sym (mul-one a)) ∙ encode-of 0 a few (inl refl) ∙ sym quotient ∙ fields-low m (x .exp) h
       where
         whole : m ≡ a * 2 ^ (400 - x .exp)
         whole = under a m (x .exp) (worth-abs x n) (omega arith)
@@ -135,11 +135,11 @@ sign-same (negsuc s) (pos v) m K p q e = absurd (no (mul-pos {m = suc s} {n = m}
     no : 0 < suc s * m → ⊥
     no l = lin-absurd (pos s ∷ pos v ∷ pos m ∷ pos K ∷ []) (eq e ∷ []) (search reading depth 20) (omega arith)
 
-pattern-neg : (v : ℤ) → ltZ v (pos 0) ≡ true → 2 ^ 31 + place binary32 (natAbs v) ≡ patternOf v
+pattern-neg : (v : ℤ) → ltZ v (pos 0) ≡ true → 2 ^ 31 + encode binary32 (natAbs v) ≡ patternOf v
 pattern-neg (pos n) t = absurd (not-suc-le-zero (ltb-true n 0 t))
 pattern-neg (negsuc n) t = refl
 
-pattern-pos : (v : ℤ) → ltZ v (pos 0) ≡ false → place binary32 (natAbs v) ≡ patternOf v
+pattern-pos : (v : ℤ) → ltZ v (pos 0) ≡ false → encode binary32 (natAbs v) ≡ patternOf v
 pattern-pos (pos n) t = refl
 pattern-pos (negsuc n) t = absurd (subst T t tt)
 
@@ -148,10 +148,10 @@ same-sign x n = sign-same (x .sig) (worth x) (2 ^ (x .exp)) (2 ^ 400) (pow-pos (
 
 module _ (x : Number) (n : Normal x) (t : ℕ) (e : t ≡ fieldsOf (natAbs (x .sig)) (x .exp)) where
   pub pack-below : ltZ (x .sig) (pos 0) ≡ true → 2 ^ 31 + t ≡ patternOf (worth x)
-  pack-below b = ap (λ y. 2 ^ 31 + y) (e ∙ sym (place-is x n)) ∙ pattern-neg (worth x) (sym (same-sign x n) ∙ b)
+  pack-below b = ap (λ y. 2 ^ 31 + y) (e ∙ sym (encode-is x n)) ∙ pattern-neg (worth x) (sym (same-sign x n) ∙ b)
 
   pub pack-above : ltZ (x .sig) (pos 0) ≡ false → t ≡ patternOf (worth x)
-  pack-above b = e ∙ sym (place-is x n) ∙ pattern-pos (worth x) (sym (same-sign x n) ∙ b)
+  pack-above b = e ∙ sym (encode-is x n) ∙ pattern-pos (worth x) (sym (same-sign x n) ∙ b)
 
 pub fields-less : (m e : ℕ) → m ≤ 2 ^ 24 → e ≤ 653 → fieldsOf m e ≤ 255 * 2 ^ 23
 unfolding fieldsOf

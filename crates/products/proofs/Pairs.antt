@@ -23,7 +23,7 @@ use Rattle.products.proofs.FarShifts.{natAbs-zero}
 use Rattle.products.proofs.Multiplying.{unpacked-number}
 use Rattle.products.proofs.CornerSteps.{Worth}
 
--- the cell at place p of A, taken apart
+-- the cell at position p of A, taken apart
 pub record Taken (A : Matrix) (p : ℕ) (a : Apart) : Type 0 where
   pub lower : Worth (valueOf (lowerAt A p)) (lowerNumber a)
   pub upper : Worth (valueOf (upperAt A p)) (upperNumber a)

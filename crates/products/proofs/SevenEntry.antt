@@ -21,7 +21,7 @@ use Rattle.products.specs.Number.{worth, IsNumber, Holds, Runs}
 use Rattle.products.specs.Running.{Ended}
 use Rattle.products.specs.Centred.{AllNumbers, Added, Shrunk, refusedCentred, CentredSum}
 use Rattle.products.specs.Derived.{outerOf, partOf}
-use Rattle.products.proofs.Writing.{place-entry-from}
+use Rattle.products.proofs.Writing.{position-entry-from}
 use Rattle.products.proofs.Carrying.{holds-runs, holds-none, mirrored-is, negate-none, sum-stays}
 use Rattle.products.proofs.MidRadSteps.{part-is, shared-is}
 use Rattle.products.proofs.CentredSteps.{CentredHolds, OneNone, all-numbers, centred-runs, centred-none, centred-more, centred-from, one-stays, radius-from, radius-more}
@@ -110,7 +110,7 @@ module _ (p : Spot) where
   unfolding SharedNext shareds
   shared-none v l r H m t = sum-stays (up binary32 1) _ v l (p .k) m (negate-none _ (holds-none _ r H t))
 
-  -- ---- the entry, at place c by rows
+  -- ---- the entry, at position c by rows
   abbrev centred : Way → Option ℤ
   centred way = bind (middles p way (p .k)) λ v. parts way v (p .k)
 
@@ -140,7 +140,7 @@ module _ (p : Spot) where
   module _ (c : ℕ) (at : c ≡ p .i * p .n + p .j) (in-row : p .j < p .n) where
     is : entryBy p seven c ≡ ends (of binary32) radius (centred down) (centred up)
     unfolding entry radius₄ radius₇ centre centre₇ total middles inners outers parts shareds
-    is = place-entry-from seven (p .k) (p .n) (p .i) (p .j) c at in-row (p .ma) (p .ra) (p .mb) (p .rb)
+    is = position-entry-from seven (p .k) (p .n) (p .i) (p .j) c at in-row (p .ma) (p .ra) (p .mb) (p .rb)
 
     pub seven-middle : MiddleNone p → entryBy p seven c ≡ none
     unfolding MiddleNone

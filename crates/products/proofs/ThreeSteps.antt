@@ -21,7 +21,7 @@ use Rattle.products.specs.Number.{worth, IsNumber, Below, Holds, Runs, O
 use Rattle.products.specs.Running.{plusDown, Ended}
 use Rattle.products.specs.Centred.{zeroNearest, NearNumbers, NearAdded, refusedNearest, NearestSum, addsOf}
 use Rattle.products.specs.Derived.{raisedOf, factorOf}
-use Rattle.products.proofs.Writing.{place-entry-from}
+use Rattle.products.proofs.Writing.{position-entry-from}
 use Rattle.products.proofs.Carrying.{holds-runs, holds-none, zero-runs, zero-below, mirrored-is, negate-none, any-more, up-more, sum-stays}
 use Rattle.products.proofs.Radii.{plus-below, grown-below}
 use Rattle.products.proofs.CornerTerms.{zero-value}
@@ -124,7 +124,7 @@ module _ (p : Spot) where
   unfolding TinySum
   tiny-number x S = (S .0 .number, S .1)
 
-  -- ---- the entry, at place c by rows
+  -- ---- the entry, at position c by rows
   module _ (c : ℕ) (at : c ≡ p .i * p .n + p .j) (in-row : p .j < p .n) where
     abbrev continued : Option ℤ → Option ℤ
     continued m = bind m λ v. outers p v (p .k)
@@ -138,7 +138,7 @@ module _ (p : Spot) where
     is : entryBy p three c ≡ ends (of binary32) radius middle middle
     unfolding entry radius₃ centre total middles raiseds outers
     is =
-        place-entry-from three (p .k) (p .n) (p .i) (p .j) c at in-row (p .ma) (p .ra) (p .mb) (p .rb)
+        position-entry-from three (p .k) (p .n) (p .i) (p .j) c at in-row (p .ma) (p .ra) (p .mb) (p .rb)
         ∙ ap (λ r. ends (of binary32) r middle middle) (nested (raiseds (p .k)) (λ v. outers p v (p .k)))
 
     pub three-first : FirstNone → entryBy p three c ≡ none

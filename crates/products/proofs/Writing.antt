@@ -28,20 +28,20 @@ pub small : (i j : ℕ) → i ≤ 32 → j ≤ 32 → i * j ≤ 1024
 small i j h k = mul-le-mul h k
 
 -- ---- the entry at the place of row i and column j
-place-row : (i j n c : ℕ) → c ≡ i * n + j → j < n → c / n ≡ i
-place-row i j n c e h = rw (e, digits-div i h)
+position-row : (i j n c : ℕ) → c ≡ i * n + j → j < n → c / n ≡ i
+position-row i j n c e h = rw (e, digits-div i h)
 
-place-column : (i j n c : ℕ) → c ≡ i * n + j → j < n → c % n ≡ j
-place-column i j n c e h = rw (e, digits-mod i h)
+position-column : (i j n c : ℕ) → c ≡ i * n + j → j < n → c % n ≡ j
+position-column i j n c e h = rw (e, digits-mod i h)
 
 module _ (method : Method) (k n i j c : ℕ) (e : c ≡ i * n + j) (h : j < n) where
-  pub place-entry : (A B : Matrix) → entryAt method k n A B c ≡ entryOf method k n A B i j
+  pub position-entry : (A B : Matrix) → entryAt method k n A B c ≡ entryOf method k n A B i j
   unfolding entryAt
-  place-entry A B = ap₂ (entryOf method k n A B) (place-row i j n c e h) (place-column i j n c e h)
+  position-entry A B = ap₂ (entryOf method k n A B) (position-row i j n c e h) (position-column i j n c e h)
 
-  pub place-entry-from : (ma ra mb rb : List ℕ) → entryFrom method k n ma ra mb rb c ≡ entry (of binary32) method k (λ l. midRadAt ma ra (i * k + l)) (λ l. midRadAt mb rb (l * n + j))
+  pub position-entry-from : (ma ra mb rb : List ℕ) → entryFrom method k n ma ra mb rb c ≡ entry (of binary32) method k (λ l. midRadAt ma ra (i * k + l)) (λ l. midRadAt mb rb (l * n + j))
   unfolding entryFrom
-  place-entry-from ma ra mb rb = ap₂ (λ r t. entry (of binary32) method k (λ l. midRadAt ma ra (r * k + l)) (λ l. midRadAt mb rb (l * n + t))) (place-row i j n c e h) (place-column i j n c e h)
+  position-entry-from ma ra mb rb = ap₂ (λ r t. entry (of binary32) method k (λ l. midRadAt ma ra (r * k + l)) (λ l. midRadAt mb rb (l * n + t))) (position-row i j n c e h) (position-column i j n c e h)
 
 -- ---- any entries E by place
 module _ (E : ℕ → Option Range) where
@@ -82,6 +82,6 @@ module _ (E : ℕ → Option Range) where
   written-at m n i j at lo up lo′ up′ e h l s g u w =
       let t : stopOf E (m * n) ≡ at = stop-here at (m * n) s g l in
       let b : ltb at (m * n) ≡ true = lt-ltb at (m * n) l in
-      let q : at / n ≡ i = place-row i j n at e h in
-      let r : at % n ≡ j = place-column i j n at e h in
+      let q : at / n ≡ i = position-row i j n at e h in
+      let r : at % n ≡ j = position-column i j n at e h in
       record { place = rw (t, b, q, r); lowers = rw t (filled-is at lowersOf lo lo′ u); uppers = rw t (filled-is at uppersOf up up′ w) }

@@ -1,17 +1,14 @@
 -- What a product checks before it works anything out, and in which order. Definitions only (01, "When a call is turned down").
-use mathlib.Core.Bool.{Bool, true, false, cond}
+use mathlib.Core.Bool.{Bool, true, false, not, cond}
 use mathlib.Core.Option.{Option, none, some, Option·getD}
 use mathlib.Core.List.{List}
 use Prim.Native.Nat.{ℕ, _*_, _/_, _%_, _≤_, _<_}
-use lib.Dec.{leb, ltb, eqb}
+use lib.Dec.{ltb, eqb}
 use lib.ListN.{length}
 use Rattle.enclosure.specs.Methods.{Method, classical, three, four, seven}
-use Rattle.intervals.specs.declared.Fault.{Fault}
-use Rattle.intervals.specs.declared.Fault.the-variants.{Fine, Infinite, Above}
-use Rattle.refusals.specs.declared.Refusal.{Refusal}
-use Rattle.refusals.specs.declared.Refusal.the-variants as R
-use Rattle.products.specs.declared.Outcome.{Outcome}
-use Rattle.products.specs.declared.Outcome.the-variants.{Done, Refused}
+use Rattle.refusals.specs.Refusal.{ofMatrix, ofCell}
+use Rattle.refusals.specs.Answer.{Answer, refuses, done, unless, then}
+use Rattle.refusals.specs.Sizes.{checkSize, checkLengths}
 use Rattle.products.specs.Lists.{first}
 use Rattle.products.specs.Matrix.{Matrix, faultAt}
 
@@ -49,15 +46,6 @@ given method ar ac br bc al au bl bu ma ra mb rb lo up =
       uppers = up;
     }
 
--- the first refusal
-abbrev pub then : Outcome → Outcome → Outcome
-then Done next = next
-then (Refused r) next = Refused r
-
-abbrev pub unless : Bool → Refusal → Outcome
-unless true r = Done
-unless false r = Refused r
-
 -- ---- 9: the method is 1, 3, 4 or 7
 unfoldable pub methodOf : ℕ → Option Method
 methodOf n = cond (eqb n 1) (some classical) (cond (eqb n 3) (some three) (cond (eqb n 4) (some four) (cond (eqb n 7) (some seven) none)))
@@ -70,51 +58,38 @@ abbrev pub known : Option Method → Bool
 known (some m) = true
 known none = false
 
-unfoldable pub checkMethod : ℕ → Outcome
-checkMethod n = unless (known (methodOf n)) R.Method
+unfoldable pub checkMethod : ℕ → Answer (Unit {0})
+checkMethod n = unless (known (methodOf n)) (ofMatrix 9 0)
 
--- ---- 1: each size is from 1 to 32, A's (1), then B's or the mismatch (2)
-abbrev pub sized : ℕ → ℕ → Bool
-sized rows columns = cond (leb 1 rows) (cond (leb rows 32) (cond (leb 1 columns) (leb columns 32) false) false) false
-
-unfoldable pub checkSizes : ℕ → ℕ → ℕ → ℕ → Outcome
-checkSizes ar ac br bc = then (unless (sized ar ac) (R.Size 1)) (unless (cond (sized br bc) (eqb ac br) false) (R.Size 2))
+-- ---- 1: A's sizes (1), then B's or the mismatch (2)
+unfoldable pub checkSizes : ℕ → ℕ → ℕ → ℕ → Answer (Unit {0})
+checkSizes ar ac br bc = then (checkSize 1 ar ac) (then (checkSize 2 br bc) (unless (eqb ac br) (ofMatrix 1 2)))
 
 -- ---- 2: each slice is as long as its cells, A's (1), B's (2), work (0, for method 1 too), result (3)
-unfoldable pub longEnough : ℕ → ℕ → ℕ → ℕ → Outcome
-longEnough matrix cells first second = unless (cond (leb cells first) (leb cells second) false) (R.Short matrix)
+unfoldable pub checkOperands : (a b : ℕ) → Matrix → Matrix → Answer (Unit {0})
+checkOperands a b A B = then (checkLengths 1 a (length (A .lowers)) (length (A .uppers))) (checkLengths 2 b (length (B .lowers)) (length (B .uppers)))
 
-unfoldable pub checkOperands : (a b : ℕ) → Matrix → Matrix → Outcome
-checkOperands a b A B = then (longEnough 1 a (length (A .lowers)) (length (A .uppers))) (longEnough 2 b (length (B .lowers)) (length (B .uppers)))
+unfoldable pub checkLent : (a b c ma ra mb rb lo up : ℕ) → Answer (Unit {0})
+checkLent a b c ma ra mb rb lo up = then (checkLengths 0 a ma ra) (then (checkLengths 0 b mb rb) (checkLengths 3 c lo up))
 
-unfoldable pub checkLent : (a b c ma ra mb rb lo up : ℕ) → Outcome
-checkLent a b c ma ra mb rb lo up = then (longEnough 0 a ma ra) (then (longEnough 0 b mb rb) (longEnough 3 c lo up))
-
-unfoldable pub checkLengths : Given → Outcome
-checkLengths g =
+unfoldable pub checkSlices : Given → Answer (Unit {0})
+checkSlices g =
     let a = g .a-rows * g .a-columns in
     let b = g .b-rows * g .b-columns in
     let c = g .a-rows * g .b-columns in
     then (checkOperands a b (g .A) (g .B)) (checkLent a b c (g .a-mids) (g .a-rads) (g .b-mids) (g .b-rads) (g .lowers) (g .uppers))
 
 -- ---- 3 and 4: the first cell by rows with a fault, at each cell 3 before 4
-abbrev pub faulty : Fault → Bool
-faulty Fine = false
-faulty Infinite = true
-faulty Above = true
+abbrev pub faulty : ℕ → Bool
+faulty n = not (eqb n 0)
 
-abbrev pub refusalAt : ℕ → ℕ → ℕ → Fault → Outcome
-refusalAt matrix i j Fine = Done
-refusalAt matrix i j Infinite = Refused (R.NotFinite matrix i j)
-refusalAt matrix i j Above = Refused (R.Crossed matrix i j)
-
-unfoldable pub checkCells : ℕ → ℕ → ℕ → Matrix → Outcome
+unfoldable pub checkCells : ℕ → ℕ → ℕ → Matrix → Answer (Unit {0})
 checkCells matrix rows columns X =
     let c = first (λ c. faulty (faultAt X c)) (rows * columns) in
-    cond (ltb c (rows * columns)) (refusalAt matrix (c / columns) (c % columns) (faultAt X c)) Done
+    cond (ltb c (rows * columns)) (refuses (ofCell (faultAt X c) matrix (c / columns) (c % columns))) done
 
 -- A's cells, then B's
-unfoldable pub checkBoth : (ar ac br bc : ℕ) → Matrix → Matrix → Outcome
+unfoldable pub checkBoth : (ar ac br bc : ℕ) → Matrix → Matrix → Answer (Unit {0})
 checkBoth ar ac br bc A B = then (checkCells 1 ar ac A) (checkCells 2 br bc B)
 
 -- what a matrix must be for its cells to be looked at
@@ -124,8 +99,8 @@ Covered rows columns lowers uppers = (0 < columns) × (rows ≤ 32) × (columns 
 -- ---- all of them, in 01's order
 
 -- 9 and 1
-unfoldable pub checkShapes : Given → Outcome
+unfoldable pub checkShapes : Given → Answer (Unit {0})
 checkShapes g = then (checkMethod (g .method)) (checkSizes (g .a-rows) (g .a-columns) (g .b-rows) (g .b-columns))
 
-unfoldable pub checkOf : Given → Outcome
-checkOf g = then (checkShapes g) (then (checkLengths g) (checkBoth (g .a-rows) (g .a-columns) (g .b-rows) (g .b-columns) (g .A) (g .B)))
+unfoldable pub checkOf : Given → Answer (Unit {0})
+checkOf g = then (checkShapes g) (then (checkSlices g) (checkBoth (g .a-rows) (g .a-columns) (g .b-rows) (g .b-columns) (g .A) (g .B)))

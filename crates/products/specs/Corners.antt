@@ -40,19 +40,19 @@ pub record Cells (a : Apart) (bl bu : ℕ) : Type 0 where
   pub b-lower : Finite bl
   pub b-upper : Finite bu
 
--- ---- places
+-- ---- ranks
 
 -- exponent and digits in one number
-unfoldable pub placeOf : ℤ → ℕ → ℤ
-placeOf (pos n) e = pos n +ℤ pos (e * 2 ^ 47)
-placeOf (negsuc n) e = negsuc n -ℤ pos (e * 2 ^ 47)
+unfoldable pub rankOf : ℤ → ℕ → ℤ
+rankOf (pos n) e = pos n +ℤ pos (e * 2 ^ 47)
+rankOf (negsuc n) e = negsuc n -ℤ pos (e * 2 ^ 47)
 
 pub record CornerIs (x y : Number) (r : Corner) : Type 0 where
   pub product : ProductIs x y (r .product)
-  pub place : r .place ≡ placeOf (r .product .sig) (r .product .exp)
+  pub rank : r .rank ≡ rankOf (r .product .sig) (r .product .exp)
 
 unfoldable pub lesserOf : Corner → Corner → Corner
-lesserOf x y = cond (leZ (x .place) (y .place)) x y
+lesserOf x y = cond (leZ (x .rank) (y .rank)) x y
 
 unfoldable pub greaterOf : Corner → Corner → Corner
-greaterOf x y = cond (leZ (x .place) (y .place)) y x
+greaterOf x y = cond (leZ (x .rank) (y .rank)) y x

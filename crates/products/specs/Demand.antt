@@ -6,11 +6,11 @@ use lib.ListN.{getD}
 use Rattle.enclosure.specs.Cell.{Cell}
 use Rattle.enclosure.specs.Demand.{Kept}
 use Rattle.enclosure.specs.Methods.{Range}
+use Rattle.refusals.specs.Answer.{done}
 use Rattle.binary32.specs.Number.{valueOf}
-use Rattle.products.specs.declared.Outcome.{Outcome}
-use Rattle.products.specs.declared.Outcome.the-variants.{Done}
 use Rattle.products.specs.Matrix.{cellAt}
 use Rattle.products.specs.Checks.{Given, chosen}
+use Rattle.products.specs.Product.{productOf}
 
 -- A's row i and B's column j, as handed in
 abbrev pub rowOf : Given → ℕ → ℕ → Cell
@@ -23,5 +23,6 @@ columnOf g j l = cellAt (g .B) (l * g .b-columns + j)
 abbrev pub rangeAt : Given → (lo up : List ℕ) → ℕ → ℕ → Range
 rangeAt g lo up i j = record { lower = valueOf (getD lo (i * g .b-columns + j) 0); upper = valueOf (getD up (i * g .b-columns + j) 0) }
 
-unfoldable pub Keeps : Given → Outcome → (lo up : List ℕ) → Type 0
-Keeps g r lo up = r ≡ Done → (i j : ℕ) → i < g .a-rows → j < g .b-columns → Kept (chosen (g .method)) (g .a-columns) (rowOf g i) (columnOf g j) (rangeAt g lo up i j)
+-- of a product that is not refused
+unfoldable pub Keeps : Given → (lo up : List ℕ) → Type 0
+Keeps g lo up = productOf g ≡ done → (i j : ℕ) → i < g .a-rows → j < g .b-columns → Kept (chosen (g .method)) (g .a-columns) (rowOf g i) (columnOf g j) (rangeAt g lo up i j)

@@ -21,7 +21,7 @@ use Rattle.products.specs.Matrix.{Matrix, AllFine, cellAt}
 unfoldable pub entryOf : Method → (k n : ℕ) → Matrix → Matrix → (i j : ℕ) → Option Range
 entryOf method k n A B i j = entry (of binary32) method k (λ l. cellAt A (i * k + l)) (λ l. cellAt B (l * n + j))
 
--- at place c by rows
+-- at position c by rows
 unfoldable pub entryAt : Method → (k n : ℕ) → Matrix → Matrix → ℕ → Option Range
 entryAt method k n A B c = entryOf method k n A B (c / n) (c % n)
 

@@ -3,19 +3,16 @@ use mathlib.Core.Bool.{Bool, cond}
 use mathlib.Core.List.{List, [], _∷_, _++_}
 use Prim.Native.Nat.{ℕ, zero, suc}
 use lib.Dec.{ltb}
-use lib.ListN.{drop, replicate}
+use lib.ListN.{drop}
 
 -- f 0, f 1, .. f (n - 1)
 unfoldable pub tabulate : ℕ → (ℕ → ℕ) → List ℕ
 tabulate zero f = []
 tabulate (suc n) f = tabulate n f ++ (f n ∷ [])
 
--- the first n of d replaced: by f, by zeros
+-- the first n of d replaced by f
 abbrev pub front : ℕ → (ℕ → ℕ) → List ℕ → List ℕ
 front n f d = tabulate n f ++ drop n d
-
-abbrev pub zeros : ℕ → List ℕ → List ℕ
-zeros n d = replicate n 0 ++ drop n d
 
 -- the least c below n with test c; n where there is none
 unfoldable pub first : (ℕ → Bool) → ℕ → ℕ

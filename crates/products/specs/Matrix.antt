@@ -8,8 +8,6 @@ use Rattle.enclosure.specs.Arithmetic.{of}
 use Rattle.enclosure.specs.Cell.{Cell}
 use Rattle.enclosure.specs.Conversion.{cellOf}
 use Rattle.binary32.specs.Number.{valueOf}
-use Rattle.intervals.specs.declared.Fault.{Fault}
-use Rattle.intervals.specs.declared.Fault.the-variants.{Fine}
 use Rattle.intervals.specs.Conversion.{faultOf, midOf, radOf}
 
 pub record Matrix : Type 0 where
@@ -23,7 +21,7 @@ module _ (X : Matrix) where
   abbrev pub upperAt : ℕ → ℕ
   upperAt c = getD (X .uppers) c 0
 
-  -- the cell at place c, in units, with what it is converted to
+  -- the cell at position c, in units, with what it is converted to
   unfoldable pub cellAt : ℕ → Cell
   cellAt c = cellOf (of binary32) (valueOf (lowerAt c)) (valueOf (upperAt c))
 
@@ -34,10 +32,10 @@ module _ (X : Matrix) where
   abbrev pub radAt : ℕ → ℕ
   radAt c = radOf (lowerAt c) (upperAt c)
 
-  -- what is wrong with it
-  abbrev pub faultAt : ℕ → Fault
+  -- the number of what is wrong with it
+  abbrev pub faultAt : ℕ → ℕ
   faultAt c = faultOf (lowerAt c) (upperAt c)
 
 -- the first n cells are numbers in order
 abbrev pub AllFine : Matrix → ℕ → Type 0
-AllFine X n = (c : ℕ) → c < n → faultAt X c ≡ Fine
+AllFine X n = (c : ℕ) → c < n → faultAt X c ≡ 0

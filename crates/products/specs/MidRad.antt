@@ -11,11 +11,11 @@ use Rattle.enclosure.specs.Methods.{Method, Range, entry}
 use Rattle.binary32.specs.Number.{valueOf}
 use Rattle.products.specs.Derived.{MidRads}
 
--- the midpoint and the radius at place c of two lists; its bounds are not known, and no such method looks at them
+-- the midpoint and the radius at position c of two lists; its bounds are not known, and no such method looks at them
 abbrev pub midRadAt : (m r : List ℕ) → ℕ → Cell
 midRadAt m r c = record { low = pos 0; high = pos 0; mid = valueOf (getD m c 0); rad = valueOf (getD r c 0) }
 
--- the entry at place c by rows, from the midpoints and radii of A (k columns) and B (n columns)
+-- the entry at position c by rows, from the midpoints and radii of A (k columns) and B (n columns)
 unfoldable pub entryFrom : Method → (k n : ℕ) → (ma ra mb rb : List ℕ) → ℕ → Option Range
 entryFrom method k n ma ra mb rb c = entry (of binary32) method k (λ l. midRadAt ma ra (c / n * k + l)) (λ l. midRadAt mb rb (l * n + c % n))
 

@@ -3,18 +3,18 @@ use mathlib.Core.Path.{_≡_}
 use mathlib.Core.Bool.{cond}
 use mathlib.Core.List.{List}
 use mathlib.Core.Option.{Option}
-use Prim.Native.Nat.{ℕ, _*_, _/_, _%_}
+use Prim.Native.Nat.{ℕ, _*_, _/_, _%_, _<_}
 use lib.Dec.{ltb, eqb}
 use Rattle.enclosure.specs.Methods.{Range}
-use Rattle.refusals.specs.declared.Refusal.the-variants as R
+use Rattle.refusals.specs.Refusal.{ofCell}
+use Rattle.refusals.specs.Answer.{Answer, refuses, done, then, unlessRefused}
+use Rattle.intervals.specs.Slices.{zeros}
 use Rattle.products.specs.declared.sums.Place.{Place}
 use Rattle.products.specs.declared.sums.Place.the-variants.{Nowhere, At}
-use Rattle.products.specs.declared.Outcome.{Outcome}
-use Rattle.products.specs.declared.Outcome.the-variants.{Done, Refused}
-use Rattle.products.specs.Lists.{front, zeros}
+use Rattle.products.specs.Lists.{front}
 use Rattle.products.specs.Matrix.{midAt, radAt}
 use Rattle.products.specs.Entries.{entryAt, stopOf, lowerOf, upperOf}
-use Rattle.products.specs.Checks.{Given, then, chosen, checkOf}
+use Rattle.products.specs.Checks.{Given, chosen, checkOf}
 
 -- the entries by place
 abbrev pub entries : Given → ℕ → Option Range
@@ -28,14 +28,10 @@ abbrev pub stop : Given → ℕ
 stop g = stopOf (entries g) (cells g)
 
 -- 5 names the first entry by rows that has a refused step
-unfoldable pub outcomeOf : Given → Outcome
-outcomeOf g = then (checkOf g) (cond (ltb (stop g) (cells g)) (Refused (R.Overflow 3 (stop g / g .b-columns) (stop g % g .b-columns))) Done)
+unfoldable pub productOf : Given → Answer (Unit {0})
+productOf g = then (checkOf g) (cond (ltb (stop g) (cells g)) (refuses (ofCell 5 3 (stop g / g .b-columns) (stop g % g .b-columns))) done)
 
 -- ---- lent memory: a refusal by a check leaves all as it was
-
-abbrev pub unlessRefused : Outcome → List ℕ → List ℕ → List ℕ
-unlessRefused Done after before = after
-unlessRefused (Refused r) after before = before
 
 -- the result's cells: the entries, or zeros after 5
 unfoldable pub resultAfter : Given → (Option Range → ℕ) → List ℕ → List ℕ
@@ -46,8 +42,8 @@ unfoldable pub workAfter : Given → ℕ → (ℕ → ℕ) → List ℕ → List
 workAfter g count converted d = unlessRefused (checkOf g) (cond (eqb (g .method) 1) d (front count converted d)) d
 
 -- what `product` leaves
-pub record Left (g : Given) (ma ra mb rb lo up : List ℕ) (r : Outcome) (ma′ ra′ mb′ rb′ lo′ up′ : List ℕ) : Type 0 where
-  pub outcome : r ≡ outcomeOf g
+pub record Left (g : Given) (ma ra mb rb lo up : List ℕ) (r : Answer (Unit {0})) (ma′ ra′ mb′ rb′ lo′ up′ : List ℕ) : Type 0 where
+  pub answer : r ≡ productOf g
   pub a-mids : ma′ ≡ workAfter g (g .a-rows * g .a-columns) (midAt (g .A)) ma
   pub a-rads : ra′ ≡ workAfter g (g .a-rows * g .a-columns) (radAt (g .A)) ra
   pub b-mids : mb′ ≡ workAfter g (g .b-rows * g .b-columns) (midAt (g .B)) mb
@@ -57,16 +53,21 @@ pub record Left (g : Given) (ma ra mb rb lo up : List ℕ) (r : Outcome) (ma′ 
 
 -- ---- the end of a product: an entry that is refused clears the result's cells
 
-abbrev pub outcomeAt : Place → Outcome
-outcomeAt Nowhere = Done
-outcomeAt (At i j) = Refused (R.Overflow 3 i j)
+abbrev pub answerAt : Place → Answer (Unit {0})
+answerAt Nowhere = done
+answerAt (At i j) = refuses (ofCell 5 3 i j)
 
 abbrev pub clearedAt : Place → ℕ → List ℕ → List ℕ
 clearedAt Nowhere count d = d
 clearedAt (At i j) count d = zeros count d
 
+-- a row and a column below 32
+abbrev pub InReach : Place → Type 0
+InReach Nowhere = Unit {0}
+InReach (At i j) = (i < 32) × (j < 32)
+
 -- what `finish` leaves
-pub record Finished (place : Place) (count : ℕ) (lo up : List ℕ) (r : Outcome) (lo′ up′ : List ℕ) : Type 0 where
-  pub outcome : r ≡ outcomeAt place
+pub record Finished (place : Place) (count : ℕ) (lo up : List ℕ) (r : Answer (Unit {0})) (lo′ up′ : List ℕ) : Type 0 where
+  pub answer : r ≡ answerAt place
   pub lowers : lo′ ≡ clearedAt place count lo
   pub uppers : up′ ≡ clearedAt place count up

@@ -1,8 +1,8 @@
-// Filling the front of lent slices: converted cells, zeros.
+// The cells of a matrix, converted into lent slices.
 ghost use mathlib.Core.Path.{_≡_};
 ghost use Prim.Native.Nat.{_≤_};
 ghost use lib.ListN.{length};
-ghost use Rattle.products.specs.Lists.{front, zeros};
+ghost use Rattle.products.specs.Lists.{front};
 ghost use Rattle.products.specs.Matrix.{Matrix, AllFine, midAt, radAt};
 use intervals::Converted;
 use intervals::to_midrad;
@@ -20,22 +20,10 @@ pub fn convert(count: usize, lowers: &[u32], uppers: &[u32], mids: &mut [u32], r
                 mids[c] = m;
                 rads[c] = r;
             }
-            Converted::NoMidRad(_) => {
+            Converted::Refused(_) => {
                 return;
             }
         }
-        c += 1;
-    }
-}
-
-// Zeros in the first count cells.
-pub fn clear(count: usize, out: &mut [u32])
-    requires { ⌜ count ≤ length (now out) ⌝ }
-    ensures { λ _. ⌜ now (out .exit) ≡ zeros count (now (out .entry)) ⌝ }
-{
-    let mut c = 0;
-    while c < count {
-        out[c] = 0;
         c += 1;
     }
 }

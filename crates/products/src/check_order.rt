@@ -1,29 +1,20 @@
 // All that a product checks before it works anything out, in 01's order: 9, 1, 2, A's cells by rows, then B's.
 ghost use mathlib.Core.Path.{_≡_};
+ghost use Rattle.refusals.specs.Answer.{outcome};
 ghost use Rattle.products.specs.Matrix.{Matrix};
-ghost use Rattle.products.specs.Checks.{Covered, given, then, checkOperands, checkLent, checkBoth, checkOf};
-use crate::Outcome;
+ghost use Rattle.products.specs.Checks.{Covered, given, checkOperands, checkLent, checkBoth, checkOf};
 use crate::checks::check_cells;
-use crate::checks::check_lengths;
-use crate::checks::check_method;
 use crate::checks::check_sizes;
-
-// The first refusal of two answers.
-fn first_of(one: Outcome, two: Outcome) -> Outcome
-    ensures { λ r. ⌜ r ≡ then one two ⌝ }
-{
-    match one {
-        Outcome::Done => two,
-        Outcome::Refused(r) => Outcome::Refused(r),
-    }
-}
+use crate::methods::check_method;
+use refusals::Outcome;
+use refusals::sizes::check_lengths;
 
 // 2: A's slices, then B's.
 fn check_operands(a: usize, b: usize, al: &[u32], au: &[u32], bl: &[u32], bu: &[u32]) -> Outcome
-    ensures { λ r. ⌜ r ≡ checkOperands a b (record { lowers = now (al .entry); uppers = now (au .entry) }) (record { lowers = now (bl .entry); uppers = now (bu .entry) }) ⌝ }
+    ensures { λ r. ⌜ outcome r ≡ checkOperands a b (record { lowers = now (al .entry); uppers = now (au .entry) }) (record { lowers = now (bl .entry); uppers = now (bu .entry) }) ⌝ }
 {
     let second = check_lengths(2, b, bl.len(), bu.len());
-    first_of(check_lengths(1, a, al.len(), au.len()), second)
+    check_lengths(1, a, al.len(), au.len()).then(second)
 }
 
 // The lengths of the lent slices: work, then the result.
@@ -38,11 +29,11 @@ pub struct Lent {
 
 // 2: work, then the result.
 fn check_lent(a: usize, b: usize, c: usize, lent: Lent) -> Outcome
-    ensures { λ r. ⌜ r ≡ checkLent a b c (lent .ma) (lent .ra) (lent .mb) (lent .rb) (lent .lo) (lent .up) ⌝ }
+    ensures { λ r. ⌜ outcome r ≡ checkLent a b c (lent .ma) (lent .ra) (lent .mb) (lent .rb) (lent .lo) (lent .up) ⌝ }
 {
     let result = check_lengths(3, c, lent.lo, lent.up);
-    let second = first_of(check_lengths(0, b, lent.mb, lent.rb), result);
-    first_of(check_lengths(0, a, lent.ma, lent.ra), second)
+    let second = check_lengths(0, b, lent.mb, lent.rb).then(result);
+    check_lengths(0, a, lent.ma, lent.ra).then(second)
 }
 
 // 3 and 4: A's cells, then B's.
@@ -57,7 +48,7 @@ fn check_both(
     bu: &[u32],
 ) -> Outcome
     requires { ⌜ Covered «a_rows» «a_columns» (now al) (now au) × Covered «b_rows» «b_columns» (now bl) (now bu) ⌝ }
-    ensures { λ r. ⌜ r ≡ checkBoth «a_rows» «a_columns» «b_rows» «b_columns» (record { lowers = now (al .entry); uppers = now (au .entry) }) (record { lowers = now (bl .entry); uppers = now (bu .entry) }) ⌝ }
+    ensures { λ r. ⌜ outcome r ≡ checkBoth «a_rows» «a_columns» «b_rows» «b_columns» (record { lowers = now (al .entry); uppers = now (au .entry) }) (record { lowers = now (bl .entry); uppers = now (bu .entry) }) ⌝ }
 {
     match check_cells(1, a_rows, a_columns, al, au) {
         Outcome::Done => check_cells(2, b_rows, b_columns, bl, bu),
@@ -78,10 +69,10 @@ pub fn check_all(
     bu: &[u32],
     lent: Lent,
 ) -> Outcome
-    ensures { λ r. ⌜ r ≡ checkOf (given method «a_rows» «a_columns» «b_rows» «b_columns» (now (al .entry)) (now (au .entry)) (now (bl .entry)) (now (bu .entry)) (lent .ma) (lent .ra) (lent .mb) (lent .rb) (lent .lo) (lent .up)) ⌝ }
+    ensures { λ r. ⌜ outcome r ≡ checkOf (given method «a_rows» «a_columns» «b_rows» «b_columns» (now (al .entry)) (now (au .entry)) (now (bl .entry)) (now (bu .entry)) (lent .ma) (lent .ra) (lent .mb) (lent .rb) (lent .lo) (lent .up)) ⌝ }
 {
     let sizes = check_sizes(a_rows, a_columns, b_rows, b_columns);
-    match first_of(check_method(method), sizes) {
+    match check_method(method).then(sizes) {
         Outcome::Done => {}
         Outcome::Refused(r) => {
             return Outcome::Refused(r);
@@ -90,7 +81,7 @@ pub fn check_all(
     let a = a_rows * a_columns;
     let b = b_rows * b_columns;
     let rest = check_lent(a, b, a_rows * b_columns, lent);
-    match first_of(check_operands(a, b, al, au, bl, bu), rest) {
+    match check_operands(a, b, al, au, bl, bu).then(rest) {
         Outcome::Done => check_both(a_rows, a_columns, b_rows, b_columns, al, au, bl, bu),
         Outcome::Refused(r) => Outcome::Refused(r),
     }

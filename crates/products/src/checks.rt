@@ -1,88 +1,53 @@
-// What a product checks, each check for itself: 9, 1, 2, and 3 and 4 cell by cell.
+// What a product checks of its matrices: 1, and 3 and 4 cell by cell.
 ghost use mathlib.Core.Path.{_≡_};
+ghost use lib.Dec.{eqb};
+ghost use Rattle.refusals.specs.Answer.{outcome, unless};
+ghost use Rattle.refusals.specs.Refusal.{ofMatrix};
 ghost use Rattle.products.specs.Matrix.{Matrix};
-ghost use Rattle.products.specs.Checks.{Covered, checkMethod, sized, checkSizes, longEnough, checkCells};
-use crate::Outcome;
-use intervals::Fault;
+ghost use Rattle.products.specs.Checks.{Covered, checkSizes, checkCells};
 use intervals::check;
+use refusals::Outcome;
 use refusals::Refusal;
+use refusals::sizes::check_size;
 
-// 9
-pub fn check_method(method: u32) -> Outcome
-    ensures { λ r. ⌜ r ≡ checkMethod method ⌝ }
+// 1, of sizes that must agree.
+fn check_inner(a_columns: usize, b_rows: usize) -> Outcome
+    ensures { λ r. ⌜ outcome r ≡ unless (eqb «a_columns» «b_rows») (ofMatrix 1 2) ⌝ }
 {
-    match method {
-        1 | 3 | 4 | 7 => Outcome::Done,
-        _ => Outcome::Refused(Refusal::Method),
+    if a_columns == b_rows {
+        return Outcome::Done;
     }
-}
-
-fn are_sizes(rows: usize, columns: usize) -> bool
-    ensures { λ r. ⌜ r ≡ sized rows columns ⌝ }
-{
-    if rows < 1 {
-        return false;
-    }
-    if 32 < rows {
-        return false;
-    }
-    if columns < 1 {
-        return false;
-    }
-    columns <= 32
+    Outcome::Refused(Refusal::of_matrix(1, 2))
 }
 
 // 1
 pub fn check_sizes(a_rows: usize, a_columns: usize, b_rows: usize, b_columns: usize) -> Outcome
-    ensures { λ r. ⌜ r ≡ checkSizes «a_rows» «a_columns» «b_rows» «b_columns» ⌝ }
+    ensures { λ r. ⌜ outcome r ≡ checkSizes «a_rows» «a_columns» «b_rows» «b_columns» ⌝ }
 {
-    if !are_sizes(a_rows, a_columns) {
-        return Outcome::Refused(Refusal::Size(1));
-    }
-    if !are_sizes(b_rows, b_columns) {
-        return Outcome::Refused(Refusal::Size(2));
-    }
-    if a_columns != b_rows {
-        return Outcome::Refused(Refusal::Size(2));
-    }
-    Outcome::Done
-}
-
-// 2, of one pair of slices.
-pub fn check_lengths(matrix: u32, cells: usize, first: usize, second: usize) -> Outcome
-    ensures { λ r. ⌜ r ≡ longEnough matrix cells first second ⌝ }
-{
-    if first < cells {
-        return Outcome::Refused(Refusal::Short(matrix));
-    }
-    if second < cells {
-        return Outcome::Refused(Refusal::Short(matrix));
-    }
-    Outcome::Done
+    let inner = check_inner(a_columns, b_rows);
+    let second = check_size(2, b_rows, b_columns).then(inner);
+    check_size(1, a_rows, a_columns).then(second)
 }
 
 // 3 and 4: the first cell by rows that has a fault.
 pub fn check_cells(
-    matrix: u32,
+    matrix: u8,
     rows: usize,
     columns: usize,
     lowers: &[u32],
     uppers: &[u32],
 ) -> Outcome
     requires { ⌜ Covered rows columns (now lowers) (now uppers) ⌝ }
-    ensures { λ r. ⌜ r ≡ checkCells matrix rows columns (record { lowers = now (lowers .entry); uppers = now (uppers .entry) }) ⌝ }
+    ensures { λ r. ⌜ outcome r ≡ checkCells matrix rows columns (record { lowers = now (lowers .entry); uppers = now (uppers .entry) }) ⌝ }
 {
     let cells = rows * columns;
     let mut c = 0;
     while c < cells {
-        match check(lowers[c], uppers[c]) {
-            Fault::Fine => {}
-            Fault::Infinite => {
-                return Outcome::Refused(Refusal::NotFinite(matrix, c / columns, c % columns));
-            }
-            Fault::Above => {
-                return Outcome::Refused(Refusal::Crossed(matrix, c / columns, c % columns));
-            }
+        let fault = check(lowers[c], uppers[c]);
+        if fault != 0 {
+            let row = (c / columns) as u8;
+            let column = (c % columns) as u8;
+            return Outcome::Refused(Refusal::of_cell(fault, matrix, row, column));
         }
         c += 1;
     }

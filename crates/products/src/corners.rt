@@ -3,20 +3,20 @@ ghost use mathlib.Core.Path.{_≡_};
 ghost use lib.IntN.{natAbs};
 ghost use Prim.Native.Nat.{_^_, _≤_};
 ghost use Rattle.products.specs.Exact.{Factors};
-ghost use Rattle.products.specs.Corners.{CornerIs, placeOf, lesserOf, greaterOf};
+ghost use Rattle.products.specs.Corners.{CornerIs, rankOf, lesserOf, greaterOf};
 use crate::number::Number;
 use crate::times::Product;
 use crate::times::times;
 
-// An exact product and its place among all: exponent and digits in one whole number, whose order is that of the products.
+// An exact product and its rank among all: exponent and digits in one whole number, whose order is that of the products.
 pub struct Corner {
     pub product: Product,
-    pub place: i64,
+    pub rank: i64,
 }
 
-fn place(sig: i64, exp: u32) -> i64
+fn rank(sig: i64, exp: u32) -> i64
     requires { ⌜ (natAbs sig ≤ 2 ^ 48) × (exp ≤ 5000) ⌝ }
-    ensures { λ r. ⌜ r ≡ placeOf sig exp ⌝ }
+    ensures { λ r. ⌜ r ≡ rankOf sig exp ⌝ }
 {
     let k = exp as i64 * 0x8000_0000_0000;
     if sig < 0 { sig - k } else { sig + k }
@@ -30,14 +30,14 @@ pub fn corner_of(x: Number, y: Number) -> Corner
     let p = times(x, y);
     Corner {
         product: p,
-        place: place(p.sig, p.exp),
+        rank: rank(p.sig, p.exp),
     }
 }
 
 pub fn lesser(x: Corner, y: Corner) -> Corner
     ensures { λ r. ⌜ r ≡ lesserOf x y ⌝ }
 {
-    if x.place <= y.place {
+    if x.rank <= y.rank {
         return x;
     }
     y
@@ -46,7 +46,7 @@ pub fn lesser(x: Corner, y: Corner) -> Corner
 pub fn greater(x: Corner, y: Corner) -> Corner
     ensures { λ r. ⌜ r ≡ greaterOf x y ⌝ }
 {
-    if x.place <= y.place {
+    if x.rank <= y.rank {
         return y;
     }
     x

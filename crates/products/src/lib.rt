@@ -1,13 +1,15 @@
 // Products of interval matrices by four methods: classical, three, four and seven.
 ghost use Prim.Native.Nat.{_≤_};
 ghost use lib.ListN.{length};
+ghost use Rattle.refusals.specs.Answer.{outcome};
 ghost use Rattle.products.specs.Checks.{given};
-ghost use Rattle.products.specs.Product.{Finished, Left};
+ghost use Rattle.products.specs.Product.{InReach, Finished, Left};
 ghost use Rattle.products.specs.Demand.{Keeps};
-use cells::clear;
 use cells::convert;
 use check_order::Lent;
 use check_order::check_all;
+use intervals::slices::clear;
+use refusals::Outcome;
 use refusals::Refusal;
 use sums::Place;
 
@@ -21,6 +23,7 @@ mod converted;
 mod corners;
 mod derived;
 mod four;
+pub mod methods;
 mod near;
 mod nearest;
 mod number;
@@ -35,23 +38,19 @@ mod sums;
 mod three;
 mod times;
 
-// Done, or the first refusal whose condition holds.
-pub enum Outcome {
-    Done,
-    Refused(Refusal),
-}
-
 // A refused entry clears the result's cells.
 fn finish(place: Place, count: usize, lo: &mut [u32], up: &mut [u32]) -> Outcome
-    requires { ⌜ (count ≤ length (now lo)) × (count ≤ length (now up)) ⌝ }
-    ensures { λ r. ⌜ Finished place count (now (lo .entry)) (now (up .entry)) r (now (lo .exit)) (now (up .exit)) ⌝ }
+    requires { ⌜ (count ≤ length (now lo)) × (count ≤ length (now up)) × InReach place ⌝ }
+    ensures { λ r. ⌜ Finished place count (now (lo .entry)) (now (up .entry)) (outcome r) (now (lo .exit)) (now (up .exit)) ⌝ }
 {
     match place {
         Place::Nowhere => Outcome::Done,
         Place::At(i, j) => {
             clear(count, lo);
             clear(count, up);
-            Outcome::Refused(Refusal::Overflow(3, i, j))
+            let row = i as u8;
+            let column = j as u8;
+            Outcome::Refused(Refusal::of_cell(5, 3, row, column))
         }
     }
 }
@@ -74,8 +73,8 @@ pub fn product(
     lo: &mut [u32],
     up: &mut [u32],
 ) -> Outcome
-    ensures { λ r. ⌜ Left (given method «a_rows» «a_columns» «b_rows» «b_columns» (now (al .entry)) (now (au .entry)) (now (bl .entry)) (now (bu .entry)) (length (now (ma .entry))) (length (now (ra .entry))) (length (now (mb .entry))) (length (now (rb .entry))) (length (now (lo .entry))) (length (now (up .entry)))) (now (ma .entry)) (now (ra .entry)) (now (mb .entry)) (now (rb .entry)) (now (lo .entry)) (now (up .entry)) r (now (ma .exit)) (now (ra .exit)) (now (mb .exit)) (now (rb .exit)) (now (lo .exit)) (now (up .exit)) ⌝ }
-    ensures { λ r. ⌜ Keeps (given method «a_rows» «a_columns» «b_rows» «b_columns» (now (al .entry)) (now (au .entry)) (now (bl .entry)) (now (bu .entry)) (length (now (ma .entry))) (length (now (ra .entry))) (length (now (mb .entry))) (length (now (rb .entry))) (length (now (lo .entry))) (length (now (up .entry)))) r (now (lo .exit)) (now (up .exit)) ⌝ }
+    ensures left { λ r. ⌜ Left (given method «a_rows» «a_columns» «b_rows» «b_columns» (now (al .entry)) (now (au .entry)) (now (bl .entry)) (now (bu .entry)) (length (now (ma .entry))) (length (now (ra .entry))) (length (now (mb .entry))) (length (now (rb .entry))) (length (now (lo .entry))) (length (now (up .entry)))) (now (ma .entry)) (now (ra .entry)) (now (mb .entry)) (now (rb .entry)) (now (lo .entry)) (now (up .entry)) (outcome r) (now (ma .exit)) (now (ra .exit)) (now (mb .exit)) (now (rb .exit)) (now (lo .exit)) (now (up .exit)) ⌝ }
+    ensures keeps { λ r. ⌜ Keeps (given method «a_rows» «a_columns» «b_rows» «b_columns» (now (al .entry)) (now (au .entry)) (now (bl .entry)) (now (bu .entry)) (length (now (ma .entry))) (length (now (ra .entry))) (length (now (mb .entry))) (length (now (rb .entry))) (length (now (lo .entry))) (length (now (up .entry)))) (now (lo .exit)) (now (up .exit)) ⌝ }
 {
     let lent = Lent {
         ma: ma.len(),

@@ -1,1 +1,3 @@
-pub mod Report
+pub mod Refusal
+pub mod Answer
+pub mod Sizes

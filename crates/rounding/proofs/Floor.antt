@@ -1,26 +1,22 @@
 -- Signed significands: with c = `shrZ s m`, the quotient s / m rounded down (an arithmetic shift for m = 2 ^ t), and its remainder r,
--- s / m rounded up is c or c + 1, and so is the nearest; and rounding either way keeps the order. Assumes nothing.
-use mathlib.Core.Path.{_≡_, refl, sym, ap, _∙_, subst₂}
+-- s / m rounded up is c or c + 1, and so is the nearest. Assumes nothing.
+use mathlib.Core.Path.{_≡_, refl, sym, ap, _∙_}
 use mathlib.Core.Bool.{Bool, true, false, not}
 use mathlib.Core.List.{[], _∷_}
 use mathlib.Core.Logic.{⊎-elim}
 use Prim.Native.Nat.{ℕ, zero, suc, _+_, _-_, _*_, _/_, _%_, _≤_, _<_}
 use native.Mathlib.Omega.{arith}
-use native.Mathlib.Nat.{eq-or-lt-of-le, div-add-mod, div-add-mod', mod-lt, zero-div, zero-mod, mul-le-mul-right}
+use native.Mathlib.Nat.{eq-or-lt-of-le, div-add-mod, div-add-mod', mod-lt, zero-div, zero-mod}
 use lib.Arith.{digits-div, digits-mod}
 use lib.Dec.{T, ltb, ltb→lt, nltb→le}
 use lib.IntN.{ℤ, pos, negsuc, negℤ, natAbs, _+ℤ_, _*ℤ_, negℤ-negℤ, +ℤ-idr}
 use lib.Signed.{shrZ}
-use lib.Ieee.Nearest.{closest, div-mono}
-use Rattle.algebra.specs.Order.{_≼_}
+use lib.Ieee.Nearest.{closest}
 use Rattle.algebra.proofs.Linear.{reading, lin-eq}
-use Rattle.algebra.proofs.Natural.{of-le, to-le}
-use Rattle.algebra.proofs.Order.{neg-mono}
 use Rattle.rounding.specs.Rounding.{sticky, ceil, signed}
 use Rattle.rounding.specs.Quotient.{rem, ceilS, bit}
 use Rattle.rounding.proofs.Bracket.{sticky-pos, ceil-split}
 use Rattle.rounding.proofs.Closest.{closest-split}
-use Rattle.rounding.proofs.Sign.{neg-le, of-neg-le, pos-le-neg, neg-le-pos}
 
 -- the quotient and the remainder of the next number
 suc-split : {G : Type 0} (n m : ℕ) → 0 < m → (suc (n % m) < m → suc n / m ≡ n / m → suc n % m ≡ suc (n % m) → G)
@@ -105,21 +101,3 @@ near-floor (negsuc n) m h = test-split m (2 * (m - suc (n % m)) + suc (n / m) % 
     same l = suc-split n m h
         (λ k e r. closest-split (suc n) m (λ z c. omega (arith, ap (λ x. x % 2) e)) (λ z c. omega arith))
         (λ k e r. closest-split (suc n) m (λ z c. omega arith) (λ z c. omega (arith, ap (λ x. x % 2) e)))
-
--- ---- both keep the order
-module _ (m : ℕ) (h : 0 < m) where
-  pub floor-mono : {s t : ℤ} → s ≼ t → shrZ s m ≼ shrZ t m
-  floor-mono {s = pos a} {t = pos b} l = of-le (div-mono a m b m h h (mul-le-mul-right m (to-le l)))
-  floor-mono {s = pos a} {t = negsuc b} l = let z : suc b ≡ 0 = pos-le-neg l in absurd (omega arith)
-  floor-mono {s = negsuc a} {t = pos b} l = neg-le-pos (suc (a / m)) (b / m)
-  floor-mono {s = negsuc a} {t = negsuc b} l =
-      let k : suc b ≤ suc a = of-neg-le l in
-      let j : b / m ≤ a / m = div-mono b m a m h h (mul-le-mul-right m (omega arith)) in
-      let i : suc (b / m) ≤ suc (a / m) = omega arith in
-      neg-le i
-
-  pub ceil-mono : {s t : ℤ} → s ≼ t → ceilS s m ≼ ceilS t m
-  ceil-mono {s} {t} l = subst₂ _≼_ (sym (ceil-floor s)) (sym (ceil-floor t)) (neg-mono (floor-mono (neg-mono l)))
-    where
-      ceil-floor : (s : ℤ) → ceilS s m ≡ negℤ (shrZ (negℤ s) m)
-      ceil-floor s = sym (ap negℤ (down-floor (negℤ s) m h) ∙ negℤ-negℤ (ceilS (negℤ (negℤ s)) m) ∙ ap (λ x. ceilS x m) (negℤ-negℤ s))

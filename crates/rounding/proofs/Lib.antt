@@ -15,7 +15,7 @@ pub mod Error
 pub mod Spacing
 -- bit patterns, and what a machine computes
 pub mod Pattern
-pub mod Place
+pub mod Encoding
 pub mod PatternRounding
 pub mod Shift
 pub mod Jam

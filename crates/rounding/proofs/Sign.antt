@@ -11,7 +11,7 @@ use lib.IntN.{ℤ, pos, negsuc, negℤ, natAbs, _+ℤ_, _*ℤ_, _-ℤ_}
 use Rattle.algebra.specs.Order.{_≼_, _≺_}
 use Rattle.algebra.specs.Absolute.{abs}
 use Rattle.algebra.proofs.Reading.{by-ring}
-use Rattle.algebra.proofs.Parts.{le-parts, parts-le, neg-parts}
+use Rattle.algebra.proofs.SignParts.{le-parts, parts-le, neg-parts}
 use Rattle.algebra.proofs.Linear.{reading, le, lt, eq, lin-le, lin-absurd}
 use Rattle.algebra.proofs.Order.{neg-mono}
 use Rattle.algebra.proofs.Natural.{≤-total, of-le, of-sub}

@@ -16,5 +16,5 @@ abbrev pub limit : Format → ℕ
 limit f = (f .top + 2) * half f
 
 -- the pattern of a magnitude that is a number
-unfoldable pub place : Format → ℕ → ℕ
-place f v = expo f v * half f + v / 2 ^ expo f v
+unfoldable pub encode : Format → ℕ → ℕ
+encode f v = expo f v * half f + v / 2 ^ expo f v

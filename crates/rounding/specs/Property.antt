@@ -31,7 +31,7 @@ off D X v = natAbs (v *ℤ pos D -ℤ X)
 
 -- ---- the nearest number, and where another is as near, the one with the even fraction
 
--- v is an even multiple of its spacing; the same as an even pattern (proofs/Place, `place-even`)
+-- v is an even multiple of its spacing; the same as an even pattern (proofs/Encoding, `encode-even`)
 abbrev pub EvenFraction : Format → ℤ → Type 0
 EvenFraction f v = (m : ℕ) × (natAbs v ≡ spacing f v * (2 * m))
 

@@ -1,7 +1,7 @@
 // Reads stored sheets, good and damaged, from standard input, and prints what reader and writer say of each.
 // A case is four little-endian numbers of two bytes, the lengths of the sheet, the two slices and the out buffer; then the sheet.
 // A line says "done", rows and columns, or "refused", number, matrix, row and column; then digests of both whole slices, and,
-// where it is done, the writer's answer and a digest of the whole out buffer.
+// where it is done, the writer's answer, and digests of the part that it hands back and of the whole out buffer.
 ghost use Prim.Native.Nat.{_+_, _≤_, _<_};
 ghost use lib.ListN.{length};
 
@@ -10,7 +10,7 @@ mod print;
 use libc::STDIN_FILENO;
 use libc::STDOUT_FILENO;
 use refusals::Refusal;
-use sheets::Outcome;
+use sheets::Shape;
 
 fn wide(x: u8) -> usize
     ensures { λ r. ⌜ r < 256 ⌝ }
@@ -38,13 +38,25 @@ fn print_refused(refusal: Refusal, lowers: &[u32], uppers: &[u32]) {
     io::write_all(STDOUT_FILENO, b"\n");
 }
 
-fn print_done(
+// The part that the writer hands back.
+fn print_part<'a, 'b>(
     rows: usize,
     columns: usize,
-    lowers: &[u32],
-    uppers: &[u32],
+    lowers: &'b [u32],
+    uppers: &'b [u32],
+    out: &'a mut [u8],
+) {
+    let part = sheets::write(rows, columns, lowers, uppers, out);
+    print::bytes(part);
+}
+
+fn print_done<'a, 'b>(
+    rows: usize,
+    columns: usize,
+    lowers: &'b [u32],
+    uppers: &'b [u32],
     room: usize,
-    out: &mut [u8],
+    out: &'a mut [u8],
 )
     requires { ⌜ room ≤ length (now out) ⌝ }
 {
@@ -53,7 +65,8 @@ fn print_done(
     print::number(columns as u64);
     print::cells(lowers);
     print::cells(uppers);
-    print::answer(sheets::put(rows, columns, lowers, uppers, &mut out[..room]));
+    print::answer(sheets::check_write(rows, columns, lowers, uppers, room));
+    print_part(rows, columns, lowers, uppers, &mut out[..room]);
     print::bytes(out);
     io::write_all(STDOUT_FILENO, b"\n");
 }
@@ -71,8 +84,8 @@ fn run(
     requires { ⌜ (below ≤ length (now lowers)) × (above ≤ length (now uppers)) × (room ≤ length (now out)) ⌝ }
 {
     match sheets::read(s, &mut lowers[..below], &mut uppers[..above]) {
-        Outcome::Done(rows, columns) => print_done(rows, columns, lowers, uppers, room, out),
-        Outcome::Refused(r) => print_refused(r, lowers, uppers),
+        Shape::Sizes(rows, columns) => print_done(rows, columns, lowers, uppers, room, out),
+        Shape::Refused(r) => print_refused(r, lowers, uppers),
     }
 }
 

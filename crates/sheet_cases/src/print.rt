@@ -34,12 +34,11 @@ pub fn number(n: u64) {
 }
 
 pub fn refusal(x: Refusal) {
-    let t = refusals::describe(x);
     io::write_all(STDOUT_FILENO, b"refused");
-    number(t.number as u64);
-    number(t.matrix as u64);
-    number(t.row as u64);
-    number(t.column as u64);
+    number(x.number as u64);
+    number(x.matrix as u64);
+    number(x.row as u64);
+    number(x.column as u64);
 }
 
 pub fn answer(written: Written) {

@@ -1,28 +1,28 @@
--- Laws of a C caller's answers, from what the calls ensure and the arms of the match. Assumes nothing.
-use mathlib.Core.Path.{_≡_, sym, ap, _∙_}
+-- Laws of a C caller's answers, from what the calls ensure. Assumes nothing.
+use mathlib.Core.Path.{_≡_, ap, _∙_}
 use mathlib.Core.List.{List}
-use Prim.Native.Nat.{ℕ, _+_}
-use Rattle.refusals.specs.declared.Refusal.{Refusal}
-use Rattle.refusals.specs.declared.Report.{Report}
-use Rattle.refusals.specs.Report.{reportOf}
-use Rattle.sheets.specs.declared.Outcome.{Outcome}
-use Rattle.sheets.specs.declared.Written.{Written}
+use Prim.Native.Nat.{ℕ, _≤_}
+use native.Mathlib.Omega.{arith}
+use Rattle.refusals.specs.Answer.{Answer, gives}
+use Rattle.refusals.proofs.SizeLaws.{Fitting}
 use Rattle.sheets.specs.declared.chain.Cell.{Cell}
-use Rattle.sheets.specs.Reading.{sliceAfter}
-use Rattle.sheets.specs.Writing.{outAfter}
-use Rattle.sheet_face.specs.Codes.{sized, refusalCode, readCode, writeCode}
+use Rattle.sheets.specs.Reading.{readOf, sliceAfter}
+use Rattle.sheets.specs.Writing.{writeOf, outAfter}
+use Rattle.sheets.proofs.Answers.{done-tells}
+use Rattle.sheets.proofs.Rooms.{bytes-tell}
 
-pub code-is : (x : Refusal) (r : Report) (p n : ℕ) → r ≡ reportOf x → p ≡ sized (r .row) (r .column) → n + sized (r .row) (r .column) ≡ refusalCode r → n + p ≡ refusalCode (reportOf x)
-code-is x r p n e f g = ap (λ (t : ℕ). n + t) f ∙ g ∙ ap refusalCode e
+-- what is left, by an answer o that is x
+pub slice-is : (b : Cell → ℕ) (s d d′ : List ℕ) (o x : Answer (ℕ × ℕ)) → o ≡ x → d′ ≡ sliceAfter b s o d → d′ ≡ sliceAfter b s x d
+slice-is b s d d′ o x e f = f ∙ ap (λ y. sliceAfter b s y d) e
 
-pub read-is : (o v x : Outcome) (n : ℕ) → o ≡ x → o ≡ v → n ≡ readCode v → n ≡ readCode x
-read-is o v x n e f g = g ∙ ap readCode (sym f ∙ e)
+pub out-is : (rows columns : ℕ) (lo up d d′ : List ℕ) (o x : Answer ℕ) → o ≡ x → d′ ≡ outAfter rows columns lo up o d → d′ ≡ outAfter rows columns lo up x d
+out-is rows columns lo up d d′ o x e f = f ∙ ap (λ y. outAfter rows columns lo up y d) e
 
-pub slice-is : (b : Cell → ℕ) (s d d′ : List ℕ) (o x : Outcome) → o ≡ x → d′ ≡ sliceAfter b s o d → d′ ≡ sliceAfter b s x d
-slice-is b s d d′ o x e f = f ∙ ap (λ (y : Outcome). sliceAfter b s y d) e
+-- sizes and lengths are small
+pub sizes-small : (s : List ℕ) (l u r c : ℕ) → readOf s l u ≡ gives (r, c) → Fitting r c l u
+sizes-small s l u r c e = done-tells s l u r c e .sized
 
-pub write-is : (o v x : Written) (n : ℕ) → o ≡ x → o ≡ v → n ≡ writeCode v → n ≡ writeCode x
-write-is o v x n e f g = g ∙ ap writeCode (sym f ∙ e)
-
-pub out-is : (rows columns : ℕ) (lo up d d′ : List ℕ) (o x : Written) → o ≡ x → d′ ≡ outAfter rows columns lo up o d → d′ ≡ outAfter rows columns lo up x d
-out-is rows columns lo up d d′ o x e f = f ∙ ap (λ (y : Written). outAfter rows columns lo up y d) e
+pub length-small : (rows columns : ℕ) (lo up : List ℕ) (room n : ℕ) → writeOf rows columns lo up room ≡ gives n → n ≤ 16400
+length-small rows columns lo up room n e =
+    let g = bytes-tell rows columns lo up room n e in
+    omega (arith, g .bytes, g .few, g .counted)

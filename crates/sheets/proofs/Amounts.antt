@@ -10,7 +10,7 @@ use lib.IntN.{ℤ, pos, negsuc}
 use lib.ListN.{getD}
 use lib.Pow.{pow-pos, pow-mono}
 use borrow.Author.Tests.{ne-eqb}
-use Rattle.rounding.specs.Pattern.{val, place}
+use Rattle.rounding.specs.Pattern.{val, encode}
 use Rattle.rounding.specs.Format.{expo}
 use Rattle.binary32.specs.Number.{valueOf, finite}
 use Rattle.binary32.proofs.Held.{is-finite}
@@ -32,7 +32,7 @@ abbrev right : ℕ → ℕ → Bool
 right c x = both (eqb x (amountOf c)) (isUnits (valueOf x) (unitsOf c))
 
 pub amount-right : (c : ℕ) → c < 8 → (getD amounts c 0 ≡ amountOf c) × (valueOf (getD amounts c 0) ≡ pos (unitsOf c))
-unfolding unitsOf amountOf valueOf val place expo size
+unfolding unitsOf amountOf valueOf val encode expo size
 amount-right c h =
     let x : ℕ = getD amounts c 0 in
     let t : T (right c x) = at right amounts tt c h in (

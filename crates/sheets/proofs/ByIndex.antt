@@ -1,5 +1,5 @@
--- What a read gives, cell by cell: at the place of a cell of the chain its record's bounds, widened; [0, 0] at every other place. Assumes nothing.
-use mathlib.Core.Path.{_≡_, refl, sym, ap, subst, _∙_}
+-- What a read gives, cell by cell: at the position of a cell of the chain its record's bounds, widened; [0, 0] at every other position. Assumes nothing.
+use mathlib.Core.Path.{_≡_, refl, sym, subst, _∙_}
 use mathlib.Core.Bool.{Bool, true, false}
 use mathlib.Core.List.{List, [], _∷_}
 use mathlib.Core.Logic.{_⊎_, inl, inr, ⊎-elim}
@@ -9,53 +9,48 @@ use lib.Dec.{ltb}
 use lib.ListN.{length, getD, set, replicate, length-set, length-replicate, getD-replicate, List·getD-eq-default}
 use lib.Seq.{getD-set-same, getD-set-other}
 use borrow.Author.Tests.{ltb-true, ltb-false}
-use Rattle.binary32.specs.declared.Rounded.{Rounded}
-use Rattle.binary32.specs.declared.Rounded.the-variants as N
+use Rattle.refusals.specs.Answer.{gives}
+use Rattle.refusals.proofs.Answers.{both-tell}
 use Rattle.binary32.specs.Operations.{subDown, addUp}
-use Rattle.sheets.specs.declared.cell.Widened.{Widened}
-use Rattle.sheets.specs.declared.cell.Widened.the-variants as W
 use Rattle.sheets.specs.declared.chain.Cell.{Cell}
-use Rattle.sheets.specs.declared.chain.Step.the-variants as S
 use Rattle.sheets.specs.Layout.{recordOf, countOf, rowsOf, columnsOf, firstOf}
 use Rattle.sheets.specs.Wear.{amountOf}
-use Rattle.sheets.specs.Cell.{bothOf}
 use Rattle.sheets.specs.Chain.{judgeOf, walk, chainOf}
 use Rattle.sheets.specs.Reading.{lowerOf, upperOf, putIn, matrixOf}
-use Rattle.sheets.proofs.Bounding.{widened-tells}
 use Rattle.sheets.proofs.Judging.{Passed, judge-passed}
-use Rattle.sheets.proofs.Walking.{visit-tells, visit-place, turn}
+use Rattle.sheets.proofs.Walking.{visit-tells, visit-position, turn}
 
 -- c is one of cs
 abbrev pub Among : Cell → List Cell → Type 0
 Among c [] = ⊥
 Among c (d ∷ cs) = (c ≡ d) ⊎ Among c cs
 
--- the places of cs rise strictly, from l on, and are below n
+-- the positions of cs rise strictly, from l on, and are below n
 abbrev pub Rising : ℕ → ℕ → List Cell → Type 0
 Rising n l [] = Unit {0}
-Rising n l (c ∷ cs) = (l ≤ c .place) × (c .place < n) × Rising n (c .place + 1) cs
+Rising n l (c ∷ cs) = (l ≤ c .position) × (c .position < n) × Rising n (c .position + 1) cs
 
--- ---- cells put in their places
+-- ---- cells put in their positions
 
 module _ (b : Cell → ℕ) where
-  -- a place where no cell stands
-  pub put-other : (cs : List Cell) (a : List ℕ) (q : ℕ) → ((c : Cell) → Among c cs → q ≡ c .place → ⊥) → getD (putIn b a cs) q 0 ≡ getD a q 0
+  -- a position where no cell stands
+  pub put-other : (cs : List Cell) (a : List ℕ) (q : ℕ) → ((c : Cell) → Among c cs → q ≡ c .position → ⊥) → getD (putIn b a cs) q 0 ≡ getD a q 0
   unfolding putIn
   put-other [] a q h = refl
-  put-other (c ∷ cs) a q h = put-other cs (set a (c .place) (b c)) q (λ d k. h d (inr k)) ∙ getD-set-other a (c .place) q (b c) 0 (h c (inl refl))
+  put-other (c ∷ cs) a q h = put-other cs (set a (c .position) (b c)) q (λ d k. h d (inr k)) ∙ getD-set-other a (c .position) q (b c) 0 (h c (inl refl))
 
-  later : (n l : ℕ) (cs : List Cell) (c : Cell) → Rising n l cs → Among c cs → l ≤ c .place
-  later n l (d ∷ cs) c r (inl e) = subst (λ (x : Cell). l ≤ x .place) (sym e) (r .0)
-  later n l (d ∷ cs) c r (inr k) = omega (arith, r .0, later n (d .place + 1) cs c (r .2) k)
+  later : (n l : ℕ) (cs : List Cell) (c : Cell) → Rising n l cs → Among c cs → l ≤ c .position
+  later n l (d ∷ cs) c r (inl e) = subst (λ (x : Cell). l ≤ x .position) (sym e) (r .0)
+  later n l (d ∷ cs) c r (inr k) = omega (arith, r .0, later n (d .position + 1) cs c (r .2) k)
 
-  -- the place of a cell
-  pub put-same : (n l : ℕ) (cs : List Cell) (a : List ℕ) (c : Cell) → length a ≡ n → Rising n l cs → Among c cs → getD (putIn b a cs) (c .place) 0 ≡ b c
+  -- the position of a cell
+  pub put-same : (n l : ℕ) (cs : List Cell) (a : List ℕ) (c : Cell) → length a ≡ n → Rising n l cs → Among c cs → getD (putIn b a cs) (c .position) 0 ≡ b c
   unfolding putIn
   put-same n l (d ∷ cs) a c e r (inl k) =
-      subst (λ (x : Cell). getD (putIn b (set a (d .place) (b d)) cs) (x .place) 0 ≡ b x) (sym k)
-      (put-other cs (set a (d .place) (b d)) (d .place) (λ x m f. let g : d .place + 1 ≤ x .place = later n (d .place + 1) cs x (r .2) m in omega arith)
-      ∙ getD-set-same a (d .place) (b d) 0 (omega (arith, r .1)))
-  put-same n l (d ∷ cs) a c e r (inr k) = put-same n (d .place + 1) cs (set a (d .place) (b d)) c (length-set a (d .place) (b d) ∙ e) (r .2) k
+      subst (λ (x : Cell). getD (putIn b (set a (d .position) (b d)) cs) (x .position) 0 ≡ b x) (sym k)
+      (put-other cs (set a (d .position) (b d)) (d .position) (λ x m f. let g : d .position + 1 ≤ x .position = later n (d .position + 1) cs x (r .2) m in omega arith)
+      ∙ getD-set-same a (d .position) (b d) 0 (omega (arith, r .1)))
+  put-same n l (d ∷ cs) a c e r (inr k) = put-same n (d .position + 1) cs (set a (d .position) (b d)) c (length-set a (d .position) (b d) ∙ e) (r .2) k
 
 -- ---- the cells of a chain
 
@@ -63,29 +58,10 @@ module _ (b : Cell → ℕ) where
 pub record Widens (s : List ℕ) (rows columns i : ℕ) (c : Cell) : Type 0 where
   pub linked : (i ≡ 0 → ⊥) × (i < countOf s)
   pub inside : (recordOf s i .row < rows) × (recordOf s i .column < columns)
-  pub place : c .place ≡ recordOf s i .row * columns + recordOf s i .column
+  pub position : c .position ≡ recordOf s i .row * columns + recordOf s i .column
   pub class : recordOf s i .wear ≤ 7
-  pub lower : subDown (recordOf s i .lower) (amountOf (recordOf s i .wear)) ≡ N.Number (c .lower)
-  pub upper : addUp (recordOf s i .upper) (amountOf (recordOf s i .wear)) ≡ N.Number (c .upper)
-
-both-tells : (l u : Rounded) (x y : ℕ) → bothOf l u ≡ W.Cell x y → (l ≡ N.Number x) × (u ≡ N.Number y)
-both-tells (N.Number a) (N.Number b) x y e = (ap N.Number (ap lowerIn e), ap N.Number (ap upperIn e))
-  where
-    lowerIn : Widened → ℕ
-    lowerIn (W.Cell a b) = a
-    lowerIn W.NotFinite = 0
-    lowerIn W.Crossed = 0
-    lowerIn W.Overflow = 0
-
-    upperIn : Widened → ℕ
-    upperIn (W.Cell a b) = b
-    upperIn W.NotFinite = 0
-    upperIn W.Crossed = 0
-    upperIn W.Overflow = 0
-both-tells (N.Number a) N.NotFinite x y e = let z : _≡_ {A = ℕ} 0 1 = cc in absurd (omega arith)
-both-tells (N.Number a) N.Overflow x y e = let z : _≡_ {A = ℕ} 0 1 = cc in absurd (omega arith)
-both-tells N.NotFinite u x y e = let z : _≡_ {A = ℕ} 0 1 = cc in absurd (omega arith)
-both-tells N.Overflow u x y e = let z : _≡_ {A = ℕ} 0 1 = cc in absurd (omega arith)
+  pub lower : subDown (recordOf s i .lower) (amountOf (recordOf s i .wear)) ≡ gives (c .lower)
+  pub upper : addUp (recordOf s i .upper) (amountOf (recordOf s i .wear)) ≡ gives (c .upper)
 
 module _ (s : List ℕ) (rows columns : ℕ) where
   pub walk-rises : (t i l : ℕ) → Rising (rows * columns) l (walk s rows columns t i l .cells)
@@ -93,7 +69,7 @@ module _ (s : List ℕ) (rows columns : ℕ) where
   walk-rises zero i l = tt
   walk-rises (suc t) i l =
       turn s rows columns (λ w. Rising (rows * columns) l (w .cells)) t i l (λ z. tt) (λ x z e. tt)
-      (λ c z e. let j = visit-place s rows columns i l c e in (j .0, j .1, walk-rises t (c .next) (c .place + 1)))
+      (λ c z e. let j = visit-position s rows columns i l c e in (j .0, j .1, walk-rises t (c .next) (c .position + 1)))
 
   pub walk-widens : (t i l : ℕ) (c : Cell) → Among c (walk s rows columns t i l .cells) → (k : ℕ) × Widens s rows columns k c
   unfolding walk
@@ -102,26 +78,26 @@ module _ (s : List ℕ) (rows columns : ℕ) where
       turn s rows columns (λ w. Among c (w .cells) → (k : ℕ) × Widens s rows columns k c) t i l (λ z h. absurd h) (λ x z e h. absurd h)
       (λ d z e h.
       ⊎-elim (λ (m : c ≡ d). (i, subst (λ (x : Cell). Widens s rows columns i x) (sym m) (widens i l d z (visit-tells s rows columns i l d e))))
-      (λ k. walk-widens t (d .next) (d .place + 1) c k) h)
+      (λ k. walk-widens t (d .next) (d .position + 1) c k) h)
     where
-      widens : (i l : ℕ) (c : Cell) → (i ≡ 0 → ⊥) → (i < countOf s) × (judgeOf rows columns l (recordOf s i) ≡ S.Cell c) → Widens s rows columns i c
+      widens : (i l : ℕ) (c : Cell) → (i ≡ 0 → ⊥) → (i < countOf s) × (judgeOf rows columns l (recordOf s i) ≡ gives c) → Widens s rows columns i c
       widens i l c z h =
           let p : Passed rows columns l (recordOf s i) c = judge-passed rows columns l (recordOf s i) c (h .1) in
-          let w = both-tells _ _ _ _ (widened-tells _ _ _ _ _ (p .widened) .2) in
-          record { linked = (z, h .0); inside = (p .row, p .column); place = sym (p .place); class = p .class; lower = w .0; upper = w .1 }
+          let w = both-tell _ _ _ (p .outward) in
+          record { linked = (z, h .0); inside = (p .row, p .column); position = sym (p .position); class = p .class; lower = w .0; upper = w .1 }
 
 -- ---- the matrix of any sheet
 
 pub record ByIndex (s : List ℕ) : Type 0 where
-  -- the chain's cells rise strictly by place, and each is a record, widened
+  -- the chain's cells rise strictly by position, and each is a record, widened
   pub rising : Rising (rowsOf s * columnsOf s) 0 (chainOf s .cells)
   pub widened : (c : Cell) → Among c (chainOf s .cells) → (i : ℕ) × Widens s (rowsOf s) (columnsOf s) i c
-  -- at a cell's place stand its bounds
-  pub lower-at : (c : Cell) → Among c (chainOf s .cells) → getD (matrixOf lowerOf s) (c .place) 0 ≡ c .lower
-  pub upper-at : (c : Cell) → Among c (chainOf s .cells) → getD (matrixOf upperOf s) (c .place) 0 ≡ c .upper
-  -- at any other place stands [0, 0]
-  pub lower-off : (q : ℕ) → ((c : Cell) → Among c (chainOf s .cells) → q ≡ c .place → ⊥) → getD (matrixOf lowerOf s) q 0 ≡ 0
-  pub upper-off : (q : ℕ) → ((c : Cell) → Among c (chainOf s .cells) → q ≡ c .place → ⊥) → getD (matrixOf upperOf s) q 0 ≡ 0
+  -- at a cell's position stand its bounds
+  pub lower-at : (c : Cell) → Among c (chainOf s .cells) → getD (matrixOf lowerOf s) (c .position) 0 ≡ c .lower
+  pub upper-at : (c : Cell) → Among c (chainOf s .cells) → getD (matrixOf upperOf s) (c .position) 0 ≡ c .upper
+  -- at any other position stands [0, 0]
+  pub lower-off : (q : ℕ) → ((c : Cell) → Among c (chainOf s .cells) → q ≡ c .position → ⊥) → getD (matrixOf lowerOf s) q 0 ≡ 0
+  pub upper-off : (q : ℕ) → ((c : Cell) → Among c (chainOf s .cells) → q ≡ c .position → ⊥) → getD (matrixOf upperOf s) q 0 ≡ 0
 
 zero-at : (n q : ℕ) → _≡_ {A = ℕ} (getD (replicate n 0) q 0) 0
 zero-at n q = go (ltb q n) refl

@@ -6,10 +6,8 @@ use native.Mathlib.Nat.{add-zero, add-suc, div-lt-iff-lt-mul}
 use native.Mathlib.Numerals.{add-one}
 use native.Mathlib.Omega.{arith}
 use lib.ListN.{length, take, drop, length-append}
-use Rattle.sheets.specs.declared.cell.Bounds.{Bounds}
-use Rattle.sheets.specs.declared.cell.Bounds.the-variants as B
 use Rattle.sheets.specs.Sheet.{over, cellAt, tally, countTo, nextOf, cellBytes, recordsTo}
-use Rattle.sheets.proofs.CellBytes.{cell-length}
+use Rattle.sheets.proofs.CellBytes.{tally-le, cell-length}
 use Rattle.sheets.proofs.Fronts.{Front, front-more, front-is}
 
 module _ (lo up : List ℕ) where
@@ -30,15 +28,9 @@ module _ (lo up : List ℕ) where
       subst (λ (t : ℕ). countTo lo up p + tally (cellAt lo up p) ≤ countTo lo up t) y g
 
   pub count-le : (p : ℕ) → countTo lo up p ≤ p
-  unfolding countTo tally
+  unfolding countTo
   count-le zero = omega arith
-  count-le (suc p) = go (cellAt lo up p) (count-le p)
-    where
-      go : (b : Bounds) → countTo lo up p ≤ p → countTo lo up p + tally b ≤ suc p
-      go B.Zero h = omega arith
-      go (B.Cell x y) h = omega arith
-      go B.NotFinite h = omega arith
-      go B.Crossed h = omega arith
+  count-le (suc p) = omega (arith, count-le p, tally-le (cellAt lo up p))
 
 module _ (columns total : ℕ) (lo up : List ℕ) where
   pub records-length : (p : ℕ) → length (recordsTo columns total lo up p) ≡ 16 * countTo lo up p

@@ -1,44 +1,25 @@
--- Laws of 6 on length and head: one for each way out of the test, and what passing it tells. Assumes nothing.
-use mathlib.Core.Path.{_≡_, refl}
+-- Laws of 6 on length and head: `framed` by its tests, and what passing them tells. Assumes nothing.
+use mathlib.Core.Path.{_≡_}
 use mathlib.Core.Bool.{Bool, true, false, cond}
 use mathlib.Core.List.{List}
-use Prim.Native.Nat.{ℕ, _*_, _%_, _≤_, _<_}
-use native.Mathlib.Omega.{arith}
+use Prim.Native.Nat.{ℕ, _*_, _%_, _≤_}
 use lib.Dec.{eqb, leb}
 use lib.ListN.{length}
-use borrow.Author.Tests.{le-leb, lt-leb, eq-eqb, ne-eqb, eqb-true, leb-true}
+use borrow.Author.Tests.{eqb-true, leb-true}
+use Rattle.refusals.proofs.Answers.{and-tells}
 use Rattle.sheets.specs.Layout.{u16At, blank, framed, countOf}
 
 module _ (s : List ℕ) where
-  pub framed-uneven : (length s % 16 ≡ 0 → ⊥) → false ≡ framed s
+  pub framed-by : (t u v w b : Bool) (n : ℕ) → eqb (length s % 16) 0 ≡ t → leb 16 (length s) ≡ u → leb (length s) 16400 ≡ v → n ≡ u16At s 4
+      → eqb (16 * n) (length s) ≡ w → b ≡ blank s 6 10 → cond t (cond u (cond v (cond w b false) false) false) false ≡ framed s
   unfolding framed
-  framed-uneven h = rw (ne-eqb (length s % 16) 0 h)
+  framed-by t u v w b n e f g h i k = rw (e, f, g, ← h, i, ← k)
 
-  pub framed-short : length s % 16 ≡ 0 → length s < 16 → false ≡ framed s
-  unfolding framed
-  framed-short h k = rw (eq-eqb (length s % 16) 0 h, lt-leb 16 (length s) k)
-
-  pub framed-long : length s % 16 ≡ 0 → 16 ≤ length s → 16400 < length s → false ≡ framed s
-  unfolding framed
-  framed-long h k l = rw (eq-eqb (length s % 16) 0 h, le-leb 16 (length s) k, lt-leb (length s) 16400 l)
-
-  pub framed-count : (n : ℕ) → length s % 16 ≡ 0 → 16 ≤ length s → length s ≤ 16400 → n ≡ u16At s 4 → (16 * n ≡ length s → ⊥) → false ≡ framed s
-  unfolding framed
-  framed-count n h k l e m = rw (eq-eqb (length s % 16) 0 h, le-leb 16 (length s) k, le-leb (length s) 16400 l, ← e, ne-eqb (16 * n) (length s) m)
-
-  pub framed-head : (n : ℕ) (b : Bool) → length s % 16 ≡ 0 → 16 ≤ length s → length s ≤ 16400 → n ≡ u16At s 4 → 16 * n ≡ length s → b ≡ blank s 6 10 → b ≡ framed s
-  unfolding framed
-  framed-head n b h k l e m g = rw (eq-eqb (length s % 16) 0 h, le-leb 16 (length s) k, le-leb (length s) 16400 l, ← e, eq-eqb (16 * n) (length s) m) g
-
-  -- what passing 6 tells
   pub framed-tells : framed s ≡ true → (16 ≤ length s) × (16 * countOf s ≡ length s)
   unfolding framed
-  framed-tells e = go (eqb (length s % 16) 0) (leb 16 (length s)) (leb (length s) 16400) (eqb (16 * countOf s) (length s)) refl refl e
-    where
-      go : (a b c d : Bool) → leb 16 (length s) ≡ b → eqb (16 * countOf s) (length s) ≡ d
-          → cond a (cond b (cond c (cond d (blank s 6 10) false) false) false) false ≡ true → (16 ≤ length s) × (16 * countOf s ≡ length s)
-      go true true true true p q h = (leb-true _ _ p, eqb-true _ _ q)
-      go true true true false p q h = let z : _≡_ {A = Bool} false true = h in let y : _≡_ {A = ℕ} 0 1 = cc in omega arith
-      go true true false d p q h = let z : _≡_ {A = Bool} false true = h in let y : _≡_ {A = ℕ} 0 1 = cc in omega arith
-      go true false c d p q h = let z : _≡_ {A = Bool} false true = h in let y : _≡_ {A = ℕ} 0 1 = cc in omega arith
-      go false b c d p q h = let z : _≡_ {A = Bool} false true = h in let y : _≡_ {A = ℕ} 0 1 = cc in omega arith
+  framed-tells e =
+      let a = and-tells (eqb (length s % 16) 0) _ e in
+      let b = and-tells (leb 16 (length s)) _ (a .1) in
+      let c = and-tells (leb (length s) 16400) _ (b .1) in
+      let d = and-tells (eqb (16 * countOf s) (length s)) _ (c .1) in
+      (leb-true _ _ (b .0), eqb-true _ _ (d .0))

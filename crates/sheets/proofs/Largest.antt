@@ -1,7 +1,7 @@
 -- 5 of a cell that is read: widening finds no number exactly where the class is not 0 and a bound is the largest number, with either sign.
 -- Shown upward; downward it is the mirror image. Assumes nothing.
 use mathlib.Core.Path.{_≡_, refl, sym, ap, ap₂, _∙_}
-use mathlib.Core.Bool.{Bool, true, false, cond}
+use mathlib.Core.Bool.{Bool, true, false}
 use mathlib.Core.List.{[], _∷_}
 use mathlib.Core.Option.{none, some}
 use Prim.Native.Nat.{ℕ, _+_, _*_, _%_, _^_, _≤_, _<_, zero-le}
@@ -19,14 +19,15 @@ use Rattle.rounding.specs.Pattern.{val}
 use Rattle.rounding.specs.Rounding.{up, down, negate}
 use Rattle.rounding.proofs.Directed.{up-number, up-above}
 use Rattle.rounding.proofs.Pattern.{val-le}
-use Rattle.binary32.specs.declared.Rounded.the-variants as N
-use Rattle.binary32.specs.Number.{signedBy, valueOf, finite, Finite, finites, negated}
-use Rattle.binary32.specs.Operations.{answer, answerOf, subDown, addUp}
-use Rattle.binary32.proofs.Held.{finite-is, finites-first, finites-second}
+use Rattle.refusals.specs.Answer.{gives, refuse, both}
+use Rattle.binary32.specs.Number.{signedBy, valueOf, finite, Finite, negated}
+use Rattle.binary32.specs.Operations.{add, sub, answerOf, subDown, addUp}
+use Rattle.binary32.proofs.Held.{finite-is}
 use Rattle.binary32.proofs.Negation.{negated-value, negated-finite}
-use Rattle.sheets.specs.declared.cell.Widened.the-variants as W
+use Rattle.intervals.specs.Conversion.{faultOf, outwardOf}
 use Rattle.sheets.specs.Wear.{unitsOf, amountOf}
-use Rattle.sheets.specs.Cell.{bothOf, OverflowOf}
+use Rattle.sheets.specs.Cell.{OverflowOf}
+use Rattle.sheets.proofs.Bounding.{fine-finite, answer-is}
 use Rattle.sheets.proofs.Amounts.{amount-value, amount-finite, units-some, units-few}
 
 -- ---- a number other than the largest is 2^253 units below it, or more
@@ -67,12 +68,12 @@ up-past p n e k =
 
 -- ---- the two bounds of a cell and an amount above 0: the lower one by its pattern with the other sign
 
-module _ (a b c : ℕ) (la : a < 2 ^ 32) (f : finites a b ≡ true) (z : 0 < c) (k : c < 8) where
+module _ (a b c : ℕ) (la : a < 2 ^ 32) (f : faultOf a b ≡ 0) (z : 0 < c) (k : c < 8) where
   fa : finite a ≡ true
-  fa = finites-first a b f
+  fa = fine-finite a b f .0
 
   fb : finite b ≡ true
-  fb = finites-second a b f
+  fb = fine-finite a b f .1
 
   mirrored : negℤ (valueOf a -ℤ valueOf (amountOf c)) ≡ valueOf (negated a) +ℤ pos (unitsOf c)
   mirrored =
@@ -81,28 +82,27 @@ module _ (a b c : ℕ) (la : a < 2 ^ 32) (f : finites a b ≡ true) (z : 0 < c) 
       ∙ ap (λ x. x +ℤ pos (unitsOf c)) (sym (negated-value a la))
 
   lower-is : subDown a (amountOf c) ≡ answerOf (negate (up binary32 1 (valueOf (negated a) +ℤ pos (unitsOf c))))
-  unfolding answer down
-  lower-is = ap₂ (λ t x. cond t (answerOf (negate (up binary32 1 x))) N.NotFinite) (ap₂ (λ s t. cond s t false) fa (amount-finite c k)) mirrored
+  unfolding down
+  lower-is = answer-is (sub down) a (amountOf c) fa (amount-finite c k) ∙ ap (λ x. answerOf (negate (up binary32 1 x))) mirrored
 
   upper-is : addUp b (amountOf c) ≡ answerOf (up binary32 1 (valueOf b +ℤ pos (unitsOf c)))
-  unfolding answer
-  upper-is = ap₂ (λ t x. cond t (answerOf (up binary32 1 (valueOf b +ℤ x))) N.NotFinite) (ap₂ (λ s t. cond s t false) fb (amount-finite c k)) (amount-value c k)
+  upper-is = answer-is (add up) b (amountOf c) fb (amount-finite c k) ∙ ap (λ x. answerOf (up binary32 1 (valueOf b +ℤ x))) (amount-value c k)
 
-  pub overflow-lower : negated a ≡ 0x7F7FFFFF → bothOf (subDown a (amountOf c)) (addUp b (amountOf c)) ≡ W.Overflow
+  pub overflow-lower : negated a ≡ 0x7F7FFFFF → outwardOf a b (amountOf c) ≡ refuse 5
   overflow-lower e =
-      ap (λ x. bothOf x (addUp b (amountOf c)))
+      ap (λ x. both x (addUp b (amountOf c)))
       (lower-is ∙ ap (λ o. answerOf (negate o)) (up-past (negated a) (unitsOf c) e (units-some c z)))
 
-  pub overflow-upper : (negated a ≡ 0x7F7FFFFF → ⊥) → OverflowOf (bothOf (subDown a (amountOf c)) (addUp b (amountOf c))) (eqb b 0x7F7FFFFF)
+  pub overflow-upper : (negated a ≡ 0x7F7FFFFF → ⊥) → OverflowOf (outwardOf a b (amountOf c)) (eqb b 0x7F7FFFFF)
   overflow-upper h = go (eqb b 0x7F7FFFFF) refl
     where
-      lower : (x : ℕ) × (subDown a (amountOf c) ≡ N.Number x)
+      lower : (x : ℕ) × (subDown a (amountOf c) ≡ gives x)
       lower =
           let r = up-room (negated a) (unitsOf c) (negated-finite a la ∙ fa) h (units-few c z k) in
           (_, lower-is ∙ ap (λ o. answerOf (negate o)) (r .1))
 
-      go : (t : Bool) → eqb b 0x7F7FFFFF ≡ t → OverflowOf (bothOf (subDown a (amountOf c)) (addUp b (amountOf c))) t
-      go true e = ap₂ bothOf (lower .1) (upper-is ∙ ap answerOf (up-past b (unitsOf c) (eqb-true b _ e) (units-some c z)))
+      go : (t : Bool) → eqb b 0x7F7FFFFF ≡ t → OverflowOf (outwardOf a b (amountOf c)) t
+      go true e = ap₂ both (lower .1) (upper-is ∙ ap answerOf (up-past b (unitsOf c) (eqb-true b _ e) (units-some c z)))
       go false e =
           let r = up-room b (unitsOf c) fb (eqb-false b _ e) (units-few c z k) in
-          (lower .0, _, ap₂ bothOf (lower .1) (upper-is ∙ ap answerOf (r .1)))
+          ((lower .0, _), ap₂ both (lower .1) (upper-is ∙ ap answerOf (r .1)))

@@ -1,4 +1,4 @@
--- The written cells, put in their places, are the matrix by value: minus zero as 0. Assumes nothing.
+-- The written cells, put in their positions, are the matrix by value: minus zero as 0. Assumes nothing.
 use mathlib.Core.Path.{_≡_, sym, ap, _∙_}
 use mathlib.Core.List.{List, [], _∷_, _++_, append-nil}
 use Prim.Native.Nat.{ℕ, zero, suc, _+_, _<_}
@@ -6,8 +6,8 @@ use native.Mathlib.Numerals.{add-one}
 use native.Mathlib.Omega.{arith}
 use lib.ListN.{length, getD, set, take, drop, replicate, length-set}
 use lib.Seq.{drop-drop, getD-drop, take-suc, take-suc-set, drop-set-lt, append-snoc, take-all}
-use Rattle.sheets.specs.declared.cell.Bounds.{Bounds}
-use Rattle.sheets.specs.declared.cell.Bounds.the-variants as B
+use Rattle.sheets.specs.declared.cell.HandedIn.{HandedIn}
+use Rattle.sheets.specs.declared.cell.HandedIn.the-variants as H
 use Rattle.sheets.specs.declared.chain.Cell.{Cell}
 use Rattle.sheets.specs.Cell.{canonicalOf}
 use Rattle.sheets.specs.Reading.{putIn}
@@ -16,27 +16,25 @@ use Rattle.sheets.specs.Trip.{canonicals}
 use Rattle.sheets.proofs.WalkBack.{consBy, cellsFrom}
 
 -- v is the bound of a cell that was written, as b takes it from a cell of the chain
-abbrev pub Holds : (Cell → ℕ) → ℕ → Bounds → Type 0
-Holds b v B.Zero = v ≡ 0
-Holds b v (B.Cell x y) = (n p : ℕ) → b (record { next = n; place = p; lower = x; upper = y }) ≡ v
-Holds b v B.NotFinite = ⊥
-Holds b v B.Crossed = ⊥
+abbrev pub Holds : (Cell → ℕ) → ℕ → HandedIn → Type 0
+Holds b v H.Zero = v ≡ 0
+Holds b v (H.Cell x y) = (n p : ℕ) → b (record { next = n; position = p; lower = x; upper = y }) ≡ v
+Holds b v (H.Faulty n) = ⊥
 
 module _ (b : Cell → ℕ) (y p x v : ℕ) (l rest : List ℕ) (cs : List Cell) (n : length l ≡ p + suc y) (d : drop p l ≡ replicate (suc y) 0)
     (ih : (l′ : List ℕ) → length l′ ≡ p + 1 + y → drop (p + 1) l′ ≡ replicate y 0 → putIn b l′ cs ≡ take (p + 1) l′ ++ rest) where
   after : drop (p + 1) l ≡ replicate y 0
   after = sym (drop-drop 1 p l) ∙ ap (drop 1) d
 
-  put-step : (e : Bounds) → Holds b v e → putIn b l (consBy x p e cs) ≡ take p l ++ v ∷ rest
+  put-step : (e : HandedIn) → Holds b v e → putIn b l (consBy x p e cs) ≡ take p l ++ v ∷ rest
   unfolding putIn
-  put-step B.Zero h =
+  put-step H.Zero h =
       let g : getD l p 0 ≡ v = ap (λ (k : ℕ). getD l k 0) (omega arith) ∙ sym (getD-drop p l 0 0) ∙ ap (λ (k : List ℕ). getD k 0 0) d ∙ sym h in
       let k : take (p + 1) l ≡ take p l ++ (v ∷ []) = rw (add-one p) (take-suc l p 0 (omega arith) ∙ rw g) in
       ih l (omega arith) after ∙ rw k (append-snoc (take p l) v rest)
-  put-step B.NotFinite h = absurd h
-  put-step B.Crossed h = absurd h
-  put-step (B.Cell s t) h =
-      let w : ℕ = b (record { next = x; place = p; lower = s; upper = t }) in
+  put-step (H.Faulty n) h = absurd h
+  put-step (H.Cell s t) h =
+      let w : ℕ = b (record { next = x; position = p; lower = s; upper = t }) in
       let k : take (p + 1) (set l p w) ≡ take p l ++ (w ∷ []) = rw (add-one p) (take-suc-set l p w (omega arith)) in
       ih (set l p w) (length-set l p w ∙ omega arith) (drop-set-lt (p + 1) l p w (omega arith) ∙ after)
       ∙ rw k (append-snoc (take p l) w rest) ∙ ap (λ (k : ℕ). take p l ++ k ∷ rest) (h x p)

@@ -1,21 +1,29 @@
--- The order of the chain: a place that rises is a cell that comes later by row, then column, and 8 is said of a cell exactly where it does not. Assumes nothing.
-use mathlib.Core.Path.{_≡_, refl, sym, ap}
+-- The order of the chain: a position that rises is a cell that comes later by row, then column, and 8 is said of a cell exactly where it does not. Assumes nothing.
+use mathlib.Core.Path.{_≡_, refl, sym, ap, _∙_}
 use mathlib.Core.Bool.{Bool, true, false, cond}
 use mathlib.Core.Logic.{_↔_, _⊎_, inl, inr}
-use Prim.Native.Nat.{ℕ, _+_, _*_, _<_}
+use mathlib.Core.Option.{Option, none, some}
+use Prim.Native.Nat.{ℕ, _+_, _*_, _≤_, _<_}
 use native.Mathlib.Omega.{arith}
 use lib.Arith.{digits-lt}
 use lib.Dec.{ltb}
-use borrow.Author.Tests.{lt-leb, ltb-true, ltb-false, le-ltb}
-use Rattle.refusals.specs.declared.Refusal.the-variants as R
+use lib.IntN.{ℤ}
+use borrow.Author.Tests.{lt-leb, lt-ltb, ltb-true, ltb-false, le-ltb}
+use Rattle.rounding.specs.Rounding.{up, down}
+use Rattle.refusals.specs.declared.Refusal.{Refusal}
+use Rattle.refusals.specs.Refusal.{ofMatrix, ofCell}
+use Rattle.refusals.specs.Answer.{Answer, gives, refuses, refuse, passing, both}
+use Rattle.refusals.proofs.Answers.{not-both}
+use Rattle.binary32.specs.Number.{valueOf, finites}
+use Rattle.binary32.specs.Operations.{add, sub, answerOf, answer, subDown, addUp}
+use Rattle.binary32.specs.Order.{atMost}
+use Rattle.intervals.specs.Conversion.{faultOf, outwardOf}
 use Rattle.sheets.specs.declared.layout.Record.{Record}
-use Rattle.sheets.specs.declared.cell.Widened.{Widened}
-use Rattle.sheets.specs.declared.cell.Widened.the-variants as W
-use Rattle.sheets.specs.declared.chain.Step.the-variants as S
+use Rattle.sheets.specs.declared.chain.Cell.{Cell}
 use Rattle.sheets.specs.Wear.{amountOf}
 use Rattle.sheets.specs.Cell.{widenedOf}
-use Rattle.sheets.specs.Chain.{placeOf, cellOf, judgeOf}
-use Rattle.sheets.proofs.Judging.{judge-unordered}
+use Rattle.sheets.specs.Chain.{positionOf, cellOf, judgeOf}
+use Rattle.sheets.proofs.Judging.{judge-by}
 
 -- the cell in row i and column j comes before that in row k and column l
 abbrev pub Before : ℕ → ℕ → ℕ → ℕ → Type 0
@@ -40,33 +48,66 @@ module _ (n i j k l : ℕ) (hj : j < n) (hl : l < n) where
   pub rises : (i * n + j < k * n + l) ↔ Before i j k l
   rises = (to, from)
 
+-- ---- 8 is said of the order alone: 3, 4 and 5 are other numbers
+
+-- a refusal's number is 5 or less
+abbrev Low : {A : Type 0} → Answer A → Type 0
+Low (gives v) = Unit {0}
+Low (refuses x) = x .number ≤ 5
+
+answer-low : (op : ℤ → ℤ → Option ℤ) (a b : ℕ) → Low (answer op a b)
+unfolding answer
+answer-low op a b = go (finites a b) (op (valueOf a) (valueOf b))
+  where
+    go : (t : Bool) (o : Option ℤ) → Low (cond t (answerOf o) (refuse 3))
+    go true (some v) = tt
+    go true none = omega arith
+    go false o = omega arith
+
+both-low : {A B : Type 0} (a : Answer A) (b : Answer B) → Low a → Low b → Low (both a b)
+both-low (gives v) (gives w) h k = tt
+both-low (gives v) (refuses r) h k = k
+both-low (refuses r) b h k = h
+
+widened-low : (a b w : ℕ) → Low (widenedOf a b w)
+unfolding widenedOf faultOf
+widened-low a b w = go (finites a b) (atMost a b) (both-low (subDown a w) (addUp b w) (answer-low (sub down) a w) (answer-low (add up) b w))
+  where
+    go : (s t : Bool) → Low (outwardOf a b w) → Low (passing (cond s (cond t 0 4) 3) (outwardOf a b w))
+    go true true h = h
+    go true false h = omega arith
+    go false t h = omega arith
+
 -- a record r after q, both in the matrix: 8 exactly where q does not come before r
 module _ (rows columns : ℕ) (q r : Record) (hq : q .column < columns) (hr : r .row < rows) (hc : r .column < columns) where
   abbrev Later : Type 0
   Later = Before (q .row) (q .column) (r .row) (r .column)
 
-  unordered : (Later → ⊥) → judgeOf rows columns (placeOf columns q + 1) r ≡ S.Refused (R.Unordered 0)
-  unordered h = sym (judge-unordered rows columns (placeOf columns q + 1) r hr hc (below (ltb (placeOf columns q) (placeOf columns r)) refl))
+  unordered : (Later → ⊥) → judgeOf rows columns (positionOf columns q + 1) r ≡ refuse 8
+  unordered h =
+      sym (judge-by rows columns (positionOf columns q + 1) r false false true _ _ _ (lt-leb rows (r .row) hr) (lt-leb columns (r .column) hc)
+      (lt-ltb (positionOf columns r) (positionOf columns q + 1) (below (ltb (positionOf columns q) (positionOf columns r)) refl)) refl refl refl)
     where
-      below : (t : Bool) → ltb (placeOf columns q) (placeOf columns r) ≡ t → placeOf columns r < placeOf columns q + 1
+      below : (t : Bool) → ltb (positionOf columns q) (positionOf columns r) ≡ t → positionOf columns r < positionOf columns q + 1
       below true e = absurd (h (to columns (q .row) (q .column) (r .row) (r .column) hq hc (ltb-true _ _ e)))
-      below false e = omega (arith, ltb-false (placeOf columns q) (placeOf columns r) e)
+      below false e = omega (arith, ltb-false (positionOf columns q) (positionOf columns r) e)
 
-  ordered : judgeOf rows columns (placeOf columns q + 1) r ≡ S.Refused (R.Unordered 0) → Later → ⊥
-  unfolding judgeOf
+  ordered : judgeOf rows columns (positionOf columns q + 1) r ≡ refuse 8 → Later → ⊥
   ordered e h =
-      let f : placeOf columns q < placeOf columns r = from columns (q .row) (q .column) (r .row) (r .column) hq hc h in
-      go (r .spare) (ltb 7 (r .wear)) (widenedOf (r .lower) (r .upper) (amountOf (r .wear)))
-      (rw (lt-leb rows (r .row) hr, lt-leb columns (r .column) hc, le-ltb (placeOf columns r) (placeOf columns q + 1) (omega arith)) at e)
+      let f : positionOf columns q < positionOf columns r = from columns (q .row) (q .column) (r .row) (r .column) hq hc h in
+      go (r .spare) (ltb 7 (r .wear)) (widenedOf (r .lower) (r .upper) (amountOf (r .wear))) (widened-low _ _ _)
+      (judge-by rows columns (positionOf columns q + 1) r false false false _ _ _ (lt-leb rows (r .row) hr) (lt-leb columns (r .column) hc)
+      (le-ltb (positionOf columns r) (positionOf columns q + 1) (omega arith)) refl refl refl ∙ e)
     where
-      go : (s t : Bool) (w : Widened)
-          → cond s (cond t (S.Refused (R.Class 0 (r .row) (r .column))) (cellOf columns r w)) (S.Refused (R.Layout 0)) ≡ S.Refused (R.Unordered 0) → ⊥
-      go false t w h = let z : _≡_ {A = ℕ} 0 1 = cc in omega arith
-      go true true w h = let z : _≡_ {A = ℕ} 0 1 = cc in omega arith
-      go true false (W.Cell x y) h = let z : _≡_ {A = ℕ} 0 1 = cc in omega arith
-      go true false W.NotFinite h = let z : _≡_ {A = ℕ} 0 1 = cc in omega arith
-      go true false W.Crossed h = let z : _≡_ {A = ℕ} 0 1 = cc in omega arith
-      go true false W.Overflow h = let z : _≡_ {A = ℕ} 0 1 = cc in omega arith
+      no : (x : Refusal) → refuses x ≡ refuse {A = Cell} 8 → (x .number ≡ 8 → ⊥) → ⊥
+      no x k n = n (let z : x ≡ ofMatrix 8 0 = cc in ap (λ (y : Refusal). y .number) z)
 
-  pub unordered-is : (judgeOf rows columns (placeOf columns q + 1) r ≡ S.Refused (R.Unordered 0)) ↔ (Later → ⊥)
+      go : (s t : Bool) (w : Answer (ℕ × ℕ)) → Low w
+          → cond s (cond t (refuses (ofCell 10 0 (r .row) (r .column))) (cellOf columns r w)) (refuse 6) ≡ refuse 8 → ⊥
+      go false t w l h = no _ h (λ e. omega arith)
+      go true true w l h = no _ h (λ e. omega arith)
+      go true false (gives x) l h = not-both (sym h)
+      go true false (refuses x) l h = no _ h (λ e. omega arith)
+
+  pub unordered-is : (judgeOf rows columns (positionOf columns q + 1) r ≡ refuse 8) ↔ (Later → ⊥)
   unordered-is = (ordered, unordered)

@@ -10,8 +10,8 @@ use lib.ListN.{length, getD, length-append}
 use lib.Seq.{getD-append-add}
 use borrow.Author.Tests.{eq-eqb, ltb-true}
 use Rattle.sheets.specs.declared.layout.Record.{Record}
-use Rattle.sheets.specs.declared.cell.Bounds.{Bounds}
-use Rattle.sheets.specs.declared.cell.Bounds.the-variants as B
+use Rattle.sheets.specs.declared.cell.HandedIn.{HandedIn}
+use Rattle.sheets.specs.declared.cell.HandedIn.the-variants as H
 use Rattle.sheets.specs.Layout.{u16At, u32At, blank, recordOf, countOf, firstOf, rowsOf, columnsOf}
 use Rattle.sheets.specs.Sheet.{recordBytes, cellAt, countTo, nextOf, cellBytes, recordsTo, sheetOf}
 use Rattle.sheets.proofs.CellBytes.{record-length}
@@ -95,11 +95,11 @@ head-blank rows columns lo up h =
     rw (eq-eqb (n / 65536 % 256) 0 (omega arith), eq-eqb (n / 16777216 % 256) 0 (omega arith))
 
 module _ (rows columns : ℕ) (lo up : List ℕ) (few : rows * columns ≤ 1024) where
-  -- the record of the cell at place p
-  pub record-at-place : (p x y : ℕ) → p < rows * columns → cellAt lo up p ≡ B.Cell x y
+  -- the record of the cell at position p
+  pub record-at-position : (p x y : ℕ) → p < rows * columns → cellAt lo up p ≡ H.Cell x y
       → recordOf (sheetOf rows columns lo up) (countTo lo up p + 1) ≡ fieldsOf (nextOf (countTo lo up (rows * columns)) (countTo lo up p + 1)) (p / columns) (p % columns) x y
   unfolding sheetOf cellBytes
-  record-at-place p x y h e =
+  record-at-position p x y h e =
       let n : ℕ = rows * columns in
       let t : ℕ = countTo lo up n in
       let s = records-split columns t lo up p (n - suc p) in
@@ -108,7 +108,7 @@ module _ (rows columns : ℕ) (lo up : List ℕ) (few : rows * columns ≤ 1024)
       let k : ℕ = nextOf t (countTo lo up p + 1) in
       let g : recordsTo columns t lo up n ≡ recordsTo columns t lo up p ++ (recordBytes k (p / columns) (p % columns) x y ++ s .0) =
       subst (λ (v : ℕ). recordsTo columns t lo up v ≡ recordsTo columns t lo up p ++ (recordBytes k (p / columns) (p % columns) x y ++ s .0)) m
-      (s .1 ∙ ap (λ (b : Bounds). recordsTo columns t lo up p ++ (cellBytes k (p / columns) (p % columns) b ++ s .0)) e) in
+      (s .1 ∙ ap (λ (b : HandedIn). recordsTo columns t lo up p ++ (cellBytes k (p / columns) (p % columns) b ++ s .0)) e) in
       let a : hd ++ recordsTo columns t lo up n ≡ (hd ++ recordsTo columns t lo up p) ++ (recordBytes k (p / columns) (p % columns) x y ++ s .0) = ap (λ (l : List ℕ). hd ++ l) g ∙ sym (append-assoc hd _ _) in
       let len : length (hd ++ recordsTo columns t lo up p) ≡ 16 * (countTo lo up p + 1) =
       length-append hd (recordsTo columns t lo up p) ∙ rw (record-length (nextOf t 0) rows columns (t + 1) 0, records-length columns t lo up p) (omega arith) in

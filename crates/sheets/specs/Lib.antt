@@ -1,5 +1,4 @@
 pub mod Layout
-pub mod Sizes
 pub mod Wear
 pub mod Cell
 pub mod Chain

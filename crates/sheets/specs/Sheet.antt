@@ -4,9 +4,9 @@ use mathlib.Core.List.{List, [], _∷_, _++_}
 use Prim.Native.Nat.{ℕ, zero, suc, _+_, _*_, _/_, _%_}
 use lib.Dec.{ltb}
 use lib.ListN.{length, getD, take, drop}
-use Rattle.sheets.specs.declared.cell.Bounds.{Bounds}
-use Rattle.sheets.specs.declared.cell.Bounds.the-variants as B
-use Rattle.sheets.specs.Cell.{boundsOf}
+use Rattle.sheets.specs.declared.cell.HandedIn.{HandedIn}
+use Rattle.sheets.specs.declared.cell.HandedIn.the-variants as H
+use Rattle.sheets.specs.Cell.{handedOf}
 
 -- ---- bytes
 
@@ -25,14 +25,13 @@ over m bytes out = take m out ++ bytes ++ drop (m + length bytes) out
 
 -- ---- the cells that are not [0, 0], by rows
 
-abbrev pub cellAt : List ℕ → List ℕ → ℕ → Bounds
-cellAt lo up p = boundsOf (getD lo p 0) (getD up p 0)
+abbrev pub cellAt : List ℕ → List ℕ → ℕ → HandedIn
+cellAt lo up p = handedOf (getD lo p 0) (getD up p 0)
 
-unfoldable pub tally : Bounds → ℕ
-tally B.Zero = 0
-tally (B.Cell a b) = 1
-tally B.NotFinite = 0
-tally B.Crossed = 0
+unfoldable pub tally : HandedIn → ℕ
+tally H.Zero = 0
+tally (H.Cell a b) = 1
+tally (H.Faulty n) = 0
 
 -- how many of the first p
 unfoldable pub countTo : List ℕ → List ℕ → ℕ → ℕ
@@ -43,11 +42,10 @@ countTo lo up (suc p) = countTo lo up p + tally (cellAt lo up p)
 unfoldable pub nextOf : ℕ → ℕ → ℕ
 nextOf total k = cond (ltb k total) (k + 1) 0
 
-unfoldable pub cellBytes : ℕ → ℕ → ℕ → Bounds → List ℕ
-cellBytes n r c B.Zero = []
-cellBytes n r c (B.Cell a b) = recordBytes n r c a b
-cellBytes n r c B.NotFinite = []
-cellBytes n r c B.Crossed = []
+unfoldable pub cellBytes : ℕ → ℕ → ℕ → HandedIn → List ℕ
+cellBytes n r c H.Zero = []
+cellBytes n r c (H.Cell a b) = recordBytes n r c a b
+cellBytes n r c (H.Faulty x) = []
 
 -- the records of the first p cells
 unfoldable pub recordsTo : ℕ → ℕ → List ℕ → List ℕ → ℕ → List ℕ

@@ -1,8 +1,8 @@
 // The coupling sheet: a matrix of intervals as records of 16 bytes, chained by a next index. Reads, writes, and checks of both.
 ghost use mathlib.Core.Path.{_≡_};
 ghost use lib.ListN.{length};
-ghost use Rattle.sheets.specs.Reading.{readOf, lowersAfter, uppersAfter};
-ghost use Rattle.sheets.specs.Writing.{writeOf, outAfter, partOf};
+ghost use Rattle.sheets.specs.Reading.{shape, readOf, lowersAfter, uppersAfter};
+ghost use Rattle.sheets.specs.Writing.{written, writeOf, outAfter, partOf};
 ghost use Rattle.sheets.specs.Trip.{TripOf};
 
 mod cell;
@@ -10,18 +10,18 @@ mod chain;
 mod layout;
 mod matrix;
 mod records;
-mod sizes;
 mod tally;
 mod wear;
 
-use chain::Verdict;
+use intervals::slices::clear;
+use refusals::Outcome;
 use refusals::Refusal;
-use sizes::Fit;
+use refusals::sizes::check_fit;
 use tally::Tallied;
 
 // What a read answers: rows and columns of the matrix, or why it is refused.
-pub enum Outcome {
-    Done(usize, usize),
+pub enum Shape {
+    Sizes(usize, usize),
     Refused(Refusal),
 }
 
@@ -32,39 +32,37 @@ pub enum Written {
 }
 
 // The answer of a read into slices of these lengths: 6 on length and head, 1, 2, then the chain's cells.
-pub fn check_read(s: &[u8], lowers: usize, uppers: usize) -> Outcome
-    ensures { λ r. ⌜ r ≡ readOf (now (s .entry)) lowers uppers ⌝ }
+pub fn check_read(s: &[u8], lowers: usize, uppers: usize) -> Shape
+    ensures { λ r. ⌜ shape r ≡ readOf (now (s .entry)) lowers uppers ⌝ }
 {
     if !layout::is_framed(s) {
-        return Outcome::Refused(Refusal::Layout(0));
+        return Shape::Refused(Refusal::of_matrix(6, 0));
     }
     let rows = layout::byte(s, 2);
     let columns = layout::byte(s, 3);
-    match sizes::fitting(rows, columns, lowers, uppers) {
-        Fit::Size => Outcome::Refused(Refusal::Size(0)),
-        Fit::Short => Outcome::Refused(Refusal::Short(0)),
-        Fit::Fits => match chain::follow(s, rows, columns, layout::u16_at(s, 0)) {
-            Verdict::Passed => Outcome::Done(rows, columns),
-            Verdict::Refused(r) => Outcome::Refused(r),
+    match check_fit(0, rows, columns, lowers, uppers) {
+        Outcome::Refused(r) => Shape::Refused(r),
+        Outcome::Done => match chain::follow(s, rows, columns, layout::u16_at(s, 0)) {
+            Outcome::Done => Shape::Sizes(rows, columns),
+            Outcome::Refused(r) => Shape::Refused(r),
         },
     }
 }
 
 // Reads the sheet's matrix into the front of the two slices; on a refusal they stay as they are.
-pub fn read(s: &[u8], lowers: &mut [u32], uppers: &mut [u32]) -> Outcome
-    ensures answer { λ r. ⌜ r ≡ readOf (now (s .entry)) (length (now (lowers .entry))) (length (now (uppers .entry))) ⌝ }
-    ensures below { λ r. ⌜ now (lowers .exit) ≡ lowersAfter (now (s .entry)) r (now (lowers .entry)) ⌝ }
-    ensures above { λ r. ⌜ now (uppers .exit) ≡ uppersAfter (now (s .entry)) r (now (uppers .entry)) ⌝ }
+pub fn read(s: &[u8], lowers: &mut [u32], uppers: &mut [u32]) -> Shape
+    ensures answer { λ r. ⌜ shape r ≡ readOf (now (s .entry)) (length (now (lowers .entry))) (length (now (uppers .entry))) ⌝ }
+    ensures below { λ r. ⌜ now (lowers .exit) ≡ lowersAfter (now (s .entry)) (shape r) (now (lowers .entry)) ⌝ }
+    ensures above { λ r. ⌜ now (uppers .exit) ≡ uppersAfter (now (s .entry)) (shape r) (now (uppers .entry)) ⌝ }
 {
     match check_read(s, lowers.len(), uppers.len()) {
-        Outcome::Done(rows, columns) => {
-            let cells = rows * columns;
-            matrix::clear(lowers, cells);
-            matrix::clear(uppers, cells);
+        Shape::Sizes(rows, columns) => {
+            clear(rows * columns, lowers);
+            clear(rows * columns, uppers);
             matrix::fill(s, rows, columns, layout::u16_at(s, 0), lowers, uppers);
-            Outcome::Done(rows, columns)
+            Shape::Sizes(rows, columns)
         }
-        Outcome::Refused(r) => Outcome::Refused(r),
+        Shape::Refused(r) => Shape::Refused(r),
     }
 }
 
@@ -76,17 +74,16 @@ pub fn check_write(
     uppers: &[u32],
     room: usize,
 ) -> Written
-    ensures { λ r. ⌜ r ≡ writeOf rows columns (now (lowers .entry)) (now (uppers .entry)) room ⌝ }
+    ensures { λ r. ⌜ written r ≡ writeOf rows columns (now (lowers .entry)) (now (uppers .entry)) room ⌝ }
 {
-    match sizes::fitting(rows, columns, lowers.len(), uppers.len()) {
-        Fit::Size => Written::Refused(Refusal::Size(0)),
-        Fit::Short => Written::Refused(Refusal::Short(0)),
-        Fit::Fits => match tally::scan(columns, rows * columns, lowers, uppers) {
+    match check_fit(0, rows, columns, lowers.len(), uppers.len()) {
+        Outcome::Refused(r) => Written::Refused(r),
+        Outcome::Done => match tally::scan(columns, rows * columns, lowers, uppers) {
             Tallied::Refused(r) => Written::Refused(r),
             Tallied::Counted(k) => {
                 let needed = 16 * (k + 1);
                 if room < needed {
-                    return Written::Refused(Refusal::Room(0));
+                    return Written::Refused(Refusal::of_matrix(11, 0));
                 }
                 Written::Bytes(needed)
             }
@@ -97,9 +94,9 @@ pub fn check_write(
 // Writes the matrix's sheet into the front of out; on a refusal out stays as it is.
 // What is written, `read` reads back as the same matrix by value.
 pub fn put(rows: usize, columns: usize, lowers: &[u32], uppers: &[u32], out: &mut [u8]) -> Written
-    ensures answer { λ r. ⌜ r ≡ writeOf rows columns (now (lowers .entry)) (now (uppers .entry)) (length (now (out .entry))) ⌝ }
-    ensures left { λ r. ⌜ now (out .exit) ≡ outAfter rows columns (now (lowers .entry)) (now (uppers .entry)) r (now (out .entry)) ⌝ }
-    ensures trip { λ r. ⌜ TripOf rows columns (now (lowers .entry)) (now (uppers .entry)) r (now (out .exit)) ⌝ }
+    ensures answer { λ r. ⌜ written r ≡ writeOf rows columns (now (lowers .entry)) (now (uppers .entry)) (length (now (out .entry))) ⌝ }
+    ensures left { λ r. ⌜ now (out .exit) ≡ outAfter rows columns (now (lowers .entry)) (now (uppers .entry)) (written r) (now (out .entry)) ⌝ }
+    ensures trip { λ r. ⌜ TripOf rows columns (now (lowers .entry)) (now (uppers .entry)) (written r) (now (out .exit)) ⌝ }
 {
     match check_write(rows, columns, lowers, uppers, out.len()) {
         Written::Bytes(n) => {
@@ -120,7 +117,7 @@ pub fn put(rows: usize, columns: usize, lowers: &[u32], uppers: &[u32], out: &mu
     }
 }
 
-// The same, and hands back the written front part of out, empty on a refusal. What is left in the rest of out is `put`'s to say.
+// The same, and hands back the written front part of out itself: it starts where out does, and is empty on a refusal. What is left in the rest of out is `put`'s to say.
 pub fn write<'a, 'b>(
     rows: usize,
     columns: usize,
@@ -128,7 +125,8 @@ pub fn write<'a, 'b>(
     uppers: &'b [u32],
     out: &'a mut [u8],
 ) -> &'a mut [u8]
-    ensures { λ r. ⌜ now r ≡ partOf rows columns (now (lowers .entry)) (now (uppers .entry)) (writeOf rows columns (now (lowers .entry)) (now (uppers .entry)) (length (now (out .entry)))) ⌝ }
+    ensures start { λ r. ⌜ r .ptr ≡ out .entry .ptr ⌝ }
+    ensures part { λ r. ⌜ now r ≡ partOf rows columns (now (lowers .entry)) (now (uppers .entry)) (writeOf rows columns (now (lowers .entry)) (now (uppers .entry)) (length (now (out .entry)))) ⌝ }
 {
     match put(rows, columns, lowers, uppers, out) {
         Written::Bytes(n) => &mut out[..n],

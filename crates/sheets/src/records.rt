@@ -3,10 +3,10 @@ ghost use mathlib.Core.Path.{_≡_};
 ghost use mathlib.Core.List.{_++_};
 ghost use Prim.Native.Nat.{_+_, _*_, _≤_, _<_};
 ghost use lib.ListN.{length, drop, take};
-ghost use Rattle.sheets.specs.Cell.{boundsOf};
+ghost use Rattle.sheets.specs.Cell.{handedOf};
 ghost use Rattle.sheets.specs.Sheet.{recordBytes, over, tally, countTo, nextOf, cellBytes, recordsTo};
-use crate::cell::Bounds;
-use crate::cell::checked;
+use crate::cell::HandedIn;
+use crate::cell::handed;
 
 // The sixteen bytes of a record, class 0.
 fn record_bytes(next: usize, row: usize, column: usize, lower: u32, upper: u32) -> [u8; 16]
@@ -72,17 +72,16 @@ fn put_cell(
     lower: u32,
     upper: u32,
 ) -> usize
-    requires { ⌜ (16 * (k + 1) + 16 * tally (boundsOf lower upper) ≤ length (now out)) × (k ≤ 1023) × (row < 256) × (column < 256) ⌝ }
-    ensures { λ r. ⌜ (r ≡ k + tally (boundsOf lower upper)) × (now (out .exit) ≡ over (16 * (k + 1)) (cellBytes (nextOf total (k + 1)) row column (boundsOf lower upper)) (now (out .entry))) ⌝ }
+    requires { ⌜ (16 * (k + 1) + 16 * tally (handedOf lower upper) ≤ length (now out)) × (k ≤ 1023) × (row < 256) × (column < 256) ⌝ }
+    ensures { λ r. ⌜ (r ≡ k + tally (handedOf lower upper)) × (now (out .exit) ≡ over (16 * (k + 1)) (cellBytes (nextOf total (k + 1)) row column (handedOf lower upper)) (now (out .entry))) ⌝ }
 {
-    match checked(lower, upper) {
-        Bounds::Cell(a, b) => {
+    match handed(lower, upper) {
+        HandedIn::Cell(a, b) => {
             put_record(out, 16 * (k + 1), next_of(total, k + 1), row, column, a, b);
             k + 1
         }
-        Bounds::Zero => k,
-        Bounds::NotFinite => k,
-        Bounds::Crossed => k,
+        HandedIn::Zero => k,
+        HandedIn::Faulty(_) => k,
     }
 }
 

@@ -1,7 +1,10 @@
 -- `coupling::read_as` meets its contract: the reader's, with the refusal named.
+use mathlib.Core.Path.{ap, _∙_}
+use Rattle.refusals.specs.Answer.{refuses, naming}
+use Rattle.refusals.proofs.Answers.{said}
+use Rattle.sheets.specs.Reading.{lowerOf, upperOf, shape}
+use Rattle.coupling.proofs.Stages.{slice-by, slice-refused}
 use borrow.Author.Needs.{needs}
-use Rattle.sheets.specs.Reading.{lowerOf, upperOf}
-use Rattle.coupling.proofs.Stages.{read-done, read-refused, slice-done, slice-refused}
 use Rattle.coupling.proofs.read_as.Statement.{statement}
 use Rattle.coupling.proofs.read_as.Tie as tie
 
@@ -27,7 +30,7 @@ returns : tie.Need-returns
 returns c =
     let r = c .before .before .before .before .before .before .before .read .ensures in
     let e = c .before .rows .given .1 in
-    (read-done _ _ _ _ _ (r .0) e, (slice-done lowerOf _ _ _ _ _ (r .1 .0) e, slice-done upperOf _ _ _ _ _ (r .1 .1) e))
+    (ap (naming _) (said shape (r .0) e), (slice-by lowerOf _ _ _ _ _ (r .1 .0) e, slice-by upperOf _ _ _ _ _ (r .1 .1) e))
 
 same-length-3 : tie.Need-same-length-3
 same-length-3 c = search needs
@@ -39,7 +42,7 @@ returns-2 : tie.Need-returns-2
 returns-2 c =
     let r = c .before .before .before .before .before .before .before .before .read .ensures in
     let e = c .before .before .r .given .1 in
-    (read-refused _ _ _ _ _ (r .0) e (c .named .ensures), (slice-refused lowerOf _ _ _ _ _ _ (r .1 .0) e, slice-refused upperOf _ _ _ _ _ _ (r .1 .1) e))
+    (ap refuses (c .named .ensures) ∙ ap (naming _) (said shape (r .0) e), (slice-refused lowerOf _ _ _ _ _ _ (r .1 .0) e, slice-refused upperOf _ _ _ _ _ _ (r .1 .1) e))
 
 pub read-as-spec : {M : Type 1} → statement M
 read-as-spec =

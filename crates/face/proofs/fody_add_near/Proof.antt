@@ -1,5 +1,5 @@
 use mathlib.Core.Path.{ap, _∙_}
-use Rattle.face.specs.Code.{coded}
+use Rattle.face.specs.Code.{patternFor}
 use borrow.Author.Needs.{needs}
 use Rattle.face.proofs.fody_add_near.Statement.{statement}
 use Rattle.face.proofs.fody_add_near.Tie as tie
@@ -7,11 +7,11 @@ use Rattle.face.proofs.fody_add_near.Tie as tie
 add-near-requires : tie.Need-add-near-requires
 add-near-requires c κs = search needs
 
-code-requires : tie.Need-code-requires
-code-requires c κs = search needs
+pattern-for-requires : tie.Need-pattern-for-requires
+pattern-for-requires c κs = search needs
 
 returns : tie.Need-returns
-returns c = c .code .ensures ∙ ap coded (c .before .add-near .ensures)
+returns c = c .pattern-for .ensures ∙ ap patternFor (c .before .add-near .ensures)
 
 pub fody-add-near-spec : {M : Type 1} → statement M
-fody-add-near-spec = tie.close (tie.spec add-near-requires code-requires returns)
+fody-add-near-spec = tie.close (tie.spec add-near-requires pattern-for-requires returns)

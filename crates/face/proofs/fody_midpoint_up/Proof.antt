@@ -1,5 +1,5 @@
 use mathlib.Core.Path.{ap, _∙_}
-use Rattle.face.specs.Code.{coded}
+use Rattle.face.specs.Code.{patternFor}
 use borrow.Author.Needs.{needs}
 use Rattle.face.proofs.fody_midpoint_up.Statement.{statement}
 use Rattle.face.proofs.fody_midpoint_up.Tie as tie
@@ -7,11 +7,11 @@ use Rattle.face.proofs.fody_midpoint_up.Tie as tie
 midpoint-up-requires : tie.Need-midpoint-up-requires
 midpoint-up-requires c κs = search needs
 
-code-requires : tie.Need-code-requires
-code-requires c κs = search needs
+pattern-for-requires : tie.Need-pattern-for-requires
+pattern-for-requires c κs = search needs
 
 returns : tie.Need-returns
-returns c = c .code .ensures ∙ ap coded (c .before .midpoint-up .ensures)
+returns c = c .pattern-for .ensures ∙ ap patternFor (c .before .midpoint-up .ensures)
 
 pub fody-midpoint-up-spec : {M : Type 1} → statement M
-fody-midpoint-up-spec = tie.close (tie.spec midpoint-up-requires code-requires returns)
+fody-midpoint-up-spec = tie.close (tie.spec midpoint-up-requires pattern-for-requires returns)

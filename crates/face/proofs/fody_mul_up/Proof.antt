@@ -1,5 +1,5 @@
 use mathlib.Core.Path.{ap, _∙_}
-use Rattle.face.specs.Code.{coded}
+use Rattle.face.specs.Code.{patternFor}
 use borrow.Author.Needs.{needs}
 use Rattle.face.proofs.fody_mul_up.Statement.{statement}
 use Rattle.face.proofs.fody_mul_up.Tie as tie
@@ -7,11 +7,11 @@ use Rattle.face.proofs.fody_mul_up.Tie as tie
 mul-up-requires : tie.Need-mul-up-requires
 mul-up-requires c κs = search needs
 
-code-requires : tie.Need-code-requires
-code-requires c κs = search needs
+pattern-for-requires : tie.Need-pattern-for-requires
+pattern-for-requires c κs = search needs
 
 returns : tie.Need-returns
-returns c = c .code .ensures ∙ ap coded (c .before .mul-up .ensures)
+returns c = c .pattern-for .ensures ∙ ap patternFor (c .before .mul-up .ensures)
 
 pub fody-mul-up-spec : {M : Type 1} → statement M
-fody-mul-up-spec = tie.close (tie.spec mul-up-requires code-requires returns)
+fody-mul-up-spec = tie.close (tie.spec mul-up-requires pattern-for-requires returns)

@@ -2,10 +2,10 @@
 use mathlib.Core.Path.{sym, subst, _∙_}
 use native.Mathlib.Omega.{arith}
 use lib.Seq.{length-take-le}
-use Rattle.sheets.proofs.Fits.{small}
+use Rattle.refusals.proofs.SizeLaws.{small}
 use Rattle.coupling.proofs.Jobs.{ready}
 use Rattle.print_product.specs.Put.{Put}
-use Rattle.print_product.proofs.Answers.{shape, product-text, refused-small, refused-text, sheets-text-is}
+use Rattle.print_product.proofs.Answers.{few, product-text, refused-text, sheets-text-is}
 use borrow.Author.Needs.{needs}
 use Rattle.print_product.proofs.sheets_text.Statement.{statement}
 use Rattle.print_product.proofs.sheets_text.Tie as tie
@@ -49,20 +49,15 @@ slice-aggregate-product-text-2 c = search needs
 product-text-requires : tie.Need-product-text-requires
 product-text-requires c κs =
     let m = c .before .before .before .before .before .before .before .before .multiply-sheets .ensures in
-    let h = shape _ _ _ (ready _ _ _ m (c .before .before .before .before .rows .given .1)) in
-    let few = small _ _ (h .rows) (h .columns) in
-    (omega arith, h .rows, h .some-column, h .columns, omega (arith, few), omega (arith, few), omega arith)
+    let h = few _ _ _ (ready _ _ _ m (c .before .before .before .before .rows .given .1)) in
+    let n = small _ _ (h .rows) (h .columns) in
+    (omega arith, h .rows, h .some-column, h .columns, omega (arith, n), omega (arith, n), omega arith)
 
 enum-known-r : tie.Need-enum-known-r
 enum-known-r c = search needs
 
-describe-requires : tie.Need-describe-requires
-describe-requires c κs = search needs
-
 refused-line-requires : tie.Need-refused-line-requires
-refused-line-requires c κs =
-    let h = refused-small _ _ _ _ _ (c .before .before .before .before .before .before .before .multiply-sheets .ensures) (c .before .before .before .r .given .1) (c .describe .ensures) in
-    (h .number, h .matrix, h .row, h .column, omega arith)
+refused-line-requires c κs = omega arith
 
 same-length : tie.Need-same-length
 same-length c = search needs
@@ -80,10 +75,10 @@ same-length-2 c = search needs
 
 returns-2 : tie.Need-returns-2
 returns-2 c =
-    let g = c .before .before .before .before .before .before .before .before .before .before .before .before .before .before .before .before .before .before .args in
-    let n = c .before .before .before .before .before .before .before .before .before .before .before .before .before .before .before .length-of-a in
+    let g = c .before .before .before .before .before .before .before .before .before .before .before .before .before .before .before .before .before .args in
+    let n = c .before .before .before .before .before .before .before .before .before .before .before .before .before .before .length-of-a in
     subst (λ t. Put 0 t (g .out .now) (c .before .before .refused-line .result) (c .before .before .refused-line .last .0))
-    (refused-text (g .method) _ _ _ _ (c .before .before .before .before .before .before .before .before .before .before .multiply-sheets .ensures) (c .before .before .before .before .before .before .r .given .1) (c .before .before .before .describe .ensures) ∙ sheets-text-is (g .method) (g .s .now) (n .result) (n .ensures .0))
+    (refused-text (g .method) _ _ _ (c .before .before .before .before .before .before .before .before .before .multiply-sheets .ensures) (c .before .before .before .before .before .r .given .1) ∙ sheets-text-is (g .method) (g .s .now) (n .result) (n .ensures .0))
     (c .before .before .refused-line .ensures)
 
 pub sheets-text-spec : {M : Type 1} → statement M
@@ -104,7 +99,6 @@ sheets-text-spec =
     slice-aggregate-product-text-2
     product-text-requires
     enum-known-r
-    describe-requires
     refused-line-requires
     same-length
     returns

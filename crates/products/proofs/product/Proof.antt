@@ -1,14 +1,15 @@
 -- `products::product` meets its contract: what the checks accept fits what the entries' functions ask for, and each way out is a case of `Left`.
-use mathlib.Core.Path.{_≡_, refl, sym, _∙_}
+use mathlib.Core.Path.{_≡_, refl}
 use native.Mathlib.Omega.{arith}
 use borrow.Author.Needs.{needs}
 use lib.ListN.{length}
-use Rattle.products.specs.declared.Outcome.the-variants.{Done}
+use Rattle.refusals.specs.Answer.{done, outcome}
+use Rattle.refusals.proofs.Answers.{outcome-done}
 use Rattle.products.specs.Entries.{Sizes}
 use Rattle.products.specs.Checks.{Given, given, checkOf}
 use Rattle.products.proofs.Accepted.{inner, sizes, a-convertible, b-convertible, a-converted, b-converted, chosen-by-mid-rad, ready}
 use Rattle.products.proofs.Keeping.{left-keeps}
-use Rattle.products.proofs.Leaving.{left-refused, left-classical, left-converted}
+use Rattle.products.proofs.Leaving.{reached, left-refused, left-classical, left-converted}
 use Rattle.products.proofs.Writing.{small}
 use Rattle.products.proofs.product.Statement.{statement}
 use Rattle.products.proofs.product.Tie as tie
@@ -24,8 +25,8 @@ G s =
     (length (g .ma .now)) (length (g .ra .now)) (length (g .mb .now)) (length (g .rb .now)) (length (g .lo .now)) (length (g .up .now))
 
 -- the checks accepted
-accepted : (c : tie.After-enum-told) → checkOf (G (start (c .before .before))) ≡ Done
-accepted c = sym (c .before .before .check-all .ensures) ∙ c .enum-told .given .1
+accepted : (c : tie.After-enum-told) → checkOf (G (start (c .before .before))) ≡ done
+accepted c = outcome-done _ _ (c .before .before .check-all .ensures) (c .enum-told .given .1)
 
 -- so what the entries' functions ask for holds
 fit : (c : tie.After-enum-told) →
@@ -49,8 +50,9 @@ entries-requires c κs = fit (c .before .before .before)
 
 finish-requires : tie.Need-finish-requires
 finish-requires c κs =
-    let z = c .before .before .before .before .before .before .before .before .before .before in
-    (omega (arith, fit z .lowers), omega (arith, fit z .uppers))
+    let w = c .before .before .before .before .before .before in
+    let z = w .before .before .before .before in
+    (omega (arith, fit z .lowers), omega (arith, fit z .uppers), reached (w .entries .ensures) (fit z .rows) (fit z .positive) (fit z .columns))
 
 mul-convert : tie.Need-mul-convert
 mul-convert c =
@@ -88,9 +90,9 @@ entries-requires-2 c κs =
 
 finish-requires-2 : tie.Need-finish-requires-2
 finish-requires-2 c κs =
-    let w = c .before .before .before .before .before .before .before .before .before .before .before .before .before .before .before .before .before in
-    let z = w .before .before .before .before .before .before .before .before .before .before .before in
-    (omega (arith, fit z .lowers), omega (arith, fit z .uppers))
+    let w = c .before .before .before .before .before .before in
+    let z = w .before .before .before .before .before .before .before .before .before .before .before .before .before .before .before .before .before .before .before .before .before .before in
+    (omega (arith, fit z .lowers), omega (arith, fit z .uppers), reached (w .entries2 .ensures) (fit z .rows) (fit z .positive) (fit z .columns))
 
 enum-known-r : tie.Need-enum-known-r
 enum-known-r c = search needs
@@ -111,7 +113,7 @@ returns c =
     let g = s .args in
     left-keeps
     (left-classical (G s) (accepted z) (g .ma .now) (g .ra .now) (g .mb .now) (g .rb .now) (g .lo .now) (g .up .now)
-    (w .entries .result) _ _ (f .finish .result) _ _ (y .if1 .taken) (w .entries .ensures) (f .finish .ensures))
+    (w .entries .result) _ _ (outcome (f .finish .result)) _ _ (y .if1 .taken) (w .entries .ensures) (f .finish .ensures))
 
 same-length-3 : tie.Need-same-length-3
 same-length-3 c = search needs
@@ -146,7 +148,7 @@ returns-2 c =
     (a-converted (G s) (accepted z) (g .ma .now) (g .ra .now) _ _ refl refl (u .convert .ensures .0) (u .convert .ensures .1))
     (b-converted (G s) (accepted z) (g .mb .now) (g .rb .now) _ _ refl refl (v .convert2 .ensures .0) (v .convert2 .ensures .1))
     (g .ma .now) (g .ra .now) (g .mb .now) (g .rb .now) (g .lo .now) (g .up .now)
-    (w .entries2 .result) _ _ (f .finish2 .result) _ _ (y .if1 .left) (chosen-by-mid-rad (G s) (accepted z) (y .if1 .left))
+    (w .entries2 .result) _ _ (outcome (f .finish2 .result)) _ _ (y .if1 .left) (chosen-by-mid-rad (G s) (accepted z) (y .if1 .left))
     (u .convert .ensures .0) (u .convert .ensures .1) (v .convert2 .ensures .0) (v .convert2 .ensures .1) (w .entries2 .ensures) (f .finish2 .ensures))
 
 returns-3 : tie.Need-returns-3

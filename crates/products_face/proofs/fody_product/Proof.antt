@@ -1,6 +1,6 @@
 -- `products_face::fody_product` meets its contract: it is the product's, and the code of its answer.
 use borrow.Author.Needs.{needs}
-use Rattle.products_face.proofs.Answers.{answer-small, answered}
+use Rattle.products_face.proofs.Codes.{answered}
 use Rattle.products_face.proofs.fody_product.Statement.{statement}
 use Rattle.products_face.proofs.fody_product.Tie as tie
 
@@ -8,7 +8,7 @@ product-requires : tie.Need-product-requires
 product-requires c κs = search needs
 
 code-requires : tie.Need-code-requires
-code-requires c κs = answer-small _ _ (c .before .before .before .before .before .before .before .before .before .before .before .before .product .ensures .0 .outcome)
+code-requires c κs = search needs
 
 same-length : tie.Need-same-length
 same-length c = search needs

@@ -24,19 +24,22 @@ cells-requires c κs = search needs
 cells-requires-2 : tie.Need-cells-requires-2
 cells-requires-2 c κs = search needs
 
-slice-relend-prefix-put : tie.Need-slice-relend-prefix-put
-slice-relend-prefix-put c = search needs
-
-slice-aggregate-put : tie.Need-slice-aggregate-put
-slice-aggregate-put c =
-    let a = c .before .before .before .before .before .before .before .before .before .before .args in
-    sym (length-take-le (a .room) (a .out .now) (omega arith))
-
-put-requires : tie.Need-put-requires
-put-requires c κs = search needs
+check-write-requires : tie.Need-check-write-requires
+check-write-requires c κs = search needs
 
 answer-requires : tie.Need-answer-requires
 answer-requires c κs = search needs
+
+slice-relend-prefix-print-part : tie.Need-slice-relend-prefix-print-part
+slice-relend-prefix-print-part c = search needs
+
+slice-aggregate-print-part : tie.Need-slice-aggregate-print-part
+slice-aggregate-print-part c =
+    let a = c .before .before .before .before .before .before .before .before .before .before .before .before .args in
+    sym (length-take-le (a .room) (a .out .now) (omega arith))
+
+print-part-requires : tie.Need-print-part-requires
+print-part-requires c κs = search needs
 
 bytes-requires : tie.Need-bytes-requires
 bytes-requires c κs = search needs
@@ -63,10 +66,11 @@ print-done-spec =
     number-requires-2
     cells-requires
     cells-requires-2
-    slice-relend-prefix-put
-    slice-aggregate-put
-    put-requires
+    check-write-requires
     answer-requires
+    slice-relend-prefix-print-part
+    slice-aggregate-print-part
+    print-part-requires
     bytes-requires
     slice-aggregate-write-all-2
     write-all-requires-2

@@ -1,7 +1,10 @@
--- `fody_put` meets its contract.
-use mathlib.Core.Path.{refl}
-use Rattle.sheet_face.specs.Codes.{writeCode}
-use Rattle.sheet_face.proofs.Answers.{write-is, out-is}
+-- `sheet_face::fody_put` meets its contract: the writer's, with its answer as one number.
+use mathlib.Core.Path.{sym, ap, _∙_}
+use native.Mathlib.Omega.{arith}
+use Rattle.refusals.specs.Answer.{coded}
+use Rattle.refusals.proofs.Answers.{said}
+use Rattle.sheets.specs.Writing.{written}
+use Rattle.sheet_face.proofs.Answers.{out-is, length-small}
 use borrow.Author.Needs.{needs}
 use Rattle.sheet_face.proofs.fody_put.Statement.{statement}
 use Rattle.sheet_face.proofs.fody_put.Tie as tie
@@ -13,7 +16,7 @@ enum-known-n : tie.Need-enum-known-n
 enum-known-n c = search needs
 
 cast-result : tie.Need-cast-result
-cast-result c = search needs
+cast-result c = record { fits = omega (arith, length-small _ _ _ _ _ _ (sym (said written (c .before .before .before .before .before .put .ensures .0) (c .before .n .given .1)))) }
 
 enum-known-r : tie.Need-enum-known-r
 enum-known-r c = search needs
@@ -25,19 +28,17 @@ same-length : tie.Need-same-length
 same-length c = search needs
 
 returns : tie.Need-returns
-unfolding writeCode
 returns c =
     let r = c .before .before .before .before .before .put .ensures in
-    (write-is _ _ _ _ (r .0) (c .before .n .given .1) refl, out-is _ _ _ _ _ _ _ _ (r .0) (r .1 .0))
+    (ap (coded (λ n. n)) (said written (r .0) (c .before .n .given .1)), out-is _ _ _ _ _ _ _ _ (r .0) (r .1 .0))
 
 same-length-2 : tie.Need-same-length-2
 same-length-2 c = search needs
 
 returns-2 : tie.Need-returns-2
-unfolding writeCode
 returns-2 c =
     let r = c .before .before .before .before .before .before .put .ensures in
-    (write-is _ _ _ _ (r .0) (c .before .before .r .given .1) (c .code .ensures), out-is _ _ _ _ _ _ _ _ (r .0) (r .1 .0))
+    (c .code .ensures ∙ ap (coded (λ n. n)) (said written (r .0) (c .before .before .r .given .1)), out-is _ _ _ _ _ _ _ _ (r .0) (r .1 .0))
 
 pub fody-put-spec : {M : Type 1} → statement M
 fody-put-spec =

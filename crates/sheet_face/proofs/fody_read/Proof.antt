@@ -1,7 +1,11 @@
--- `fody_read` meets its contract.
-use Rattle.sheets.specs.Reading.{lowerOf, upperOf}
-use Rattle.sheet_face.specs.Codes.{readCode}
-use Rattle.sheet_face.proofs.Answers.{read-is, slice-is}
+-- `sheet_face::fody_read` meets its contract: the reader's, with its answer as one number.
+use mathlib.Core.Path.{sym, ap, _∙_}
+use native.Mathlib.Omega.{arith}
+use Rattle.refusals.specs.Answer.{coded}
+use Rattle.refusals.proofs.Answers.{said}
+use Rattle.sheets.specs.Reading.{lowerOf, upperOf, shape}
+use Rattle.sheet_face.specs.Codes.{sizesCode}
+use Rattle.sheet_face.proofs.Answers.{slice-is, sizes-small}
 use borrow.Author.Needs.{needs}
 use Rattle.sheet_face.proofs.fody_read.Statement.{statement}
 use Rattle.sheet_face.proofs.fody_read.Tie as tie
@@ -12,8 +16,20 @@ read-requires c κs = search needs
 enum-known-rows : tie.Need-enum-known-rows
 enum-known-rows c = search needs
 
-pair-requires : tie.Need-pair-requires
-pair-requires c κs = search needs
+mul-result : tie.Need-mul-result
+mul-result c =
+    let f = sizes-small _ _ _ _ _ (sym (said shape (c .before .before .before .before .before .before .before .read .ensures .0) (c .before .rows .given .1))) in
+    omega (arith, f .rows, f .columns)
+
+add-result : tie.Need-add-result
+add-result c =
+    let f = sizes-small _ _ _ _ _ (sym (said shape (c .before .before .before .before .before .before .before .read .ensures .0) (c .before .rows .given .1))) in
+    omega (arith, f .rows, f .columns)
+
+cast-result : tie.Need-cast-result
+cast-result c =
+    let f = sizes-small _ _ _ _ _ (sym (said shape (c .before .before .before .before .before .before .before .read .ensures .0) (c .before .rows .given .1))) in
+    omega (arith, f .rows, f .columns)
 
 enum-known-r : tie.Need-enum-known-r
 enum-known-r c = search needs
@@ -28,10 +44,9 @@ same-length-2 : tie.Need-same-length-2
 same-length-2 c = search needs
 
 returns : tie.Need-returns
-unfolding readCode
 returns c =
-    let r = c .before .before .before .before .before .before .before .before .read .ensures in
-    (read-is _ _ _ _ (r .0) (c .before .before .rows .given .1) (c .pair .ensures), (slice-is lowerOf _ _ _ _ _ (r .0) (r .1 .0), slice-is upperOf _ _ _ _ _ (r .0) (r .1 .1)))
+    let r = c .before .before .before .before .before .before .before .read .ensures in
+    (ap (coded sizesCode) (said shape (r .0) (c .before .rows .given .1)), (slice-is lowerOf _ _ _ _ _ (r .0) (r .1 .0), slice-is upperOf _ _ _ _ _ (r .0) (r .1 .1)))
 
 same-length-3 : tie.Need-same-length-3
 same-length-3 c = search needs
@@ -40,10 +55,9 @@ same-length-4 : tie.Need-same-length-4
 same-length-4 c = search needs
 
 returns-2 : tie.Need-returns-2
-unfolding readCode
 returns-2 c =
     let r = c .before .before .before .before .before .before .before .before .read .ensures in
-    (read-is _ _ _ _ (r .0) (c .before .before .r .given .1) (c .code .ensures), (slice-is lowerOf _ _ _ _ _ (r .0) (r .1 .0), slice-is upperOf _ _ _ _ _ (r .0) (r .1 .1)))
+    (c .code .ensures ∙ ap (coded sizesCode) (said shape (r .0) (c .before .before .r .given .1)), (slice-is lowerOf _ _ _ _ _ (r .0) (r .1 .0), slice-is upperOf _ _ _ _ _ (r .0) (r .1 .1)))
 
 pub fody-read-spec : {M : Type 1} → statement M
 fody-read-spec =
@@ -51,7 +65,9 @@ fody-read-spec =
     (tie.spec
     read-requires
     enum-known-rows
-    pair-requires
+    mul-result
+    add-result
+    cast-result
     enum-known-r
     code-requires
     same-length

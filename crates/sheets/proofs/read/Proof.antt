@@ -1,12 +1,15 @@
 -- `read` meets its contract.
-use mathlib.Core.Path.{sym, _∙_}
+use mathlib.Core.Path.{refl, sym, ap, _∙_}
+use Prim.Native.Nat.{_*_, _≤_}
 use native.Mathlib.Omega.{arith}
 use lib.ListN.{length}
 use borrow.Author.Needs.{needs}
-use Rattle.sheets.specs.Reading.{lowerOf, upperOf}
-use Rattle.sheets.proofs.Fits.{small, Sized}
+use Rattle.refusals.proofs.Answers.{said}
+use Rattle.refusals.proofs.SizeLaws.{small}
+use Rattle.sheets.specs.Chain.{Walk}
+use Rattle.sheets.specs.Reading.{shape, lowerOf, upperOf, sliceAfter}
 use Rattle.sheets.proofs.Frames.{framed-tells}
-use Rattle.sheets.proofs.Answers.{Accepted, accepted-passes, done-tells, slice-done, slice-refused}
+use Rattle.sheets.proofs.Answers.{Accepted, accepted-walk, done-tells, slice-done}
 use Rattle.sheets.proofs.read.Statement.{statement}
 use Rattle.sheets.proofs.read.Tie as tie
 
@@ -14,7 +17,7 @@ use Rattle.sheets.proofs.read.Tie as tie
 accepted : (c : tie.After-known-told) →
     let a = c .before .before .before .before .before .before .before .args in
     Accepted (a .s .now) (length (a .lowers .now)) (length (a .uppers .now)) (c .before .rows .given .0 .0) (c .before .rows .given .0 .1 .0)
-accepted c = done-tells _ _ _ _ _ (sym (c .before .before .before .check-read .ensures) ∙ c .before .rows .given .1)
+accepted c = done-tells _ _ _ _ _ (sym (said shape (c .before .before .before .check-read .ensures) (c .before .rows .given .1)))
 
 check-read-requires : tie.Need-check-read-requires
 check-read-requires c κs = search needs
@@ -22,16 +25,21 @@ check-read-requires c κs = search needs
 enum-known-rows : tie.Need-enum-known-rows
 enum-known-rows c = search needs
 
-mul-cells : tie.Need-mul-cells
-mul-cells c =
-    let z = accepted c .sized in
-    omega (arith, small (c .before .rows .given .0 .0) (c .before .rows .given .0 .1 .0) (z .rows) (z .columns))
+-- its cells
+few : (c : tie.After-known-told) → c .before .rows .given .0 .0 * c .before .rows .given .0 .1 .0 ≤ 1024
+few c = let z = accepted c .sized in small (c .before .rows .given .0 .0) (c .before .rows .given .0 .1 .0) (z .rows) (z .columns)
+
+mul-clear : tie.Need-mul-clear
+mul-clear c = omega (arith, few c)
 
 clear-requires : tie.Need-clear-requires
-clear-requires c κs = accepted (c .before) .sized .lowers
+clear-requires c κs = search needs
+
+mul-clear-2 : tie.Need-mul-clear-2
+mul-clear-2 c = omega (arith, few (c .before .before .before .before))
 
 clear-requires-2 : tie.Need-clear-requires-2
-clear-requires-2 c κs = accepted (c .before .before .before .before .before) .sized .uppers
+clear-requires-2 c κs = search needs
 
 u16-at-requires : tie.Need-u16-at-requires
 u16-at-requires c κs = let g = framed-tells _ (accepted (c .before .before .before .before .before .before .before .before) .frame) in omega arith
@@ -40,7 +48,7 @@ fill-requires : tie.Need-fill-requires
 fill-requires c κs =
     let a = accepted (c .before .before .before .before .before .before .before .before .before .before .before) in
     let z = a .sized in
-    (z .rows, z .columns, framed-tells _ (a .frame) .1, omega arith, omega arith, accepted-passes _ _ _ _ _ _ a (c .before .before .u16-at .ensures .0))
+    (z .rows, z .columns, framed-tells _ (a .frame) .1, omega arith, omega arith, ap (λ (w : Walk). w .verdict) (accepted-walk _ _ _ _ _ _ a (c .before .before .u16-at .ensures .0)) ∙ a .passed)
 
 enum-known-r : tie.Need-enum-known-r
 enum-known-r c = search needs
@@ -58,17 +66,17 @@ returns c =
     let u = i .before .before .before in
     let l = u .before .before .before .before in
     let r = l .before .before .before in
-    let k = r .before .before in (
-      sym (r .rows .given .1) ∙ k .check-read .ensures,
+    let a = accepted (l .before .before) in (
+      said shape (r .before .before .check-read .ensures) (r .rows .given .1),
       (
-        slice-done lowerOf _ _ _ _ _ _ _ _ _ _ (k .check-read .ensures) (r .rows .given .1) (i .u16-at .ensures .0) (l .clear .ensures) (f .fill .ensures .0),
-        slice-done upperOf _ _ _ _ _ _ _ _ _ _ (k .check-read .ensures) (r .rows .given .1) (i .u16-at .ensures .0) (u .clear2 .ensures) (f .fill .ensures .1),
+        slice-done lowerOf _ _ _ _ _ _ _ _ _ a (i .u16-at .ensures .0) (a .sized .lowers) (l .clear .ensures) (f .fill .ensures .0),
+        slice-done upperOf _ _ _ _ _ _ _ _ _ a (i .u16-at .ensures .0) (a .sized .uppers) (u .clear2 .ensures) (f .fill .ensures .1),
       ),
     )
 
 returns-2 : tie.Need-returns-2
-returns-2 c =
-    (sym (c .before .r .given .1) ∙ c .before .before .before .check-read .ensures, (slice-refused lowerOf _ _ _, slice-refused upperOf _ _ _))
+unfolding sliceAfter
+returns-2 c = (said shape (c .before .before .before .check-read .ensures) (c .before .r .given .1), (refl, refl))
 
 pub read-spec : {M : Type 1} → statement M
 read-spec =
@@ -76,8 +84,9 @@ read-spec =
     (tie.spec
     check-read-requires
     enum-known-rows
-    mul-cells
+    mul-clear
     clear-requires
+    mul-clear-2
     clear-requires-2
     u16-at-requires
     fill-requires

@@ -1,4 +1,5 @@
--- `write` meets its contract.
+-- `write` meets its contract: what it hands back is the front of what `put` left, where the lent slice starts.
+use mathlib.Core.Path.{refl}
 use borrow.Author.Needs.{needs}
 use Rattle.sheets.proofs.Outs.{part-size, part-done, part-refused}
 use Rattle.sheets.proofs.write.Statement.{statement}
@@ -14,7 +15,7 @@ slice-aggregate-result : tie.Need-slice-aggregate-result
 slice-aggregate-result c =
     let m = c .before .before in
     let p = m .before .before .before .before in
-    part-size _ _ (m .n .given .0 .0) _ _ (p .before .before .before .before .before .args .out .now) _ _ (p .put .ensures .0) (m .n .given .1) (p .put .ensures .1 .0)
+    part-size _ _ _ _ (p .before .before .before .before .before .args .out .now) _ (p .put .ensures .0) _ (m .n .given .1) _ (p .put .ensures .1 .0)
 
 enum-told : tie.Need-enum-told
 enum-told c = search needs
@@ -26,12 +27,12 @@ returns : tie.Need-returns
 returns c =
     let m = c .before .before in
     let p = m .before .before .before .before in
-    part-done _ _ (m .n .given .0 .0) _ _ _ _ _ (p .put .ensures .0) (m .n .given .1) (p .put .ensures .1 .0)
+    (refl, part-done _ _ _ _ _ _ (p .put .ensures .0) _ (m .n .given .1) _ (p .put .ensures .1 .0))
 
 returns-2 : tie.Need-returns-2
 returns-2 c =
     let p = c .before .before .before .before .before in
-    part-refused _ _ _ _ (p .before .before .before .before .before .args .out .now) _ _ (p .put .ensures .0) (c .before .enum-told .given .1)
+    (refl, part-refused _ _ _ _ (p .before .before .before .before .before .args .out .now) _ (p .put .ensures .0) _ (c .before .enum-told .given .1))
 
 pub write-spec : {M : Type 1} → statement M
 write-spec =

@@ -8,7 +8,7 @@ use mir.Syntax.{w64}
 use mir.Val.{ofZ, toZ}
 use Rattle.binary32.specs.Steps.{sgn}
 use Rattle.binary32.proofs.Ints.{read, read-small}
-use Rattle.binary32.proofs.Sums.{placed-read, sgn-read, sgn-short, same-close, same-apart}
+use Rattle.binary32.proofs.Sums.{shifted-sum-read, sgn-read, sgn-short, same-close, same-apart}
 use borrow.Author.Needs.{needs}
 use Rattle.binary32.proofs.exact.joined.Statement.{statement}
 use Rattle.binary32.proofs.exact.joined.Tie as tie
@@ -29,8 +29,8 @@ few c = rw (read (c .sign .result) (c .sign .ok)) (short c)
 sub-d : tie.Need-sub-d
 sub-d c = search needs
 
-placed-requires : tie.Need-placed-requires
-placed-requires c κs = search needs
+shifted-sum-requires : tie.Need-shifted-sum-requires
+shifted-sum-requires c κs = search needs
 
 add-t7 : tie.Need-add-t7
 add-t7 c = search needs
@@ -43,14 +43,14 @@ returns c =
     let x = s .args .x in
     let y = s .args .y in
     same-close (s .pre) _ (m .before .before .before .if1 .taken)
-    (read (m .placed .result) (m .placed .ok)
-    ∙ placed-read (x .sig) (y .sig) (m .placed .result) (x .exp - y .exp) (s .pre .first .few) (s .pre .second .few) (m .placed .ensures))
+    (read (m .shifted-sum .result) (m .shifted-sum .ok)
+    ∙ shifted-sum-read (x .sig) (y .sig) (m .shifted-sum .result) (x .exp - y .exp) (s .pre .first .few) (s .pre .second .few) (m .shifted-sum .ensures))
 
 sign-requires : tie.Need-sign-requires
 sign-requires c κs = search needs
 
-placed-requires-2 : tie.Need-placed-requires-2
-placed-requires-2 c κs =
+shifted-sum-requires-2 : tie.Need-shifted-sum-requires-2
+shifted-sum-requires-2 c κs =
     let s = c .before .before .before .before .before .before in
     (rw (read-small (s .args .x .sig) (omega (arith, s .pre .first .few))) (s .pre .first .few), few (c .before), omega arith)
 
@@ -67,8 +67,8 @@ returns-2 c =
     let g = m .before .before in
     let x = S g .args .x in
     same-apart (S g .pre) _ (g .before .before .if1 .left)
-    (read (m .placed2 .result) (m .placed2 .ok)
-    ∙ placed-read (x .sig) (g .sign .result) (m .placed2 .result) 36 (S g .pre .first .few) (short g) (m .placed2 .ensures)
+    (read (m .shifted-sum2 .result) (m .shifted-sum2 .ok)
+    ∙ shifted-sum-read (x .sig) (g .sign .result) (m .shifted-sum2 .result) 36 (S g .pre .first .few) (short g) (m .shifted-sum2 .ensures)
     ∙ ap (λ (t : ℤ). x .sig *ℤ pos (2 ^ 36) +ℤ t) (signed g))
 
 pub joined-spec : {M : Type 1} → statement M
@@ -76,11 +76,11 @@ joined-spec =
     tie.close
     (tie.spec
     sub-d
-    placed-requires
+    shifted-sum-requires
     add-t7
     returns
     sign-requires
-    placed-requires-2
+    shifted-sum-requires-2
     sub-t10
     add-t11
     returns-2)

@@ -13,12 +13,12 @@ use borrow.Author.Needs.{needs}
 use Rattle.binary32.proofs.exact.total.Statement.{statement}
 use Rattle.binary32.proofs.exact.total.Tie as tie
 
-both-finite-requires : tie.Need-both-finite-requires
-both-finite-requires c κs = search needs
+are-finite-requires : tie.Need-are-finite-requires
+are-finite-requires c κs = search needs
 
 -- both patterns are finite
 told : (c : tie.Then1) → finites (c .before .before .args .a) (c .before .before .args .b) ≡ true
-told c = sym (c .before .both-finite .ensures) ∙ c .if1 .taken
+told c = sym (c .before .are-finite .ensures) ∙ c .if1 .taken
 
 decode-requires : tie.Need-decode-requires
 decode-requires c κs =
@@ -47,13 +47,13 @@ returns-2 : tie.Need-returns-2
 unfolding with₂
 returns-2 c =
     let s = c .before .before .args in
-    rounds-none (lifted (s .lift)) (held (s .a)) (held (s .b)) (held-either (s .a) (s .b) (sym (c .before .both-finite .ensures) ∙ c .if1 .left))
+    rounds-none (lifted (s .lift)) (held (s .a)) (held (s .b)) (held-either (s .a) (s .b) (sym (c .before .are-finite .ensures) ∙ c .if1 .left))
 
 pub total-spec : {M : Type 1} → statement M
 total-spec =
     tie.close
     (tie.spec
-    both-finite-requires
+    are-finite-requires
     decode-requires
     decode-requires-2
     plus-requires

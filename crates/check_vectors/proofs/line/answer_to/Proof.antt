@@ -1,6 +1,6 @@
 use mathlib.Core.Path.{subst}
 use Rattle.check_vectors.specs.Line.{Framed, Spelt}
-use Rattle.check_vectors.proofs.Lines.{whence, answers}
+use Rattle.check_vectors.proofs.Lines.{whence, replies}
 use borrow.Author.Tests.{not-false}
 use native.Mathlib.Omega.{arith}
 use borrow.Author.Needs.{needs}
@@ -76,7 +76,7 @@ returns-4 c =
     let past = j .before .before .before .before in
     let a = subst (Spelt _) (j .a .given .1) (j .before .before .pattern .ensures) in
     let b = subst (Spelt _) (k .b .given .1) (k .before .before .pattern2 .ensures) in
-    answers (past .before .before .before .args .line .now) (j .a .given .0 .0) (k .b .given .0 .0) (framed past) a b (c .operate .result) (c .operate .ensures)
+    replies (past .before .before .before .args .line .now) (j .a .given .0 .0) (k .b .given .0 .0) (framed past) a b (c .operate .result) (c .operate .ensures)
 
 pub answer-to-spec : {M : Type 1} → statement M
 answer-to-spec =

@@ -1,13 +1,14 @@
 use mathlib.Core.Path.{subst, _∙_}
-use Rattle.check_vectors.specs.Line.{Asks, Answers, Right}
+use Rattle.binary32.specs.Operations.{rounded}
+use Rattle.check_vectors.specs.Line.{Asks, Replies, Right}
 use Rattle.check_vectors.proofs.Lines.{when}
 use native.Mathlib.Omega.{arith}
 use borrow.Author.Needs.{needs}
 use Rattle.check_vectors.proofs.line.holds.Statement.{statement}
 use Rattle.check_vectors.proofs.line.holds.Tie as tie
 
-asks : (c : tie.After-text-of) → Asks (c .before .before .before .before .before .before .args .line .now) (c .before .before .r .given .0 .0)
-asks c = subst (Answers (c .before .before .before .before .before .before .args .line .now)) (c .before .before .r .given .1) (c .before .before .before .before .answer-to .ensures)
+asks : (c : tie.After-text-of) → Asks (c .before .before .before .before .before .before .args .line .now) (rounded (c .before .before .r .given .0 .0))
+asks c = subst (Replies (c .before .before .before .before .before .before .args .line .now)) (c .before .before .r .given .1) (c .before .before .before .before .answer-to .ensures)
 
 answer-to-requires : tie.Need-answer-to-requires
 answer-to-requires c κs = search needs
@@ -41,7 +42,7 @@ returns c =
     let k = c .before .before .before in
     let line = k .before .before .before .before .before .before .args .line .now in
     when {P = Right line} (c .same .result) λ e.
-    record { r = k .before .before .r .given .0 .0; asks = asks k; says = c .same .ensures .0 e ∙ k .text-of .ensures }
+    record { r = rounded (k .before .before .r .given .0 .0); asks = asks k; says = c .same .ensures .0 e ∙ k .text-of .ensures }
 
 returns-2 : tie.Need-returns-2
 returns-2 c = search needs

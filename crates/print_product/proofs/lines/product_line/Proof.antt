@@ -1,7 +1,7 @@
 -- `lines::product_line` meets its contract.
 use native.Mathlib.Omega.{arith}
 use Rattle.print_product.specs.Lines.{productLine}
-use Rattle.print_product.proofs.DigitLaws.{places-below}
+use Rattle.print_product.proofs.DigitLaws.{digit-count-below}
 use Rattle.print_product.proofs.LineLaws.{decimal-below, put-four}
 use borrow.Author.Needs.{needs}
 use Rattle.print_product.proofs.lines.product_line.Statement.{statement}
@@ -14,13 +14,13 @@ bytes-requires : tie.Need-bytes-requires
 bytes-requires c κs = search needs
 
 decimal-requires : tie.Need-decimal-requires
-decimal-requires c κs = let a = c .before .before .before .before .before .before .before .args in (omega arith, omega (arith, places-below 0 (a .method) (a .method) (omega arith)))
+decimal-requires c κs = let a = c .before .before .before .before .before .before .before .args in (omega arith, omega (arith, digit-count-below 0 (a .method) (a .method) (omega arith)))
 
 decimal-requires-2 : tie.Need-decimal-requires-2
-decimal-requires-2 c κs = let a = c .before .before .before .before .before .before .before .before .before .before .before .args in (omega arith, omega (arith, decimal-below 0 (a .method) 32 (omega arith), places-below 1 (a .rows) (a .rows) (omega arith)))
+decimal-requires-2 c κs = let a = c .before .before .before .before .before .before .before .before .before .before .before .args in (omega arith, omega (arith, decimal-below 0 (a .method) 32 (omega arith), digit-count-below 1 (a .rows) (a .rows) (omega arith)))
 
 decimal-requires-3 : tie.Need-decimal-requires-3
-decimal-requires-3 c κs = let a = c .before .before .before .before .before .before .before .before .before .before .before .before .before .before .before .args in (omega arith, omega (arith, decimal-below 0 (a .method) 32 (omega arith), decimal-below 1 (a .rows) 32 (omega arith), places-below 1 (a .columns) (a .columns) (omega arith)))
+decimal-requires-3 c κs = let a = c .before .before .before .before .before .before .before .before .before .before .before .before .before .before .before .args in (omega arith, omega (arith, decimal-below 0 (a .method) 32 (omega arith), decimal-below 1 (a .rows) 32 (omega arith), digit-count-below 1 (a .columns) (a .columns) (omega arith)))
 
 same-length : tie.Need-same-length
 same-length c = search needs

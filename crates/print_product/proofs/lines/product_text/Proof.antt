@@ -2,7 +2,7 @@
 use Prim.Native.Nat.{_*_, _≤_}
 use native.Mathlib.Nat.{mul-le-mul-right}
 use native.Mathlib.Omega.{arith}
-use Rattle.sheets.proofs.Fits.{small}
+use Rattle.refusals.proofs.SizeLaws.{small}
 use Rattle.print_product.proofs.LineLaws.{product-length}
 use Rattle.print_product.proofs.Puts.{put-more}
 use borrow.Author.Needs.{needs}

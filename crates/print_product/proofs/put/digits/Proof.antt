@@ -1,4 +1,4 @@
--- `put::digits` meets its contract: the digits from i on stand in their places, and `rest` is the number without them.
+-- `put::digits` meets its contract: the digits from i on stand in their digitCount, and `rest` is the number without them.
 use mathlib.Core.Path.{_≡_, refl, sym, ap, _∙_}
 use mathlib.Core.List.{_++_}
 use Prim.Native.Nat.{suc, _+_, _-_, _/_, _≤_, _<_}

@@ -3,7 +3,6 @@ use mathlib.Core.Path.{_≡_}
 use Prim.Native.Nat.{_≤_, _-_}
 use native.Mathlib.Omega.{arith}
 use borrow.Author.Needs.{needs}
-use Rattle.intervals.specs.declared.Fault.the-variants.{Fine}
 use Rattle.products.specs.Matrix.{Matrix, midAt, radAt, faultAt}
 use Rattle.products.proofs.Fronts.{Filled, filled-none, filled-more, filled-is}
 use Rattle.products.proofs.Converts.{fine-mid, fine-rad, fine-refused}
@@ -24,7 +23,7 @@ X p =
     let g = p .before .before .before .before .before .args in
     record { lowers = g .lowers .now; uppers = g .uppers .now }
 
-fine : (c : tie.In-loop Inv-loop μ-loop) → faultAt (X (c .before)) (c .before .loop .c) ≡ Fine
+fine : (c : tie.In-loop Inv-loop μ-loop) → faultAt (X (c .before)) (c .before .loop .c) ≡ 0
 fine c = c .before .before .before .before .before .before .pre .4 (c .before .loop .c) (c .loop-test .taken)
 
 loop-holds : tie.Need-loop-holds Inv-loop μ-loop

@@ -1,4 +1,6 @@
 -- `products::check_order::check_both` meets its contract: the answers are put together as in the definition.
+use Rattle.refusals.specs.Answer.{outcome}
+use Rattle.refusals.proofs.Answers.{outcome-done, outcome-refused}
 use Rattle.products.proofs.CheckLaws.{both-1, both-2}
 use borrow.Author.Needs.{needs}
 use Rattle.products.proofs.check_order.check_both.Statement.{statement}
@@ -22,7 +24,7 @@ returns c =
     let g = c .before .before .before .before .before .before .before .before .args in
     both-2 (g .a-rows) (g .a-columns) (g .b-rows) (g .b-columns) (record { lowers = g .al .now; uppers = g .au .now })
     (record { lowers = g .bl .now; uppers = g .bu .now })
-    (z .result) (c .check-cells2 .result) (z .ensures) (c .before .enum-told .given .1) (c .check-cells2 .ensures)
+    (outcome (c .check-cells2 .result)) (outcome-done (z .result) _ (z .ensures) (c .before .enum-told .given .1)) (c .check-cells2 .ensures)
 
 returns-2 : tie.Need-returns-2
 returns-2 c =
@@ -30,7 +32,7 @@ returns-2 c =
     let g = c .before .before .before .before .before .before .before .before .args in
     both-1 (g .a-rows) (g .a-columns) (g .b-rows) (g .b-columns) (record { lowers = g .al .now; uppers = g .au .now })
     (record { lowers = g .bl .now; uppers = g .bu .now })
-    (z .result) (c .before .r .given .0 .0) (z .ensures) (c .before .r .given .1)
+    (c .before .r .given .0 .0) (outcome-refused (z .result) _ (c .before .r .given .0 .0) (z .ensures) (c .before .r .given .1))
 
 pub check-both-spec : {M : Type 1} → statement M
 check-both-spec =

@@ -1,6 +1,7 @@
 -- `products::check_order::check_lent` meets its contract: the answers are put together as in the definition.
 use mathlib.Core.Path.{ap₂, _∙_}
-use Rattle.products.specs.Checks.{then, checkLent}
+use Rattle.refusals.specs.Answer.{then}
+use Rattle.products.specs.Checks.{checkLent}
 use borrow.Author.Needs.{needs}
 use Rattle.products.proofs.check_order.check_lent.Statement.{statement}
 use Rattle.products.proofs.check_order.check_lent.Tie as tie
@@ -11,21 +12,21 @@ check-lengths-requires c κs = search needs
 check-lengths-requires-2 : tie.Need-check-lengths-requires-2
 check-lengths-requires-2 c κs = search needs
 
-first-of-requires : tie.Need-first-of-requires
-first-of-requires c κs = search needs
+then-requires : tie.Need-then-requires
+then-requires c κs = search needs
 
 check-lengths-requires-3 : tie.Need-check-lengths-requires-3
 check-lengths-requires-3 c κs = search needs
 
-first-of-requires-2 : tie.Need-first-of-requires-2
-first-of-requires-2 c κs = search needs
+then-requires-2 : tie.Need-then-requires-2
+then-requires-2 c κs = search needs
 
 returns : tie.Need-returns
 unfolding checkLent
 returns c =
     let s = c .before .before in
-    c .first-of2 .ensures ∙ ap₂ then (c .before .check-lengths3 .ensures)
-    (s .first-of .ensures ∙ ap₂ then (s .before .check-lengths2 .ensures) (s .before .before .check-lengths .ensures))
+    c .then2 .ensures ∙ ap₂ then (c .before .check-lengths3 .ensures)
+    (s .then .ensures ∙ ap₂ then (s .before .check-lengths2 .ensures) (s .before .before .check-lengths .ensures))
 
 pub check-lent-spec : {M : Type 1} → statement M
 check-lent-spec =
@@ -33,7 +34,7 @@ check-lent-spec =
     (tie.spec
     check-lengths-requires
     check-lengths-requires-2
-    first-of-requires
+    then-requires
     check-lengths-requires-3
-    first-of-requires-2
+    then-requires-2
     returns)

@@ -1,6 +1,7 @@
 -- `products::check_order::check_operands` meets its contract: the answers are put together as in the definition.
 use mathlib.Core.Path.{ap₂, _∙_}
-use Rattle.products.specs.Checks.{then, checkOperands}
+use Rattle.refusals.specs.Answer.{then}
+use Rattle.products.specs.Checks.{checkOperands}
 use borrow.Author.Needs.{needs}
 use Rattle.products.proofs.check_order.check_operands.Statement.{statement}
 use Rattle.products.proofs.check_order.check_operands.Tie as tie
@@ -11,13 +12,13 @@ check-lengths-requires c κs = search needs
 check-lengths-requires-2 : tie.Need-check-lengths-requires-2
 check-lengths-requires-2 c κs = search needs
 
-first-of-requires : tie.Need-first-of-requires
-first-of-requires c κs = search needs
+then-requires : tie.Need-then-requires
+then-requires c κs = search needs
 
 returns : tie.Need-returns
 unfolding checkOperands
-returns c = c .first-of .ensures ∙ ap₂ then (c .before .check-lengths2 .ensures) (c .before .before .check-lengths .ensures)
+returns c = c .then .ensures ∙ ap₂ then (c .before .check-lengths2 .ensures) (c .before .before .check-lengths .ensures)
 
 pub check-operands-spec : {M : Type 1} → statement M
 check-operands-spec =
-    tie.close (tie.spec check-lengths-requires check-lengths-requires-2 first-of-requires returns)
+    tie.close (tie.spec check-lengths-requires check-lengths-requires-2 then-requires returns)

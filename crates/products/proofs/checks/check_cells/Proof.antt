@@ -1,9 +1,12 @@
 -- `products::checks::check_cells` meets its contract: no cell passed has a fault, and the first that has one is named.
-use mathlib.Core.Path.{_≡_, refl, sym, _∙_}
-use Prim.Native.Nat.{_≤_, _-_, _*_}
+use mathlib.Core.Path.{_≡_, refl, sym, ap, _∙_}
+use Prim.Native.Nat.{ℕ, _≤_, _<_, _-_, _*_, _/_, _%_}
+use native.Mathlib.Nat.{mod-lt, div-lt-iff-lt-mul}
 use native.Mathlib.Omega.{arith}
 use borrow.Author.Needs.{needs}
-use Rattle.intervals.specs.declared.Fault.the-variants.{Infinite, Above}
+use Rattle.refusals.specs.Refusal.{ofCell}
+use Rattle.refusals.specs.Answer.{refuses}
+use Rattle.products.specs.Matrix.{Matrix}
 use Rattle.products.proofs.Writing.{small}
 use Rattle.products.proofs.CheckLaws.{Passed, passed-none, passed-more, cells-here, cells-done}
 use Rattle.products.proofs.checks.check_cells.Statement.{statement}
@@ -38,40 +41,37 @@ shared-slice-read-check-2 c = omega arith
 check-requires : tie.Need-check-requires Inv-loop μ-loop
 check-requires c κs = search needs
 
-enum-told : tie.Need-enum-told Inv-loop μ-loop
-enum-told c = search needs
+div-row : tie.Need-div-row Inv-loop μ-loop
+div-row c = omega arith
 
-enum-told-2 : tie.Need-enum-told-2 Inv-loop μ-loop
-enum-told-2 c = search needs
+cast-row : tie.Need-cast-row Inv-loop μ-loop
+cast-row c =
+    let p = c .before .before .before .before .before in
+    let g = p .before .before .before .args in
+    let l : p .loop .c / g .columns < g .rows = div-lt-iff-lt-mul (p .before .before .before .pre .0) .1 (omega arith) in
+    omega arith
 
-div-t16 : tie.Need-div-t16 Inv-loop μ-loop
-div-t16 c = omega arith
+rem-column : tie.Need-rem-column Inv-loop μ-loop
+rem-column c = omega arith
 
-rem-t17 : tie.Need-rem-t17 Inv-loop μ-loop
-rem-t17 c = omega arith
+cast-column : tie.Need-cast-column Inv-loop μ-loop
+cast-column c =
+    let p = c .before .before .before .before .before in
+    let g = p .before .before .before .args in
+    let l : p .loop .c % g .columns < g .columns = mod-lt (p .loop .c) (p .before .before .before .pre .0) in
+    omega arith
+
+of-cell-requires : tie.Need-of-cell-requires Inv-loop μ-loop
+of-cell-requires c κs = search needs
 
 returns : tie.Need-returns Inv-loop μ-loop
 returns c =
-    let p = c .before .before .before .before .before .before in
+    let k = c .before .before in
+    let p = k .before .before .before .before in
     let g = p .before .before .before .args in
-    cells-here (g .matrix) (g .rows) (g .columns) (record { lowers = g .lowers .now; uppers = g .uppers .now }) (p .loop .c) Infinite (p .loop .inv .2) (omega arith)
-    (sym (c .before .before .check .ensures) ∙ c .enum-told2 .given .1) refl
-
-enum-told-3 : tie.Need-enum-told-3 Inv-loop μ-loop
-enum-told-3 c = search needs
-
-div-t19 : tie.Need-div-t19 Inv-loop μ-loop
-div-t19 c = omega arith
-
-rem-t20 : tie.Need-rem-t20 Inv-loop μ-loop
-rem-t20 c = omega arith
-
-returns-2 : tie.Need-returns-2 Inv-loop μ-loop
-returns-2 c =
-    let p = c .before .before .before .before .before .before in
-    let g = p .before .before .before .args in
-    cells-here (g .matrix) (g .rows) (g .columns) (record { lowers = g .lowers .now; uppers = g .uppers .now }) (p .loop .c) Above (p .loop .inv .2) (omega arith)
-    (sym (c .before .before .check .ensures) ∙ c .enum-told3 .given .1) refl
+    let X : Matrix = record { lowers = g .lowers .now; uppers = g .uppers .now } in
+    ap refuses (c .of-cell .ensures ∙ ap (λ (n : ℕ). ofCell n (g .matrix) (p .loop .c / g .columns) (p .loop .c % g .columns)) (k .check .ensures))
+    ∙ cells-here (g .matrix) (g .rows) (g .columns) X (p .loop .c) (p .loop .inv .2) (omega arith) (λ e. c .before .if1 .taken (k .check .ensures ∙ e))
 
 add-c : tie.Need-add-c Inv-loop μ-loop
 add-c c = omega arith
@@ -81,13 +81,13 @@ loop-less c = omega arith
 
 loop-again : tie.Need-loop-again Inv-loop μ-loop
 loop-again c =
-    let p = c .before .before .before .before .before .before in
+    let p = c .before .before .before .before .before in
     let g = p .before .before .before .args in
-    let e = sym (c .before .before .check .ensures) ∙ c .enum-told .given .1 in
-    (omega arith, p .loop .inv .1, passed-more (record { lowers = g .lowers .now; uppers = g .uppers .now }) (p .loop .c) (p .loop .inv .2) e)
+    let X : Matrix = record { lowers = g .lowers .now; uppers = g .uppers .now } in
+    (omega arith, p .loop .inv .1, passed-more X (p .loop .c) (p .loop .inv .2) (sym (c .before .check .ensures) ∙ c .if1 .left))
 
-returns-3 : tie.Need-returns-3 Inv-loop μ-loop
-returns-3 c =
+returns-2 : tie.Need-returns-2 Inv-loop μ-loop
+returns-2 c =
     let g = c .before .before .before .before .args in
     let all : c .before .loop .c ≡ g .rows * g .columns = omega arith in
     cells-done (g .matrix) (g .rows) (g .columns) (record { lowers = g .lowers .now; uppers = g .uppers .now }) (rw (← all) (c .before .loop .inv .2))
@@ -105,16 +105,13 @@ check-cells-spec =
     mul-check-2
     shared-slice-read-check-2
     check-requires
-    enum-told
-    enum-told-2
-    div-t16
-    rem-t17
+    div-row
+    cast-row
+    rem-column
+    cast-column
+    of-cell-requires
     returns
-    enum-told-3
-    div-t19
-    rem-t20
-    returns-2
     add-c
     loop-less
     loop-again
-    returns-3)
+    returns-2)

@@ -11,7 +11,7 @@ use native.Mathlib.Omega.{arith}
 use borrow.Author.Needs.{needs}
 use Rattle.enclosure.specs.Methods.{classical}
 use Rattle.products.proofs.Fronts.{filled-none, filled-more, filled-from}
-use Rattle.products.proofs.Writing.{place-entry, stop-none, stop-more, lower-is, upper-is, written-all, written-at}
+use Rattle.products.proofs.Writing.{position-entry, stop-none, stop-more, lower-is, upper-is, written-all, written-at}
 use Rattle.products.proofs.ClassicalSums.{both-numbers, sum-start, entry-refused}
 use Rattle.products.proofs.classical.entries.Statement.{statement}
 use Rattle.products.proofs.classical.entries.Tie as tie
@@ -128,7 +128,7 @@ returns-2 c =
     let g = t .before .loop3 in
     let o = h .before .loop2 in
     let refused = entry-refused (K s) (N s) (A s) (B s) (s .search .i) (o .j) (g .l) (g .s) (g .inv .2) (cell t) _ _ (taken t) refl refl _ (c .before .before .step .ensures) (t .loop3-test .taken) (sym (c .before .refused .ensures) ∙ c .if3 .taken) in
-    let e = place-entry classical (K s) (N s) (s .search .i) (o .j) (o .at) (omega arith) (h .loop2-test .taken) (A s) (B s) ∙ refused in
+    let e = position-entry classical (K s) (N s) (s .search .i) (o .j) (o .at) (omega arith) (h .loop2-test .taken) (A s) (B s) ∙ refused in
     written-at (E s) (M s) (N s) (s .search .i) (o .j) (o .at) _ _ _ _ (omega arith) (h .loop2-test .taken) (place-out h .0) (o .inv .3) e
     (filled-from (s .search .at) _ _ _ _ _ (omega arith) (s .search .inv .4) (o .inv .4))
     (filled-from (s .search .at) _ _ _ _ _ (omega arith) (s .search .inv .5) (o .inv .5))

@@ -1,4 +1,4 @@
--- `products::corners::lesser` meets its contract: by its test of the two places.
+-- `products::corners::lesser` meets its contract: by its test of the two ranks.
 use mathlib.Core.Path.{sym, ap, ap₂, _∙_}
 use mathlib.Core.Bool.{cond}
 use Prim.Native.Nat.{_^_, _<_}
@@ -9,12 +9,12 @@ use Rattle.products.specs.Corners.{lesserOf}
 use Rattle.products.proofs.corners.lesser.Statement.{statement}
 use Rattle.products.proofs.corners.lesser.Tie as tie
 
--- the places, read back
+-- the ranks, read back
 module _ (s : tie.Start) where
-  x-fits : mag (s .args .x .place) < 2 ^ 63
+  x-fits : mag (s .args .x .rank) < 2 ^ 63
   x-fits = omega arith
 
-  y-fits : mag (s .args .y .place) < 2 ^ 63
+  y-fits : mag (s .args .y .rank) < 2 ^ 63
   y-fits = omega arith
 
 returns : tie.Need-returns
@@ -23,7 +23,7 @@ returns c =
     let s = c .before .before .before .before .before in
     let x = s .args .x in
     let y = s .args .y in
-    ap (λ t. cond t x y) (sym (c .if1 .taken) ∙ ap₂ leZ (read (x .place) (x-fits s)) (read (y .place) (y-fits s)))
+    ap (λ t. cond t x y) (sym (c .if1 .taken) ∙ ap₂ leZ (read (x .rank) (x-fits s)) (read (y .rank) (y-fits s)))
 
 returns-2 : tie.Need-returns-2
 unfolding lesserOf
@@ -31,7 +31,7 @@ returns-2 c =
     let s = c .before .before .before .before .before in
     let x = s .args .x in
     let y = s .args .y in
-    ap (λ t. cond t x y) (sym (c .if1 .left) ∙ ap₂ leZ (read (x .place) (x-fits s)) (read (y .place) (y-fits s)))
+    ap (λ t. cond t x y) (sym (c .if1 .left) ∙ ap₂ leZ (read (x .rank) (x-fits s)) (read (y .rank) (y-fits s)))
 
 pub lesser-spec : {M : Type 1} → statement M
 lesser-spec = tie.close (tie.spec returns returns-2)

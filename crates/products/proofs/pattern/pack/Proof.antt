@@ -1,4 +1,4 @@
--- `products::pattern::pack` meets its contract: the fields of the magnitude (`place-is`), with the sign (`pack-below`, `pack-above`).
+-- `products::pattern::pack` meets its contract: the fields of the magnitude (`encode-is`), with the sign (`pack-below`, `pack-above`).
 use mathlib.Core.Path.{_≡_, ap, _∙_, subst, sym}
 use mathlib.Core.Bool.{true, false}
 use Prim.Native.Nat.{ℕ, _*_, _^_, _≤_}

@@ -4,9 +4,10 @@ use Prim.Native.Nat.{ℕ, _+_, _-_, _*_, _≤_, _<_}
 use native.Mathlib.Omega.{arith}
 use lib.Arith.{digits-lt}
 use borrow.Author.Needs.{needs}
-use Rattle.sheets.specs.Chain.{placeOf, Walk, walk}
-use Rattle.sheets.proofs.Fits.{small}
-use Rattle.sheets.proofs.Walking.{walk-end, walk-refused, visit-past, turn-refused, turn-passed}
+use Rattle.refusals.specs.Answer.{refuses, outcome}
+use Rattle.refusals.proofs.SizeLaws.{small}
+use Rattle.sheets.specs.Chain.{positionOf, Walk, walk}
+use Rattle.sheets.proofs.Walking.{walk-end, walk-turn, visit-past, turn-refused, turn-passed}
 use Rattle.sheets.proofs.chain.follow.Statement.{statement}
 use Rattle.sheets.proofs.chain.follow.Tie as tie
 
@@ -20,11 +21,15 @@ abbrev μ-loop : tie.MeasureT-loop
 loop-holds : tie.Need-loop-holds Inv-loop μ-loop
 loop-holds c = (c .before .args .rows * c .before .args .columns + 1, omega arith, omega arith, refl)
 
+of-matrix-requires : tie.Need-of-matrix-requires Inv-loop μ-loop
+of-matrix-requires c κs = search needs
+
 returns : tie.Need-returns Inv-loop μ-loop
 returns c =
-    let h = c .before .before .loop in
-    sym (h .inv .3 ∙ ap (λ (w : Walk). w .verdict)
-    (walk-refused _ _ _ (h .inv .0) (h .inv .0 - 1) _ _ _ (omega arith) (omega arith) (sym (visit-past _ _ _ (h .index) (h .least) (omega arith)))))
+    let h = c .before .before .before .loop in
+    ap refuses (c .of-matrix .ensures)
+    ∙ sym (h .inv .3 ∙ ap (λ (w : Walk). w .verdict)
+    (walk-turn _ _ _ (h .inv .0) (h .inv .0 - 1) _ _ (omega arith) (omega arith) _ (sym (visit-past _ _ _ (h .index) (h .least) (omega arith)))))
 
 record-at-requires : tie.Need-record-at-requires Inv-loop μ-loop
 record-at-requires c κs = omega arith
@@ -41,13 +46,13 @@ turned : (c : tie.After-enum-told Inv-loop μ-loop) →
     let h = k .before .before .before in
     let a = h .before .before .args in
     let r = k .record-at .result in
-    (h .loop .least ≤ placeOf (a .columns) r) × (placeOf (a .columns) r < a .rows * a .columns) × (a .rows * a .columns ≤ 1024)
-    × (walk (a .s .now) (a .rows) (a .columns) (h .loop .inv .0) (h .loop .index) (h .loop .least) .verdict ≡ walk (a .s .now) (a .rows) (a .columns) (h .loop .inv .0 - 1) (r .next) (placeOf (a .columns) r + 1) .verdict)
+    (h .loop .least ≤ positionOf (a .columns) r) × (positionOf (a .columns) r < a .rows * a .columns) × (a .rows * a .columns ≤ 1024)
+    × (walk (a .s .now) (a .rows) (a .columns) (h .loop .inv .0) (h .loop .index) (h .loop .least) .verdict ≡ walk (a .s .now) (a .rows) (a .columns) (h .loop .inv .0 - 1) (r .next) (positionOf (a .columns) r + 1) .verdict)
 turned c =
     let k = c .before .before .before in
     let h = k .before .before .before in
     let a = h .before .before .args in
-    let j = turn-passed (a .s .now) (a .rows) (a .columns) (h .loop .inv .0) (h .loop .inv .0 - 1) (h .loop .index) (h .loop .least) (k .record-at .result) _ (omega arith) (omega arith) (omega arith) (k .record-at .ensures) (c .before .before .judge .ensures) (c .enum-told .given .1) in
+    let j = turn-passed (a .s .now) (a .rows) (a .columns) (h .loop .inv .0) (h .loop .inv .0 - 1) (h .loop .index) (h .loop .least) (omega arith) (omega arith) (k .record-at .result) _ (omega arith) (k .record-at .ensures) (c .before .before .judge .ensures) (ap outcome (c .enum-told .given .1)) in
     (j .1 .free, digits-lt (j .1 .row) (j .1 .column), small (a .rows) (a .columns) (omega arith) (omega arith), j .2)
 
 mul-least : tie.Need-mul-least Inv-loop μ-loop
@@ -78,7 +83,7 @@ returns-2 c =
     let h = k .before .before .before .loop in
     sym
     (h .inv .3
-    ∙ turn-refused _ _ _ (h .inv .0) (h .inv .0 - 1) (h .index) (h .least) (k .record-at .result) _ (omega arith) (omega arith) (omega arith) (k .record-at .ensures) (c .before .before .before .judge .ensures) _ (c .before .x .given .1))
+    ∙ turn-refused _ _ _ (h .inv .0) (h .inv .0 - 1) (h .index) (h .least) (omega arith) (omega arith) (k .record-at .result) _ (omega arith) (k .record-at .ensures) (c .before .before .before .judge .ensures) _ (ap outcome (c .before .x .given .1)))
 
 returns-3 : tie.Need-returns-3 Inv-loop μ-loop
 returns-3 c = sym (c .before .loop .inv .3 ∙ ap (λ (w : Walk). w .verdict) (walk-end _ _ _ _ _ _ (omega arith)))
@@ -90,6 +95,7 @@ follow-spec =
     Inv-loop
     μ-loop
     loop-holds
+    of-matrix-requires
     returns
     record-at-requires
     judge-requires

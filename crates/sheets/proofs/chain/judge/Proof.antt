@@ -1,109 +1,161 @@
--- `chain::judge` meets its contract.
-use mathlib.Core.Path.{_≡_, sym, ap, subst, _∙_}
-use mathlib.Core.Bool.{true}
+-- `chain::judge` meets its contract: each return is a case of the definition.
+use mathlib.Core.Path.{_≡_, refl, sym, ap, subst, _∙_}
+use mathlib.Core.Bool.{true, false}
+use Prim.Native.Nat.{ℕ}
 use native.Mathlib.Omega.{arith}
 use lib.Arith.{digits-lt}
 use borrow.Author.Needs.{needs}
-use borrow.Author.Tests.{not-true, not-false}
-use Rattle.binary32.specs.Number.{finites}
-use Rattle.sheets.specs.declared.cell.Widened.{Widened}
+use borrow.Author.Tests.{le-leb, lt-leb, lt-ltb, le-ltb, not-true, not-false}
+use Rattle.refusals.specs.Refusal.{ofCell}
+use Rattle.refusals.specs.Answer.{Answer, refuses, done, then}
+use Rattle.refusals.proofs.Answers.{passing-on, passing-not}
+use Rattle.refusals.proofs.SizeLaws.{small}
+use Rattle.intervals.specs.Conversion.{faultOf, outwardOf}
+use Rattle.sheets.specs.declared.chain.Cell.{Cell}
 use Rattle.sheets.specs.Wear.{amountOf}
 use Rattle.sheets.specs.Cell.{widenedOf, OverflowOf}
-use Rattle.sheets.specs.Chain.{cellOf, judgeOf, verdictOf}
-use Rattle.sheets.proofs.Fits.{small}
-use Rattle.sheets.proofs.Bounding.{widened-not-finite, widened-crossed, widened-both}
-use Rattle.sheets.proofs.Judging.{judge-row, judge-column, judge-unordered, judge-spare, judge-class, judge-cell}
+use Rattle.sheets.specs.Chain.{cellOf, judgeOf}
+use Rattle.sheets.proofs.Judging.{judge-by, judge-cell}
 use Rattle.sheets.proofs.chain.judge.Statement.{statement}
 use Rattle.sheets.proofs.chain.judge.Tie as tie
 
+abbrev verdict : Answer Cell → Answer (Unit {0})
+verdict j = then j done
+
+of-matrix-requires : tie.Need-of-matrix-requires
+of-matrix-requires c κs = search needs
+
 returns : tie.Need-returns
-returns c = ap verdictOf (judge-row _ _ _ _ (c .if1 .taken))
+returns c =
+    ap refuses (c .of-matrix .ensures) ∙ ap verdict (judge-by _ _ _ _ true _ _ _ _ _ (le-leb _ _ (c .before .if1 .taken)) refl refl refl refl refl)
+
+of-matrix-requires-2 : tie.Need-of-matrix-requires-2
+of-matrix-requires-2 c κs = search needs
 
 returns-2 : tie.Need-returns-2
-returns-2 c = ap verdictOf (judge-column _ _ _ _ (c .before .if1 .left) (c .if2 .taken))
+returns-2 c =
+    let k = c .before in
+    ap refuses (c .of-matrix2 .ensures)
+    ∙ ap verdict (judge-by _ _ _ _ false true _ _ _ _ (lt-leb _ _ (k .before .if1 .left)) (le-leb _ _ (k .if2 .taken)) refl refl refl refl)
 
-mul-place : tie.Need-mul-place
-mul-place c =
+mul-position : tie.Need-mul-position
+mul-position c =
     let a = c .before .before .args in
     omega (arith, digits-lt (c .before .if1 .left) (c .if2 .left), small (a .rows) (a .columns) (omega arith) (omega arith))
 
-add-place : tie.Need-add-place
-add-place c =
+add-position : tie.Need-add-position
+add-position c =
     let a = c .before .before .args in
     omega (arith, digits-lt (c .before .if1 .left) (c .if2 .left), small (a .rows) (a .columns) (omega arith) (omega arith))
+
+of-matrix-requires-3 : tie.Need-of-matrix-requires-3
+of-matrix-requires-3 c κs = search needs
 
 returns-3 : tie.Need-returns-3
-returns-3 c = ap verdictOf (judge-unordered _ _ _ _ (c .before .before .if1 .left) (c .before .if2 .left) (c .if3 .taken))
+returns-3 c =
+    let k = c .before in
+    ap refuses (c .of-matrix3 .ensures)
+    ∙ ap verdict (judge-by _ _ _ _ false false true _ _ _ (lt-leb _ _ (k .before .before .if1 .left)) (lt-leb _ _ (k .before .if2 .left)) (lt-ltb _ _ (k .if3 .taken)) refl refl refl)
+
+of-matrix-requires-4 : tie.Need-of-matrix-requires-4
+of-matrix-requires-4 c κs = search needs
 
 returns-4 : tie.Need-returns-4
 returns-4 c =
-    let p = c .before .before in
-    ap verdictOf (judge-spare _ _ _ _ (p .before .before .if1 .left) (p .before .if2 .left) (p .if3 .left) (not-true _ (c .if4 .taken)))
+    let k = c .before in
+    let p = k .before .before in
+    ap refuses (c .of-matrix4 .ensures)
+    ∙ ap verdict
+    (judge-by _ _ _ _ false false false false _ _ (lt-leb _ _ (p .before .before .if1 .left)) (lt-leb _ _ (p .before .if2 .left)) (le-ltb _ _ (p .if3 .left)) (not-true _ (k .if4 .taken)) refl refl)
+
+cast-i : tie.Need-cast-i
+cast-i c = search needs
+
+cast-j : tie.Need-cast-j
+cast-j c = search needs
+
+of-cell-requires : tie.Need-of-cell-requires
+of-cell-requires c κs = search needs
 
 returns-5 : tie.Need-returns-5
 returns-5 c =
-    let p = c .before .before .before in
-    ap verdictOf (judge-class _ _ _ _ (p .before .before .if1 .left) (p .before .if2 .left) (p .if3 .left) (not-false _ (c .before .if4 .left)) (c .if5 .taken))
+    let k = c .before in
+    let p = k .before .before .before in
+    ap refuses (c .of-cell .ensures)
+    ∙ ap verdict
+    (judge-by _ _ _ _ false false false true true _ (lt-leb _ _ (p .before .before .if1 .left)) (lt-leb _ _ (p .before .if2 .left)) (le-ltb _ _ (p .if3 .left)) (not-false _ (k .before .if4 .left))
+    (lt-ltb _ _ (k .if5 .taken)) refl)
 
--- 7, 8, 6 and 10 have passed: the cell by its widened bounds v
-cell : (c : tie.Else5) (v : Widened) →
+-- 7, 8, 6 and 10 have passed: the cell by its widened bounds x
+cell : (c : tie.Else5) (x : Answer (ℕ × ℕ)) →
     let a = c .before .before .before .before .before .before .args in
-    v ≡ widenedOf (a .r .lower) (a .r .upper) (amountOf (a .r .wear)) → verdictOf (cellOf (a .columns) (a .r) v) ≡ verdictOf (judgeOf (a .rows) (a .columns) (a .least) (a .r))
-cell c v e =
+    widenedOf (a .r .lower) (a .r .upper) (amountOf (a .r .wear)) ≡ x → verdict (cellOf (a .columns) (a .r) x) ≡ verdict (judgeOf (a .rows) (a .columns) (a .least) (a .r))
+cell c x e =
     let p = c .before .before .before in
-    ap verdictOf (judge-cell _ _ _ _ v (p .before .before .if1 .left) (p .before .if2 .left) (p .if3 .left) (not-false _ (c .before .if4 .left)) (c .if5 .left) e)
+    ap verdict (judge-cell _ _ _ _ x (p .before .before .if1 .left) (p .before .if2 .left) (p .if3 .left) (not-false _ (c .before .if4 .left)) (c .if5 .left) e)
 
-are-finite-requires : tie.Need-are-finite-requires
-are-finite-requires c κs = search needs
+check-requires : tie.Need-check-requires
+check-requires c κs = search needs
+
+of-cell-requires-2 : tie.Need-of-cell-requires-2
+of-cell-requires-2 c κs = search needs
 
 returns-6 : tie.Need-returns-6
-returns-6 c = cell (c .before .before) _ (widened-not-finite _ _ _ (sym (c .before .are-finite .ensures) ∙ not-true _ (c .if6 .taken)))
+unfolding widenedOf
+returns-6 c =
+    let k = c .before .before in
+    let a = k .before .before .before .before .before .before .before .args in
+    ap refuses (c .of-cell2 .ensures) ∙ ap (λ (n : ℕ). refuses (ofCell n 0 (a .r .row) (a .r .column))) (k .check .ensures)
+    ∙ cell (k .before) _ (sym (passing-not _ _ (λ e. c .before .if6 .taken (k .check .ensures ∙ e))))
 
--- 3 has passed
-finite : (c : tie.Else6) → let r = c .before .before .before .before .before .before .before .before .args .r in finites (r .lower) (r .upper) ≡ true
-finite c = sym (c .before .are-finite .ensures) ∙ not-false _ (c .if6 .left)
+-- 3 and 4 have passed
+fine : (c : tie.Else6) → let r = c .before .before .before .before .before .before .before .before .args .r in faultOf (r .lower) (r .upper) ≡ 0
+fine c = sym (c .before .check .ensures) ∙ c .if6 .left
 
-at-most-requires : tie.Need-at-most-requires
-at-most-requires c κs = search needs
+widened : (c : tie.Else6) →
+    let r = c .before .before .before .before .before .before .before .before .args .r in
+    widenedOf (r .lower) (r .upper) (amountOf (r .wear)) ≡ outwardOf (r .lower) (r .upper) (amountOf (r .wear))
+unfolding widenedOf
+widened c = sym (passing-on _ _ (fine c))
+
+overflows-requires : tie.Need-overflows-requires
+overflows-requires c κs = (omega arith, fine c)
+
+of-cell-requires-3 : tie.Need-of-cell-requires-3
+of-cell-requires-3 c κs = search needs
 
 returns-7 : tie.Need-returns-7
 returns-7 c =
-    let k = c .before .before in
-    cell (k .before .before) _ (widened-crossed _ _ _ (finite k) (sym (c .before .at-most .ensures) ∙ not-true _ (c .if7 .taken)))
+    let o = c .before .before in
+    ap refuses (c .of-cell3 .ensures) ∙ cell (o .before .before .before) _ (widened (o .before) ∙ subst (OverflowOf _) (c .before .if7 .taken) (o .overflows .ensures))
 
-overflows-requires : tie.Need-overflows-requires
-overflows-requires c κs = (omega arith, finite (c .before .before))
-
--- 4 has passed: 5, or a cell
 returns-8 : tie.Need-returns-8
 returns-8 c =
-    let o = c .before .before in
-    let k = o .before .before in
-    cell (k .before .before) _
-    (widened-both _ _ _ _ (finite k) (sym (o .before .at-most .ensures) ∙ not-false _ (o .if7 .left)) (sym (subst (OverflowOf _) (c .if8 .taken) (c .before .overflows .ensures))))
-
-returns-9 : tie.Need-returns-9
-returns-9 c =
-    let o = c .before .before in
-    let k = o .before .before in
-    cell (k .before .before) _
-    (widened-both _ _ _ _ (finite k) (sym (o .before .at-most .ensures) ∙ not-false _ (o .if7 .left)) (sym (subst (OverflowOf _) (c .if8 .left) (c .before .overflows .ensures) .2)))
+    let o = c .before in
+    cell (o .before .before .before) _ (widened (o .before) ∙ subst (OverflowOf _) (c .if7 .left) (o .overflows .ensures) .1)
 
 pub judge-spec : {M : Type 1} → statement M
 judge-spec =
     tie.close
     (tie.spec
+    of-matrix-requires
     returns
+    of-matrix-requires-2
     returns-2
-    mul-place
-    add-place
+    mul-position
+    add-position
+    of-matrix-requires-3
     returns-3
+    of-matrix-requires-4
     returns-4
+    cast-i
+    cast-j
+    of-cell-requires
     returns-5
-    are-finite-requires
+    check-requires
+    of-cell-requires-2
     returns-6
-    at-most-requires
-    returns-7
     overflows-requires
-    returns-8
-    returns-9)
+    of-cell-requires-3
+    returns-7
+    returns-8)

@@ -1,18 +1,21 @@
 -- `layout::is_framed` meets its contract.
+use mathlib.Core.Path.{refl}
+use mathlib.Core.Bool.{true, false}
 use native.Mathlib.Omega.{arith}
 use borrow.Author.Needs.{needs}
-use Rattle.sheets.proofs.Frames.{framed-uneven, framed-short, framed-long, framed-count, framed-head}
+use borrow.Author.Tests.{le-leb, lt-leb, eq-eqb, ne-eqb}
+use Rattle.sheets.proofs.Frames.{framed-by}
 use Rattle.sheets.proofs.layout.is_framed.Statement.{statement}
 use Rattle.sheets.proofs.layout.is_framed.Tie as tie
 
 returns : tie.Need-returns
-returns c = framed-uneven _ (omega arith)
+returns c = framed-by _ false _ _ _ _ _ (ne-eqb _ _ (c .if1 .taken)) refl refl refl refl refl
 
 returns-2 : tie.Need-returns-2
-returns-2 c = framed-short _ (omega arith) (omega arith)
+returns-2 c = framed-by _ true false _ _ _ _ (eq-eqb _ _ (c .before .if1 .left)) (lt-leb _ _ (c .if2 .taken)) refl refl refl refl
 
 returns-3 : tie.Need-returns-3
-returns-3 c = framed-long _ (omega arith) (omega arith) (omega arith)
+returns-3 c = framed-by _ true true false _ _ _ (eq-eqb _ _ (c .before .before .if1 .left)) (le-leb _ _ (c .before .if2 .left)) (lt-leb _ _ (c .if3 .taken)) refl refl refl
 
 u16-at-requires : tie.Need-u16-at-requires
 u16-at-requires c κs = search needs
@@ -21,13 +24,20 @@ mul-if4 : tie.Need-mul-if4
 mul-if4 c = omega arith
 
 returns-4 : tie.Need-returns-4
-returns-4 c = framed-count _ _ (omega arith) (omega arith) (omega arith) (c .before .u16-at .ensures .0) (omega arith)
+returns-4 c =
+    let k = c .before .before in
+    framed-by _ true true true false _ _ (eq-eqb _ _ (k .before .before .if1 .left)) (le-leb _ _ (k .before .if2 .left)) (le-leb _ _ (k .if3 .left)) (c .before .u16-at .ensures .0)
+    (ne-eqb _ _ (c .if4 .taken)) refl
 
 is-blank-requires : tie.Need-is-blank-requires
 is-blank-requires c κs = search needs
 
 returns-5 : tie.Need-returns-5
-returns-5 c = framed-head _ _ _ (omega arith) (omega arith) (omega arith) (c .before .before .u16-at .ensures .0) (omega arith) (c .is-blank .ensures)
+returns-5 c =
+    let m = c .before in
+    let k = m .before .before in
+    framed-by _ true true true true _ _ (eq-eqb _ _ (k .before .before .if1 .left)) (le-leb _ _ (k .before .if2 .left)) (le-leb _ _ (k .if3 .left)) (m .before .u16-at .ensures .0)
+    (eq-eqb _ _ (m .if4 .left)) (c .is-blank .ensures)
 
 pub is-framed-spec : {M : Type 1} → statement M
 is-framed-spec =

@@ -4,20 +4,20 @@ use Prim.Native.Nat.{ℕ, _+_, _-_, _*_, _≤_, _<_}
 use native.Mathlib.Omega.{arith}
 use lib.ListN.{length, length-set}
 use borrow.Author.Needs.{needs}
+use Rattle.refusals.specs.Answer.{gives, refuses, done}
+use Rattle.refusals.proofs.SizeLaws.{small}
 use Rattle.sheets.specs.declared.chain.Step.{Step}
-use Rattle.sheets.specs.declared.chain.Verdict.the-variants as V′
-use Rattle.sheets.specs.Chain.{Walk, visitOf, more, walk}
+use Rattle.sheets.specs.Chain.{step, visitOf, Walk, more, walk}
 use Rattle.sheets.specs.Reading.{putIn, lowerOf, upperOf}
-use Rattle.sheets.proofs.Fits.{small}
-use Rattle.sheets.proofs.Walking.{Passing, walk-passing, visit-passing, visit-place, walk-end, walk-refused, walk-cell}
-use Rattle.sheets.proofs.Placing.{put-none, put-more}
+use Rattle.sheets.proofs.Walking.{Passing, walk-passing, visit-passing, visit-position, walk-end, walk-turn}
+use Rattle.sheets.proofs.Putting.{put-none, put-more}
 use Rattle.sheets.proofs.matrix.fill.Statement.{statement}
 use Rattle.sheets.proofs.matrix.fill.Tie as tie
 
 abbrev Inv-loop : tie.InvT-loop
 Inv-loop s rows columns first lowers₀ uppers₀ index₀ least₀ lowers uppers index least =
     (t : ℕ) × (rows * columns < t + least) × (least ≤ rows * columns) × (length lowers ≡ length lowers₀) × (length uppers ≡ length uppers₀)
-    × (walk s rows columns t index least .verdict ≡ V′.Passed)
+    × (walk s rows columns t index least .verdict ≡ done)
     × (putIn lowerOf lowers (walk s rows columns t index least .cells) ≡ putIn lowerOf lowers₀ (walk s rows columns (rows * columns + 1) first 0 .cells))
     × (putIn upperOf uppers (walk s rows columns t index least .cells) ≡ putIn upperOf uppers₀ (walk s rows columns (rows * columns + 1) first 0 .cells))
 
@@ -43,8 +43,8 @@ record-at-requires c κs = omega (arith, passing c .index)
 
 passed-requires : tie.Need-passed-requires Inv-loop μ-loop
 passed-requires c κs =
-    let p = passing (c .before) in
-    rw (c .record-at .ensures) (omega arith, omega (arith, p .row), omega (arith, p .column), omega (arith, p .class), p .finite, p .ordered)
+    let p = passing (c .before) .passed in
+    rw (c .record-at .ensures) (omega arith, omega (arith, p .row), omega (arith, p .column), omega (arith, p .class), p .fine)
 
 enum-known-c : tie.Need-enum-known-c Inv-loop μ-loop
 enum-known-c c = search needs
@@ -53,22 +53,22 @@ enum-known-c c = search needs
 visited : (c : tie.After-passed Inv-loop μ-loop) (v : Step) → c .passed .result ≡ v →
     let h = c .before .before .before in
     let a = h .before .before .before .before .args in
-    visitOf (a .s .now) (a .rows) (a .columns) (h .loop .index) (h .loop .least) ≡ v
-visited c v e = visit-passing _ _ _ _ _ _ _ _ (passing (c .before .before)) (c .before .record-at .ensures) (c .passed .ensures) e
+    visitOf (a .s .now) (a .rows) (a .columns) (h .loop .index) (h .loop .least) ≡ step v
+visited c v e = visit-passing _ _ _ _ _ _ _ (passing (c .before .before)) (c .before .record-at .ensures) (c .passed .ensures) ∙ ap step e
 
 -- a turn that passes the cell x
 turned : (c : tie.After-known-told Inv-loop μ-loop) →
     let h = c .before .before .before .before .before .before in
     let a = h .before .before .before .before .args in
     let x = c .before .c .given .0 .0 in
-    (h .loop .least ≤ x .place) × (x .place < a .rows * a .columns) × (a .rows * a .columns ≤ 1024)
-    × (walk (a .s .now) (a .rows) (a .columns) (h .loop .inv .0) (h .loop .index) (h .loop .least) ≡ more x (walk (a .s .now) (a .rows) (a .columns) (h .loop .inv .0 - 1) (x .next) (x .place + 1)))
+    (h .loop .least ≤ x .position) × (x .position < a .rows * a .columns) × (a .rows * a .columns ≤ 1024)
+    × (walk (a .s .now) (a .rows) (a .columns) (h .loop .inv .0) (h .loop .index) (h .loop .least) ≡ more x (walk (a .s .now) (a .rows) (a .columns) (h .loop .inv .0 - 1) (x .next) (x .position + 1)))
 turned c =
     let h = c .before .before .before .before .before .before in
     let a = h .before .before .before .before .args in
     let e = visited (c .before .before .before) _ (c .before .c .given .1) in
-    let j = visit-place (a .s .now) (a .rows) (a .columns) (h .loop .index) (h .loop .least) _ e in
-    (j .0, j .1, small (a .rows) (a .columns) (omega arith) (omega arith), walk-cell _ _ _ (h .loop .inv .0) (h .loop .inv .0 - 1) _ _ _ (omega arith) (omega arith) e)
+    let j = visit-position (a .s .now) (a .rows) (a .columns) (h .loop .index) (h .loop .least) _ e in
+    (j .0, j .1, small (a .rows) (a .columns) (omega arith) (omega arith), walk-turn _ _ _ (h .loop .inv .0) (h .loop .inv .0 - 1) _ _ (omega arith) (omega arith) (gives _) e)
 
 mul-lowers : tie.Need-mul-lowers Inv-loop μ-loop
 mul-lowers c = let j = turned c in omega arith
@@ -114,7 +114,7 @@ same-length-2 c = search needs
 returns : tie.Need-returns Inv-loop μ-loop
 returns c =
     let h = c .before .before .before .before .before .loop in
-    let w = walk-refused _ _ _ (h .inv .0) (h .inv .0 - 1) _ _ _ (omega arith) (omega arith) (visited (c .before .before) _ (c .enum-told .given .1)) in
+    let w = walk-turn _ _ _ (h .inv .0) (h .inv .0 - 1) _ _ (omega arith) (omega arith) (refuses _) (visited (c .before .before) _ (c .enum-told .given .1)) in
     (sym (put-none lowerOf _ _ _ w) ∙ h .inv .6, sym (put-none upperOf _ _ _ w) ∙ h .inv .7)
 
 same-length-3 : tie.Need-same-length-3 Inv-loop μ-loop

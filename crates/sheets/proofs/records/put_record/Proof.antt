@@ -1,4 +1,4 @@
--- `records::put_record` meets its contract: the first j bytes stand in their places.
+-- `records::put_record` meets its contract: the first j bytes stand in their positions.
 use mathlib.Core.Path.{_≡_, refl, ap, _∙_}
 use Prim.Native.Nat.{_-_, _≤_}
 use native.Mathlib.Numerals.{add-one}

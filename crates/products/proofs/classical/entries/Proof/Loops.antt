@@ -17,7 +17,7 @@ use Rattle.products.specs.Corners.{Cells}
 use Rattle.products.specs.Running.{Sum}
 use Rattle.products.specs.Entries.{entryAt, stopOf}
 use Rattle.products.proofs.Fronts.{Filled}
-use Rattle.products.proofs.Writing.{below, place-entry, lowersOf, uppersOf}
+use Rattle.products.proofs.Writing.{below, position-entry, lowersOf, uppersOf}
 use Rattle.products.proofs.ClassicalSums.{lowerTo, upperTo, entry-whole}
 use Rattle.products.proofs.Pairs.{Taken, fine-taken, fine-cells}
 use Rattle.products.proofs.classical.entries.Tie as tie
@@ -95,9 +95,9 @@ E s = entryAt classical (K s) (N s) (A s) (B s)
 abbrev pub apart-at : In1 → ℕ
 apart-at c = c .before .before .before .search .i * K (c .before .before .before) + c .before .loop .l
 
-pub apart-places : (c : In1) → let s : Head = c .before .before .before in
+pub apart-positions : (c : In1) → let s : Head = c .before .before .before in
     (apart-at c < M s * K s) × (apart-at c < length (A s .lowers)) × (apart-at c < length (A s .uppers)) × (c .before .loop .l < 32)
-apart-places c =
+apart-positions c =
     let s : Head = c .before .before .before in
     let a = below (s .search .i) (M s) (c .before .loop .l) (K s) (omega arith) (omega arith) in
     (a, omega arith, omega arith, omega (arith, c .loop-test .taken, Begin s .pre .inner))
@@ -175,5 +175,5 @@ whole-entry c =
     let h : In2 = c .before .before .before in
     let s : Head = row-head h in
     let all : c .before .loop3 .l ≡ K s = omega arith in
-    place-entry classical (K s) (N s) (s .search .i) (h .before .loop2 .j) (h .before .loop2 .at) (omega arith) (h .loop2-test .taken) (A s) (B s)
+    position-entry classical (K s) (N s) (s .search .i) (h .before .loop2 .j) (h .before .loop2 .at) (omega arith) (h .loop2-test .taken) (A s) (B s)
     ∙ entry-whole (K s) (N s) (A s) (B s) (s .search .i) (h .before .loop2 .j) (c .before .loop3 .s) (rw all at (c .before .loop3 .inv .2))

@@ -1,0 +1,35 @@
+-- Laws of putting the chain's cells in their positions. Assumes nothing.
+use mathlib.Core.Path.{_≡_, refl, ap, _∙_}
+use mathlib.Core.List.{List, _++_}
+use Prim.Native.Nat.{ℕ, zero, suc, _+_, _*_, _≤_, _<_}
+use native.Mathlib.Omega.{arith}
+use lib.ListN.{length, set, length-set}
+use lib.Seq.{set-append-left}
+use Rattle.refusals.specs.Answer.{Answer}
+use Rattle.sheets.specs.declared.chain.Cell.{Cell}
+use Rattle.sheets.specs.Chain.{Walk, stopped, more, walk}
+use Rattle.sheets.specs.Reading.{putIn}
+use Rattle.sheets.proofs.Walking.{visit-position, turn}
+
+module _ (b : Cell → ℕ) where
+  pub put-none : (w : Walk) (v : Answer (Unit {0})) (a : List ℕ) → w ≡ stopped v → putIn b a (w .cells) ≡ a
+  unfolding putIn
+  put-none w v a e = rw e
+
+  pub put-more : (w : Walk) (c : Cell) (w′ : Walk) (a : List ℕ) → w ≡ more c w′ → putIn b (set a (c .position) (b c)) (w′ .cells) ≡ putIn b a (w .cells)
+  unfolding putIn
+  put-more w c w′ a e = rw e
+
+  -- the cells of a walk are put in front of what lies past the matrix
+  pub put-front : (s : List ℕ) (rows columns t i l : ℕ) (a d : List ℕ) → length a ≡ rows * columns
+      → putIn b (a ++ d) (walk s rows columns t i l .cells) ≡ putIn b a (walk s rows columns t i l .cells) ++ d
+  unfolding walk putIn
+  put-front s rows columns zero i l a d n = refl
+  put-front s rows columns (suc t) i l a d n =
+      turn s rows columns (λ w. putIn b (a ++ d) (w .cells) ≡ putIn b a (w .cells) ++ d) t i l
+      (λ z. refl)
+      (λ x z e. refl)
+      (λ c z e.
+      let j : (l ≤ c .position) × (c .position < rows * columns) = visit-position s rows columns i l c e in
+      ap (λ (x : List ℕ). putIn b x (walk s rows columns t (c .next) (c .position + 1) .cells)) (set-append-left a d (c .position) (b c) (omega arith))
+      ∙ put-front s rows columns t (c .next) (c .position + 1) (set a (c .position) (b c)) d (length-set a (c .position) (b c) ∙ n))
