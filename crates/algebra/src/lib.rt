@@ -1,4 +1,8 @@
 // A crate of definitions and laws: integer algebra, in specs/ and proofs/. A crate has at least one function.
-pub fn zero() -> u64 {
+ghost use mathlib.Core.Path.{_≡_};
+
+pub fn zero() -> u64
+    ensures { λ r. ⌜ r ≡ 0 ⌝ }
+{
     0
 }
