@@ -6,7 +6,7 @@ use native.Mathlib.Omega.{arith}
 use lib.ListN.{length, getD, take, length-replicate, List·getD-append}
 use Rattle.refusals.specs.declared.Refusal.{Refusal}
 use Rattle.refusals.specs.Answer.{Answer, gives, refuses, done, naming}
-use Rattle.refusals.proofs.Answers.{said, not-both, then-tells}
+use Rattle.refusals.proofs.Answers.{said, then-tells, naming-tells}
 use Rattle.binary32.specs.Number.{valueOf}
 use Rattle.intervals.specs.Conversion.{faultOf}
 use Rattle.sheets.specs.declared.Written.{Written}
@@ -74,11 +74,10 @@ module _ (r c : ℕ) (lo up : List ℕ) (room n : ℕ) (e : writeOf r c lo up ro
 
 -- ---- a job that goes on to the write has read both sheets, and they fit
 read-tells : (n : ℕ) (s : List ℕ) (x : ℕ × ℕ) → naming n (sheetRead s) ≡ gives x → sheetRead s ≡ gives (rowsOf s, columnsOf s)
-read-tells n s x e = go (sheetRead s) refl e
-  where
-    go : (o : Answer (ℕ × ℕ)) → sheetRead s ≡ o → naming n o ≡ gives x → sheetRead s ≡ gives (rowsOf s, columnsOf s)
-    go (gives v) f h = let t = done-tells s 1024 1024 (v .0) (v .1) f in f ∙ ap₂ (λ (r c : ℕ). gives (r, c)) (sym (t .rows)) (sym (t .columns))
-    go (refuses y) f h = absurd (not-both h)
+read-tells n s x e =
+    let f = naming-tells n (sheetRead s) x e in
+    let t = done-tells s 1024 1024 (x .0) (x .1) f in
+    f ∙ ap₂ (λ (r c : ℕ). gives (r, c)) (sym (t .rows)) (sym (t .columns))
 
 pub both-read : (method : ℕ) (a b : List ℕ) (x : ℕ × ℕ) → sheetsRead method a b ≡ gives x
     → (sheetRead a ≡ gives (rowsOf a, columnsOf a)) × (sheetRead b ≡ gives (rowsOf b, columnsOf b))

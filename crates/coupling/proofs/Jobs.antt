@@ -6,7 +6,7 @@ use native.Mathlib.Omega.{arith}
 use Rattle.refusals.specs.declared.Refusal.{Refusal}
 use Rattle.refusals.specs.Refusal.{named}
 use Rattle.refusals.specs.Answer.{Answer, gives, refuses, done, naming}
-use Rattle.refusals.proofs.Answers.{gives-injective, not-both, then-gives, then-refuses, then-tells}
+use Rattle.refusals.proofs.Answers.{gives-injective, then-gives, then-refuses, then-tells, naming-tells}
 use Rattle.sheets.specs.declared.Shape.{Shape}
 use Rattle.sheets.specs.declared.Shape.the-variants as S
 use Rattle.sheets.specs.declared.Written.{Written}
@@ -83,13 +83,9 @@ module _ (method : ℕ) (a b : List ℕ) where
     out-room x y w d d′ e f = e ∙ ap (λ v. outAfter r c lo up (written v) d) f
 
 -- ---- a length that the job answers is small
-named-tells : (w : Answer ℕ) (n : ℕ) → naming 3 w ≡ gives n → w ≡ gives n
-named-tells (gives m) n e = e
-named-tells (refuses x) n e = absurd (not-both e)
-
 pub job-small : (method : ℕ) (a b : List ℕ) (room n : ℕ) → gives n ≡ jobOf method a b room → n ≤ 16400
 unfolding jobOf
 job-small method a b room n e =
     let t = then-tells (sheetsProductOf method a b 1024 1024) (last method a b room) n (sym e) in
-    let g = bytes-tell (rowsOf a) (columnsOf b) (resultLowers method a b) (resultUppers method a b) room n (named-tells _ n (t .1)) in
+    let g = bytes-tell (rowsOf a) (columnsOf b) (resultLowers method a b) (resultUppers method a b) room n (naming-tells 3 _ n (t .1)) in
     omega (arith, g .bytes, g .few, g .counted)

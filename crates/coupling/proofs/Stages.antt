@@ -5,8 +5,8 @@ use Prim.Native.Nat.{ℕ}
 use lib.ListN.{length}
 use Rattle.refusals.specs.declared.Refusal.{Refusal}
 use Rattle.refusals.specs.declared.Outcome.{Outcome}
-use Rattle.refusals.specs.Answer.{Answer, gives, refuses, done, outcome, then, naming}
-use Rattle.refusals.proofs.Answers.{not-both, then-gives, then-refuses}
+use Rattle.refusals.specs.Answer.{gives, refuses, done, outcome, then, naming}
+use Rattle.refusals.proofs.Answers.{not-both, then-gives, then-refuses, naming-tells}
 use Rattle.sheets.specs.declared.Shape.{Shape}
 use Rattle.sheets.specs.declared.Shape.the-variants as S
 use Rattle.sheets.specs.declared.chain.Cell.{Cell}
@@ -33,13 +33,9 @@ pub record SheetIs (s : List ℕ) (r c : ℕ) (l u : List ℕ) : Type 0 where
   pub lowers : l ≡ lowersIn s
   pub uppers : u ≡ uppersIn s
 
-named-tells : (n : ℕ) (x : Answer (ℕ × ℕ)) (v : ℕ × ℕ) → naming n x ≡ gives v → x ≡ gives v
-named-tells n (gives w) v e = e
-named-tells n (refuses r) v e = absurd (not-both e)
-
 pub sheet-is : (n : ℕ) {s l u : List ℕ} {o : Shape} {r c : ℕ} → shape o ≡ naming n (sheetRead s) → l ≡ lowersAfter s (shape o) array → u ≡ uppersAfter s (shape o) array → o ≡ S.Sizes r c → SheetIs s r c l u
 sheet-is n {s = s} {o = o} {r = r} {c = c} e f g h =
-    let a : sheetRead s ≡ gives (r, c) = named-tells n (sheetRead s) (r, c) (sym e ∙ ap shape h) in
+    let a : sheetRead s ≡ gives (r, c) = naming-tells n (sheetRead s) (r, c) (sym e ∙ ap shape h) in
     let t = done-tells s 1024 1024 r c a in
     let w : shape o ≡ sheetRead s = ap shape h ∙ sym a in
     record {

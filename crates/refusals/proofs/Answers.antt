@@ -8,7 +8,7 @@ use borrow.Author.Tests.{eq-eqb, ne-eqb, eqb-true}
 use Rattle.refusals.specs.declared.Refusal.{Refusal}
 use Rattle.refusals.specs.declared.Outcome.{Outcome}
 use Rattle.refusals.specs.declared.Outcome.the-variants.{Done, Refused}
-use Rattle.refusals.specs.Answer.{Answer, gives, refuses, done, refuse, outcome, unless, passing, andThen, then, both}
+use Rattle.refusals.specs.Answer.{Answer, gives, refuses, done, refuse, outcome, unless, passing, andThen, then, both, naming}
 
 -- ---- f says a of a value z of the code, and z is v
 pub said : {A B : Type 0} (f : A → B) {z v : A} {a : B} → f z ≡ a → z ≡ v → f v ≡ a
@@ -68,6 +68,10 @@ pub both-tell : {A B : Type 0} (a : Answer A) (b : Answer B) (v : A × B) → bo
 both-tell {A} {B} (gives x) (gives y) v e = let p : _≡_ {A = A × B} (x, y) v = cc in (ap (λ (z : A × B). gives (z .0)) p, ap (λ (z : A × B). gives (z .1)) p)
 both-tell (gives x) (refuses r) v e = absurd (not-both e)
 both-tell (refuses r) b v e = absurd (not-both e)
+
+pub naming-tells : {A : Type 0} (m : ℕ) (a : Answer A) (v : A) → naming m a ≡ gives v → a ≡ gives v
+naming-tells m (gives u) v e = e
+naming-tells m (refuses r) v e = absurd (not-both e)
 
 -- ---- an outcome of the code
 pub outcome-done : (z : Outcome) (a : Answer (Unit {0})) → outcome z ≡ a → z ≡ Done → a ≡ done

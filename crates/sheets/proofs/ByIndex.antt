@@ -16,7 +16,7 @@ use Rattle.sheets.specs.declared.chain.Cell.{Cell}
 use Rattle.sheets.specs.Layout.{recordOf, countOf, rowsOf, columnsOf, firstOf}
 use Rattle.sheets.specs.Wear.{amountOf}
 use Rattle.sheets.specs.Chain.{judgeOf, walk, chainOf}
-use Rattle.sheets.specs.Reading.{lowerOf, upperOf, putIn, matrixOf}
+use Rattle.sheets.specs.Reading.{cellLower, cellUpper, putIn, matrixOf}
 use Rattle.sheets.proofs.Judging.{Passed, judge-passed}
 use Rattle.sheets.proofs.Walking.{visit-tells, visit-position, turn}
 
@@ -93,11 +93,11 @@ pub record ByIndex (s : List ℕ) : Type 0 where
   pub rising : Rising (rowsOf s * columnsOf s) 0 (chainOf s .cells)
   pub widened : (c : Cell) → Among c (chainOf s .cells) → (i : ℕ) × Widens s (rowsOf s) (columnsOf s) i c
   -- at a cell's position stand its bounds
-  pub lower-at : (c : Cell) → Among c (chainOf s .cells) → getD (matrixOf lowerOf s) (c .position) 0 ≡ c .lower
-  pub upper-at : (c : Cell) → Among c (chainOf s .cells) → getD (matrixOf upperOf s) (c .position) 0 ≡ c .upper
+  pub lower-at : (c : Cell) → Among c (chainOf s .cells) → getD (matrixOf cellLower s) (c .position) 0 ≡ c .lower
+  pub upper-at : (c : Cell) → Among c (chainOf s .cells) → getD (matrixOf cellUpper s) (c .position) 0 ≡ c .upper
   -- at any other position stands [0, 0]
-  pub lower-off : (q : ℕ) → ((c : Cell) → Among c (chainOf s .cells) → q ≡ c .position → ⊥) → getD (matrixOf lowerOf s) q 0 ≡ 0
-  pub upper-off : (q : ℕ) → ((c : Cell) → Among c (chainOf s .cells) → q ≡ c .position → ⊥) → getD (matrixOf upperOf s) q 0 ≡ 0
+  pub lower-off : (q : ℕ) → ((c : Cell) → Among c (chainOf s .cells) → q ≡ c .position → ⊥) → getD (matrixOf cellLower s) q 0 ≡ 0
+  pub upper-off : (q : ℕ) → ((c : Cell) → Among c (chainOf s .cells) → q ≡ c .position → ⊥) → getD (matrixOf cellUpper s) q 0 ≡ 0
 
 zero-at : (n q : ℕ) → _≡_ {A = ℕ} (getD (replicate n 0) q 0) 0
 zero-at n q = go (ltb q n) refl
@@ -114,8 +114,8 @@ by-index s =
     record {
       rising = r;
       widened = λ c k. walk-widens s (rowsOf s) (columnsOf s) (n + 1) (firstOf s) 0 c k;
-      lower-at = λ c k. put-same lowerOf n 0 (chainOf s .cells) (replicate n 0) c (length-replicate n 0) r k;
-      upper-at = λ c k. put-same upperOf n 0 (chainOf s .cells) (replicate n 0) c (length-replicate n 0) r k;
-      lower-off = λ q h. put-other lowerOf (chainOf s .cells) (replicate n 0) q h ∙ zero-at n q;
-      upper-off = λ q h. put-other upperOf (chainOf s .cells) (replicate n 0) q h ∙ zero-at n q;
+      lower-at = λ c k. put-same cellLower n 0 (chainOf s .cells) (replicate n 0) c (length-replicate n 0) r k;
+      upper-at = λ c k. put-same cellUpper n 0 (chainOf s .cells) (replicate n 0) c (length-replicate n 0) r k;
+      lower-off = λ q h. put-other cellLower (chainOf s .cells) (replicate n 0) q h ∙ zero-at n q;
+      upper-off = λ q h. put-other cellUpper (chainOf s .cells) (replicate n 0) q h ∙ zero-at n q;
     }

@@ -16,7 +16,7 @@ use Rattle.sheets.specs.Layout.{u16At, u32At, blank, recordOf, framed}
 use Rattle.sheets.specs.Wear.{unitsOf, amountOf}
 use Rattle.sheets.specs.Cell.{canonicalOf, bothZero, handedOf, widenedOf}
 use Rattle.sheets.specs.Chain.{judgeOf, visitOf, walk, chainOf}
-use Rattle.sheets.specs.Reading.{readOf, lowerOf, upperOf, putIn, matrixOf}
+use Rattle.sheets.specs.Reading.{readOf, cellLower, cellUpper, putIn, matrixOf}
 use Rattle.sheets.specs.Sheet.{recordBytes, tally, countTo, nextOf, cellBytes, recordsTo, sheetOf}
 
 -- a head alone with index 0 and one record is a zero matrix; size 32 is accepted, 33 refused with 1
@@ -45,11 +45,11 @@ worn bounds = recordBytes 1 1 1 2 0 ++ (0 ∷ 0 ∷ 0 ∷ 0 ∷ []) ++ bounds ++
 abbrev one : List ℕ
 one = worn (0 ∷ 0 ∷ 0x80 ∷ 0x3F ∷ 0 ∷ 0 ∷ 0x80 ∷ 0x3F ∷ 7 ∷ [])
 
-one-lower : matrixOf lowerOf one ≡ 0x3F700000 ∷ []
+one-lower : matrixOf cellLower one ≡ 0x3F700000 ∷ []
 unfolding u16At u32At blank recordOf framed checkSize checkLengths checkFit unitsOf amountOf faultOf widenedOf judgeOf visitOf walk chainOf putIn recordBytes valueOf val encode expo size MAX ceil lo hi up down answer
 one-lower = refl
 
-one-upper : matrixOf upperOf one ≡ 0x3F880000 ∷ []
+one-upper : matrixOf cellUpper one ≡ 0x3F880000 ∷ []
 unfolding u16At u32At blank recordOf framed checkSize checkLengths checkFit unitsOf amountOf faultOf widenedOf judgeOf visitOf walk chainOf putIn recordBytes valueOf val encode expo size MAX ceil lo hi up down answer
 one-upper = refl
 
@@ -61,6 +61,6 @@ far = refl
 there : List ℕ
 there = sheetOf 2 2 (0x3F800000 ∷ 0x80000000 ∷ 0x80000000 ∷ 0xBF800000 ∷ []) (0x40000000 ∷ 0 ∷ 0x3F800000 ∷ 0x80000000 ∷ [])
 
-back : matrixOf lowerOf there ≡ 0x3F800000 ∷ 0 ∷ 0 ∷ 0xBF800000 ∷ []
+back : matrixOf cellLower there ≡ 0x3F800000 ∷ 0 ∷ 0 ∷ 0xBF800000 ∷ []
 unfolding there u16At u32At blank recordOf framed checkSize checkLengths checkFit unitsOf amountOf canonicalOf bothZero handedOf faultOf widenedOf judgeOf visitOf walk chainOf putIn recordBytes tally countTo nextOf cellBytes recordsTo sheetOf valueOf val encode expo size MAX ceil lo hi up down answer
 back = refl

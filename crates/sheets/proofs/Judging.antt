@@ -14,7 +14,7 @@ use Rattle.sheets.specs.declared.layout.Record.{Record}
 use Rattle.sheets.specs.declared.chain.Cell.{Cell}
 use Rattle.sheets.specs.Wear.{amountOf}
 use Rattle.sheets.specs.Cell.{widenedOf}
-use Rattle.sheets.specs.Chain.{positionOf, cellOf, judgeOf}
+use Rattle.sheets.specs.Chain.{positionOf, cellFrom, judgeOf}
 use Rattle.sheets.proofs.Bounding.{widened-tells}
 
 -- the cell c that a record r passes as
@@ -34,7 +34,7 @@ module _ (rows columns least : ℕ) (r : Record) where
   abbrev pub byTests : Bool → Bool → Bool → Bool → Bool → Answer (ℕ × ℕ) → Answer Cell
   byTests s t u v w x =
       cond s (refuse 7) (cond t (refuse 7) (cond u (refuse 8)
-      (cond v (cond w (refuses (ofCell 10 0 (r .row) (r .column))) (cellOf columns r x)) (refuse 6))))
+      (cond v (cond w (refuses (ofCell 10 0 (r .row) (r .column))) (cellFrom columns r x)) (refuse 6))))
 
   pub judge-by : (s t u v w : Bool) (x : Answer (ℕ × ℕ)) → leb rows (r .row) ≡ s → leb columns (r .column) ≡ t → ltb (positionOf columns r) least ≡ u
       → r .spare ≡ v → ltb 7 (r .wear) ≡ w → widenedOf (r .lower) (r .upper) (amountOf (r .wear)) ≡ x → byTests s t u v w x ≡ judgeOf rows columns least r
@@ -43,7 +43,7 @@ module _ (rows columns least : ℕ) (r : Record) where
 
   -- a record that passes all but 3, 4 and 5
   pub judge-cell : (x : Answer (ℕ × ℕ)) → r .row < rows → r .column < columns → least ≤ positionOf columns r → r .spare ≡ true → r .wear ≤ 7
-      → widenedOf (r .lower) (r .upper) (amountOf (r .wear)) ≡ x → cellOf columns r x ≡ judgeOf rows columns least r
+      → widenedOf (r .lower) (r .upper) (amountOf (r .wear)) ≡ x → cellFrom columns r x ≡ judgeOf rows columns least r
   judge-cell x h k l m n e =
       judge-by false false false true false x (lt-leb rows (r .row) h) (lt-leb columns (r .column) k) (le-ltb (positionOf columns r) least l) m (le-ltb 7 (r .wear) n) e
 

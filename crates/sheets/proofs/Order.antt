@@ -22,7 +22,7 @@ use Rattle.sheets.specs.declared.layout.Record.{Record}
 use Rattle.sheets.specs.declared.chain.Cell.{Cell}
 use Rattle.sheets.specs.Wear.{amountOf}
 use Rattle.sheets.specs.Cell.{widenedOf}
-use Rattle.sheets.specs.Chain.{positionOf, cellOf, judgeOf}
+use Rattle.sheets.specs.Chain.{positionOf, cellFrom, judgeOf}
 use Rattle.sheets.proofs.Judging.{judge-by}
 
 -- the cell in row i and column j comes before that in row k and column l
@@ -103,7 +103,7 @@ module _ (rows columns : ℕ) (q r : Record) (hq : q .column < columns) (hr : r 
       no x k n = n (let z : x ≡ ofMatrix 8 0 = cc in ap (λ (y : Refusal). y .number) z)
 
       go : (s t : Bool) (w : Answer (ℕ × ℕ)) → Low w
-          → cond s (cond t (refuses (ofCell 10 0 (r .row) (r .column))) (cellOf columns r w)) (refuse 6) ≡ refuse 8 → ⊥
+          → cond s (cond t (refuses (ofCell 10 0 (r .row) (r .column))) (cellFrom columns r w)) (refuse 6) ≡ refuse 8 → ⊥
       go false t w l h = no _ h (λ e. omega arith)
       go true true w l h = no _ h (λ e. omega arith)
       go true false (gives x) l h = not-both (sym h)

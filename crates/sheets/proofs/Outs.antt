@@ -10,7 +10,7 @@ use Rattle.refusals.specs.Answer.{gives}
 use Rattle.sheets.specs.declared.Written.{Written}
 use Rattle.sheets.specs.declared.Written.the-variants.{Bytes, Refused}
 use Rattle.sheets.specs.Sheet.{recordBytes, over, countTo, nextOf, recordsTo, sheetOf}
-use Rattle.sheets.specs.Writing.{written, writeOf, outAfter, partOf}
+use Rattle.sheets.specs.Writing.{written, writeOf, outAfter, frontOf}
 use Rattle.sheets.proofs.Rooms.{Granted, answered, granted}
 use Rattle.sheets.proofs.CellBytes.{record-length}
 use Rattle.sheets.proofs.Counting.{records-length}
@@ -48,9 +48,9 @@ module _ (rows columns n : ℕ) (lo up d : List ℕ) (a : Granted rows columns l
 -- ---- the part that is handed back, where the code answers w
 
 module _ (rows columns : ℕ) (lo up d : List ℕ) (w : Written) (e : written w ≡ writeOf rows columns lo up (length d)) where
-  pub part-refused : (r : Refusal) → w ≡ Refused r → [] ≡ partOf rows columns lo up (writeOf rows columns lo up (length d))
-  unfolding partOf
-  part-refused r f = ap (partOf rows columns lo up) (answered rows columns lo up (length d) w e (Refused r) f)
+  pub part-refused : (r : Refusal) → w ≡ Refused r → [] ≡ frontOf rows columns lo up (writeOf rows columns lo up (length d))
+  unfolding frontOf
+  part-refused r f = ap (frontOf rows columns lo up) (answered rows columns lo up (length d) w e (Refused r) f)
 
   module _ (n : ℕ) (f : w ≡ Bytes n) (out : List ℕ) (g : out ≡ outAfter rows columns lo up (written w) d) where
     a : Granted rows columns lo up (length d) n
@@ -59,9 +59,9 @@ module _ (rows columns : ℕ) (lo up d : List ℕ) (w : Written) (e : written w 
     sheet : take n out ≡ sheetOf rows columns lo up
     sheet = part-is rows columns n lo up d a out (g ∙ ap (λ (v : Written). outAfter rows columns lo up (written v) d) f)
 
-    pub part-done : take n out ≡ partOf rows columns lo up (writeOf rows columns lo up (length d))
-    unfolding partOf
-    part-done = sheet ∙ ap (partOf rows columns lo up) (answered rows columns lo up (length d) w e (Bytes n) f)
+    pub part-done : take n out ≡ frontOf rows columns lo up (writeOf rows columns lo up (length d))
+    unfolding frontOf
+    part-done = sheet ∙ ap (frontOf rows columns lo up) (answered rows columns lo up (length d) w e (Bytes n) f)
 
     pub part-size : n ≡ length (take n out)
     part-size = part-length rows columns n lo up d a ∙ sym (ap length sheet)

@@ -11,7 +11,7 @@ use Rattle.sheets.specs.declared.cell.HandedIn.{HandedIn}
 use Rattle.sheets.specs.declared.cell.HandedIn.the-variants as H
 use Rattle.sheets.specs.declared.chain.Cell.{Cell}
 use Rattle.sheets.specs.Cell.{canonicalOf, handedOf}
-use Rattle.sheets.specs.Reading.{lowerOf, upperOf, sliceAfter}
+use Rattle.sheets.specs.Reading.{cellLower, cellUpper, sliceAfter}
 use Rattle.sheets.specs.Sheet.{cellAt, countTo, sheetOf}
 use Rattle.sheets.specs.Writing.{outAfter}
 use Rattle.sheets.specs.Trip.{canonicals, ReadsBack, TripOf}
@@ -23,10 +23,10 @@ use Rattle.sheets.proofs.WalkBack.{read-back, chain-back}
 use Rattle.sheets.proofs.MatrixBack.{Holds, put-back}
 
 -- a cell without a fault holds its bounds
-holds : (a b : ℕ) → faultOf a b ≡ 0 → Holds lowerOf (canonicalOf a) (handedOf a b) × Holds upperOf (canonicalOf b) (handedOf a b)
+holds : (a b : ℕ) → faultOf a b ≡ 0 → Holds cellLower (canonicalOf a) (handedOf a b) × Holds cellUpper (canonicalOf b) (handedOf a b)
 holds a b e = go (handedOf a b) (handed-tells a b)
   where
-    go : (h : HandedIn) → Tells a b h → Holds lowerOf (canonicalOf a) h × Holds upperOf (canonicalOf b) h
+    go : (h : HandedIn) → Tells a b h → Holds cellLower (canonicalOf a) h × Holds cellUpper (canonicalOf b) h
     go H.Zero t = t
     go (H.Cell x y) t = (λ n p. t .lower, λ n p. t .upper)
     go (H.Faulty n) t = absurd (t e)
@@ -48,8 +48,8 @@ round-trip rows columns lo up room n g l u hl hu =
     let m = g .few in
     record {
       answer = read-back rows columns lo up z m (length l) (length u) hl hu;
-      lowers = slice-back rows columns lo up z m lowerOf lo l (λ q h. holds (getD lo q 0) (getD up q 0) (g .fine q (omega arith)) .0);
-      uppers = slice-back rows columns lo up z m upperOf up u (λ q h. holds (getD lo q 0) (getD up q 0) (g .fine q (omega arith)) .1);
+      lowers = slice-back rows columns lo up z m cellLower lo l (λ q h. holds (getD lo q 0) (getD up q 0) (g .fine q (omega arith)) .0);
+      uppers = slice-back rows columns lo up z m cellUpper up u (λ q h. holds (getD lo q 0) (getD up q 0) (g .fine q (omega arith)) .1);
     }
 
 -- of the buffer that `put` leaves

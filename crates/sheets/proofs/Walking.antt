@@ -14,7 +14,7 @@ use Rattle.sheets.specs.declared.chain.Cell.{Cell}
 use Rattle.sheets.specs.Layout.{recordOf, countOf}
 use Rattle.sheets.specs.Wear.{amountOf}
 use Rattle.sheets.specs.Cell.{widenedOf}
-use Rattle.sheets.specs.Chain.{positionOf, cellOf, judgeOf, visitOf, Walk, stopped, more, onward, walk}
+use Rattle.sheets.specs.Chain.{positionOf, cellFrom, judgeOf, visitOf, Walk, stopped, more, onward, walk}
 use Rattle.sheets.proofs.Judging.{judge-cell, Passed, judge-passed, judge-tells}
 
 -- what a walk that passes tells of record i, where it is
@@ -50,11 +50,11 @@ module _ (s : List ℕ) (rows columns : ℕ) where
 
   -- the record r there, where it passes: v is what `passed` says of it
   pub visit-passing : (i l : ℕ) (r : Record) (v : Answer Cell) → Passing s rows columns i l → r ≡ recordOf s i
-      → v ≡ cellOf columns r (widenedOf (r .lower) (r .upper) (amountOf (r .wear))) → visitOf s rows columns i l ≡ v
+      → v ≡ cellFrom columns r (widenedOf (r .lower) (r .upper) (amountOf (r .wear))) → visitOf s rows columns i l ≡ v
   visit-passing i l r v p q e =
       let g = p .passed in
       sym (visit-judged i l (recordOf s i) v (p .index) refl
-      (e ∙ ap (λ (x : Record). cellOf columns x (widenedOf (x .lower) (x .upper) (amountOf (x .wear)))) q
+      (e ∙ ap (λ (x : Record). cellFrom columns x (widenedOf (x .lower) (x .upper) (amountOf (x .wear)))) q
       ∙ judge-cell rows columns l (recordOf s i) _ (g .row) (g .column) (g .free) (g .spare) (g .class) refl))
 
   -- ---- a turn

@@ -20,14 +20,14 @@ abbrev pub positionOf : ℕ → Record → ℕ
 positionOf columns r = r .row * columns + r .column
 
 -- a `Step` of the code
-abbrev pub step : Step → Answer Cell
-step (S.Cell c) = gives c
-step (S.Refused r) = refuses r
+abbrev pub stepped : Step → Answer Cell
+stepped (S.Cell c) = gives c
+stepped (S.Refused r) = refuses r
 
 -- 3, 4, 5 of a cell, by its widened bounds
-abbrev pub cellOf : ℕ → Record → Answer (ℕ × ℕ) → Answer Cell
-cellOf columns r (gives x) = gives (record { next = r .next; position = positionOf columns r; lower = x .0; upper = x .1 })
-cellOf columns r (refuses x) = refuses (placed (r .row) (r .column) x)
+abbrev pub cellFrom : ℕ → Record → Answer (ℕ × ℕ) → Answer Cell
+cellFrom columns r (gives x) = gives (record { next = r .next; position = positionOf columns r; lower = x .0; upper = x .1 })
+cellFrom columns r (refuses x) = refuses (placed (r .row) (r .column) x)
 
 -- one record on the chain: 7, 8, 6, 10, then 3, 4, 5. `least` is one past the position of the cell before, 0 for the first cell:
 -- a position of `least` or more is one that rises by row, then column (proofs/Order, `unordered-is`)
@@ -38,7 +38,7 @@ judgeOf rows columns least r =
     (cond (ltb (positionOf columns r) least) (refuse 8)
     (cond (r .spare)
     (cond (ltb 7 (r .wear)) (refuses (ofCell 10 0 (r .row) (r .column)))
-    (cellOf columns r (widenedOf (r .lower) (r .upper) (amountOf (r .wear)))))
+    (cellFrom columns r (widenedOf (r .lower) (r .upper) (amountOf (r .wear)))))
     (refuse 6))))
 
 -- ---- the chain

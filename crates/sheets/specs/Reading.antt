@@ -28,11 +28,11 @@ readOf s l u =
 -- ---- what is left
 
 -- a cell's lower bound, its upper bound
-abbrev pub lowerOf : Cell → ℕ
-lowerOf c = c .lower
+abbrev pub cellLower : Cell → ℕ
+cellLower c = c .lower
 
-abbrev pub upperOf : Cell → ℕ
-upperOf c = c .upper
+abbrev pub cellUpper : Cell → ℕ
+cellUpper c = c .upper
 
 -- each cell's bound b put in its position
 unfoldable pub putIn : (Cell → ℕ) → List ℕ → List Cell → List ℕ
@@ -48,7 +48,7 @@ unfoldable pub sliceAfter : (Cell → ℕ) → List ℕ → Answer (ℕ × ℕ) 
 sliceAfter b s a d = unlessRefused a (matrixOf b s ++ drop (rowsOf s * columnsOf s) d) d
 
 abbrev pub lowersAfter : List ℕ → Answer (ℕ × ℕ) → List ℕ → List ℕ
-lowersAfter = sliceAfter lowerOf
+lowersAfter = sliceAfter cellLower
 
 abbrev pub uppersAfter : List ℕ → Answer (ℕ × ℕ) → List ℕ → List ℕ
-uppersAfter = sliceAfter upperOf
+uppersAfter = sliceAfter cellUpper

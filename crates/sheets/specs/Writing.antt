@@ -56,6 +56,6 @@ outAfter rows columns lo up (gives n) d = sheetOf rows columns lo up ++ drop n d
 outAfter rows columns lo up (refuses r) d = d
 
 -- the part that is handed back
-unfoldable pub partOf : ℕ → ℕ → List ℕ → List ℕ → Answer ℕ → List ℕ
-partOf rows columns lo up (gives n) = sheetOf rows columns lo up
-partOf rows columns lo up (refuses r) = []
+unfoldable pub frontOf : ℕ → ℕ → List ℕ → List ℕ → Answer ℕ → List ℕ
+frontOf rows columns lo up (gives n) = sheetOf rows columns lo up
+frontOf rows columns lo up (refuses r) = []

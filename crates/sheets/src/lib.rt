@@ -2,7 +2,7 @@
 ghost use mathlib.Core.Path.{_≡_};
 ghost use lib.ListN.{length};
 ghost use Rattle.sheets.specs.Reading.{shape, readOf, lowersAfter, uppersAfter};
-ghost use Rattle.sheets.specs.Writing.{written, writeOf, outAfter, partOf};
+ghost use Rattle.sheets.specs.Writing.{written, writeOf, outAfter, frontOf};
 ghost use Rattle.sheets.specs.Trip.{TripOf};
 
 mod cell;
@@ -126,7 +126,7 @@ pub fn write<'a, 'b>(
     out: &'a mut [u8],
 ) -> &'a mut [u8]
     ensures start { λ r. ⌜ r .ptr ≡ out .entry .ptr ⌝ }
-    ensures part { λ r. ⌜ now r ≡ partOf rows columns (now (lowers .entry)) (now (uppers .entry)) (writeOf rows columns (now (lowers .entry)) (now (uppers .entry)) (length (now (out .entry)))) ⌝ }
+    ensures part { λ r. ⌜ now r ≡ frontOf rows columns (now (lowers .entry)) (now (uppers .entry)) (writeOf rows columns (now (lowers .entry)) (now (uppers .entry)) (length (now (out .entry)))) ⌝ }
 {
     match put(rows, columns, lowers, uppers, out) {
         Written::Bytes(n) => &mut out[..n],

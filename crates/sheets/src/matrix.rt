@@ -7,8 +7,8 @@ ghost use Rattle.intervals.specs.Conversion.{faultOf};
 ghost use Rattle.sheets.specs.Layout.{countOf};
 ghost use Rattle.sheets.specs.Wear.{amountOf};
 ghost use Rattle.sheets.specs.Cell.{widenedOf};
-ghost use Rattle.sheets.specs.Chain.{step, cellOf, walk};
-ghost use Rattle.sheets.specs.Reading.{putIn, lowerOf, upperOf};
+ghost use Rattle.sheets.specs.Chain.{stepped, cellFrom, walk};
+ghost use Rattle.sheets.specs.Reading.{putIn, cellLower, cellUpper};
 use crate::chain::Cell;
 use crate::chain::Step;
 use crate::layout::Record;
@@ -19,7 +19,7 @@ use refusals::Refusal;
 // The cell of a record that passes.
 fn passed(columns: usize, r: Record) -> Step
     requires { ⌜ (columns ≤ 32) × (r .row < 32) × (r .column < 32) × (r .wear < 8) × (faultOf (r .lower) (r .upper) ≡ 0) ⌝ }
-    ensures { λ s. ⌜ step s ≡ cellOf columns r (widenedOf (r .lower) (r .upper) (amountOf (r .wear))) ⌝ }
+    ensures { λ s. ⌜ stepped s ≡ cellFrom columns r (widenedOf (r .lower) (r .upper) (amountOf (r .wear))) ⌝ }
 {
     let row = r.row;
     let column = r.column;
@@ -48,7 +48,7 @@ pub fn fill(
     uppers: &mut [u32],
 )
     requires { ⌜ (rows ≤ 32) × (columns ≤ 32) × (16 * countOf (now s) ≡ length (now s)) × (rows * columns ≤ length (now lowers)) × (rows * columns ≤ length (now uppers)) × (walk (now s) rows columns (rows * columns + 1) first 0 .verdict ≡ done) ⌝ }
-    ensures { λ _. ⌜ (now (lowers .exit) ≡ putIn lowerOf (now (lowers .entry)) (walk (now (s .entry)) rows columns (rows * columns + 1) first 0 .cells)) × (now (uppers .exit) ≡ putIn upperOf (now (uppers .entry)) (walk (now (s .entry)) rows columns (rows * columns + 1) first 0 .cells)) ⌝ }
+    ensures { λ _. ⌜ (now (lowers .exit) ≡ putIn cellLower (now (lowers .entry)) (walk (now (s .entry)) rows columns (rows * columns + 1) first 0 .cells)) × (now (uppers .exit) ≡ putIn cellUpper (now (uppers .entry)) (walk (now (s .entry)) rows columns (rows * columns + 1) first 0 .cells)) ⌝ }
 {
     let mut index = first;
     let mut least = 0;

@@ -2,7 +2,7 @@
 use mathlib.Core.Path.{ap, _∙_}
 use Rattle.refusals.specs.Answer.{refuses, naming}
 use Rattle.refusals.proofs.Answers.{said}
-use Rattle.sheets.specs.Reading.{lowerOf, upperOf, shape}
+use Rattle.sheets.specs.Reading.{cellLower, cellUpper, shape}
 use Rattle.coupling.proofs.Stages.{slice-by, slice-refused}
 use borrow.Author.Needs.{needs}
 use Rattle.coupling.proofs.read_as.Statement.{statement}
@@ -30,7 +30,7 @@ returns : tie.Need-returns
 returns c =
     let r = c .before .before .before .before .before .before .before .read .ensures in
     let e = c .before .rows .given .1 in
-    (ap (naming _) (said shape (r .0) e), (slice-by lowerOf _ _ _ _ _ (r .1 .0) e, slice-by upperOf _ _ _ _ _ (r .1 .1) e))
+    (ap (naming _) (said shape (r .0) e), (slice-by cellLower _ _ _ _ _ (r .1 .0) e, slice-by cellUpper _ _ _ _ _ (r .1 .1) e))
 
 same-length-3 : tie.Need-same-length-3
 same-length-3 c = search needs
@@ -42,7 +42,7 @@ returns-2 : tie.Need-returns-2
 returns-2 c =
     let r = c .before .before .before .before .before .before .before .before .read .ensures in
     let e = c .before .before .r .given .1 in
-    (ap refuses (c .named .ensures) ∙ ap (naming _) (said shape (r .0) e), (slice-refused lowerOf _ _ _ _ _ _ (r .1 .0) e, slice-refused upperOf _ _ _ _ _ _ (r .1 .1) e))
+    (ap refuses (c .named .ensures) ∙ ap (naming _) (said shape (r .0) e), (slice-refused cellLower _ _ _ _ _ _ (r .1 .0) e, slice-refused cellUpper _ _ _ _ _ _ (r .1 .1) e))
 
 pub read-as-spec : {M : Type 1} → statement M
 read-as-spec =

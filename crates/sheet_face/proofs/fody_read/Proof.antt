@@ -3,7 +3,7 @@ use mathlib.Core.Path.{sym, ap, _∙_}
 use native.Mathlib.Omega.{arith}
 use Rattle.refusals.specs.Answer.{coded}
 use Rattle.refusals.proofs.Answers.{said}
-use Rattle.sheets.specs.Reading.{lowerOf, upperOf, shape}
+use Rattle.sheets.specs.Reading.{cellLower, cellUpper, shape}
 use Rattle.sheet_face.specs.Codes.{sizesCode}
 use Rattle.sheet_face.proofs.Answers.{slice-is, sizes-small}
 use borrow.Author.Needs.{needs}
@@ -46,7 +46,7 @@ same-length-2 c = search needs
 returns : tie.Need-returns
 returns c =
     let r = c .before .before .before .before .before .before .before .read .ensures in
-    (ap (coded sizesCode) (said shape (r .0) (c .before .rows .given .1)), (slice-is lowerOf _ _ _ _ _ (r .0) (r .1 .0), slice-is upperOf _ _ _ _ _ (r .0) (r .1 .1)))
+    (ap (coded sizesCode) (said shape (r .0) (c .before .rows .given .1)), (slice-is cellLower _ _ _ _ _ (r .0) (r .1 .0), slice-is cellUpper _ _ _ _ _ (r .0) (r .1 .1)))
 
 same-length-3 : tie.Need-same-length-3
 same-length-3 c = search needs
@@ -57,7 +57,7 @@ same-length-4 c = search needs
 returns-2 : tie.Need-returns-2
 returns-2 c =
     let r = c .before .before .before .before .before .before .before .before .read .ensures in
-    (c .code .ensures ∙ ap (coded sizesCode) (said shape (r .0) (c .before .before .r .given .1)), (slice-is lowerOf _ _ _ _ _ (r .0) (r .1 .0), slice-is upperOf _ _ _ _ _ (r .0) (r .1 .1)))
+    (c .code .ensures ∙ ap (coded sizesCode) (said shape (r .0) (c .before .before .r .given .1)), (slice-is cellLower _ _ _ _ _ (r .0) (r .1 .0), slice-is cellUpper _ _ _ _ _ (r .0) (r .1 .1)))
 
 pub fody-read-spec : {M : Type 1} → statement M
 fody-read-spec =

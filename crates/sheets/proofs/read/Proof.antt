@@ -7,7 +7,7 @@ use borrow.Author.Needs.{needs}
 use Rattle.refusals.proofs.Answers.{said}
 use Rattle.refusals.proofs.SizeLaws.{small}
 use Rattle.sheets.specs.Chain.{Walk}
-use Rattle.sheets.specs.Reading.{shape, lowerOf, upperOf, sliceAfter}
+use Rattle.sheets.specs.Reading.{shape, cellLower, cellUpper, sliceAfter}
 use Rattle.sheets.proofs.Frames.{framed-tells}
 use Rattle.sheets.proofs.Answers.{Accepted, accepted-walk, done-tells, slice-done}
 use Rattle.sheets.proofs.read.Statement.{statement}
@@ -69,8 +69,8 @@ returns c =
     let a = accepted (l .before .before) in (
       said shape (r .before .before .check-read .ensures) (r .rows .given .1),
       (
-        slice-done lowerOf _ _ _ _ _ _ _ _ _ a (i .u16-at .ensures .0) (a .sized .lowers) (l .clear .ensures) (f .fill .ensures .0),
-        slice-done upperOf _ _ _ _ _ _ _ _ _ a (i .u16-at .ensures .0) (a .sized .uppers) (u .clear2 .ensures) (f .fill .ensures .1),
+        slice-done cellLower _ _ _ _ _ _ _ _ _ a (i .u16-at .ensures .0) (a .sized .lowers) (l .clear .ensures) (f .fill .ensures .0),
+        slice-done cellUpper _ _ _ _ _ _ _ _ _ a (i .u16-at .ensures .0) (a .sized .uppers) (u .clear2 .ensures) (f .fill .ensures .1),
       ),
     )
 

@@ -14,7 +14,7 @@ use Rattle.intervals.specs.Conversion.{faultOf, outwardOf}
 use Rattle.sheets.specs.declared.chain.Cell.{Cell}
 use Rattle.sheets.specs.Wear.{amountOf}
 use Rattle.sheets.specs.Cell.{widenedOf, OverflowOf}
-use Rattle.sheets.specs.Chain.{cellOf, judgeOf}
+use Rattle.sheets.specs.Chain.{cellFrom, judgeOf}
 use Rattle.sheets.proofs.Judging.{judge-by, judge-cell}
 use Rattle.sheets.proofs.chain.judge.Statement.{statement}
 use Rattle.sheets.proofs.chain.judge.Tie as tie
@@ -89,7 +89,7 @@ returns-5 c =
 -- 7, 8, 6 and 10 have passed: the cell by its widened bounds x
 cell : (c : tie.Else5) (x : Answer (ℕ × ℕ)) →
     let a = c .before .before .before .before .before .before .args in
-    widenedOf (a .r .lower) (a .r .upper) (amountOf (a .r .wear)) ≡ x → verdict (cellOf (a .columns) (a .r) x) ≡ verdict (judgeOf (a .rows) (a .columns) (a .least) (a .r))
+    widenedOf (a .r .lower) (a .r .upper) (amountOf (a .r .wear)) ≡ x → verdict (cellFrom (a .columns) (a .r) x) ≡ verdict (judgeOf (a .rows) (a .columns) (a .least) (a .r))
 cell c x e =
     let p = c .before .before .before in
     ap verdict (judge-cell _ _ _ _ x (p .before .before .if1 .left) (p .before .if2 .left) (p .if3 .left) (not-false _ (c .before .if4 .left)) (c .if5 .left) e)

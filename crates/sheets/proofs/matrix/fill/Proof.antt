@@ -7,8 +7,8 @@ use borrow.Author.Needs.{needs}
 use Rattle.refusals.specs.Answer.{gives, refuses, done}
 use Rattle.refusals.proofs.SizeLaws.{small}
 use Rattle.sheets.specs.declared.chain.Step.{Step}
-use Rattle.sheets.specs.Chain.{step, visitOf, Walk, more, walk}
-use Rattle.sheets.specs.Reading.{putIn, lowerOf, upperOf}
+use Rattle.sheets.specs.Chain.{stepped, visitOf, Walk, more, walk}
+use Rattle.sheets.specs.Reading.{putIn, cellLower, cellUpper}
 use Rattle.sheets.proofs.Walking.{Passing, walk-passing, visit-passing, visit-position, walk-end, walk-turn}
 use Rattle.sheets.proofs.Putting.{put-none, put-more}
 use Rattle.sheets.proofs.matrix.fill.Statement.{statement}
@@ -18,8 +18,8 @@ abbrev Inv-loop : tie.InvT-loop
 Inv-loop s rows columns first lowers₀ uppers₀ index₀ least₀ lowers uppers index least =
     (t : ℕ) × (rows * columns < t + least) × (least ≤ rows * columns) × (length lowers ≡ length lowers₀) × (length uppers ≡ length uppers₀)
     × (walk s rows columns t index least .verdict ≡ done)
-    × (putIn lowerOf lowers (walk s rows columns t index least .cells) ≡ putIn lowerOf lowers₀ (walk s rows columns (rows * columns + 1) first 0 .cells))
-    × (putIn upperOf uppers (walk s rows columns t index least .cells) ≡ putIn upperOf uppers₀ (walk s rows columns (rows * columns + 1) first 0 .cells))
+    × (putIn cellLower lowers (walk s rows columns t index least .cells) ≡ putIn cellLower lowers₀ (walk s rows columns (rows * columns + 1) first 0 .cells))
+    × (putIn cellUpper uppers (walk s rows columns t index least .cells) ≡ putIn cellUpper uppers₀ (walk s rows columns (rows * columns + 1) first 0 .cells))
 
 abbrev μ-loop : tie.MeasureT-loop
 μ-loop s rows columns first lowers₀ uppers₀ index₀ least₀ lowers uppers index least = rows * columns - least
@@ -53,8 +53,8 @@ enum-known-c c = search needs
 visited : (c : tie.After-passed Inv-loop μ-loop) (v : Step) → c .passed .result ≡ v →
     let h = c .before .before .before in
     let a = h .before .before .before .before .args in
-    visitOf (a .s .now) (a .rows) (a .columns) (h .loop .index) (h .loop .least) ≡ step v
-visited c v e = visit-passing _ _ _ _ _ _ _ (passing (c .before .before)) (c .before .record-at .ensures) (c .passed .ensures) ∙ ap step e
+    visitOf (a .s .now) (a .rows) (a .columns) (h .loop .index) (h .loop .least) ≡ stepped v
+visited c v e = visit-passing _ _ _ _ _ _ _ (passing (c .before .before)) (c .before .record-at .ensures) (c .passed .ensures) ∙ ap stepped e
 
 -- a turn that passes the cell x
 turned : (c : tie.After-known-told Inv-loop μ-loop) →
@@ -98,8 +98,8 @@ loop-again c =
       simp length-set (h .inv .3),
       simp length-set (h .inv .4),
       sym (ap (λ (w : Walk). w .verdict) (j .3)) ∙ h .inv .5,
-      put-more lowerOf _ _ _ _ (j .3) ∙ h .inv .6,
-      put-more upperOf _ _ _ _ (j .3) ∙ h .inv .7,
+      put-more cellLower _ _ _ _ (j .3) ∙ h .inv .6,
+      put-more cellUpper _ _ _ _ (j .3) ∙ h .inv .7,
     )
 
 enum-told : tie.Need-enum-told Inv-loop μ-loop
@@ -115,7 +115,7 @@ returns : tie.Need-returns Inv-loop μ-loop
 returns c =
     let h = c .before .before .before .before .before .loop in
     let w = walk-turn _ _ _ (h .inv .0) (h .inv .0 - 1) _ _ (omega arith) (omega arith) (refuses _) (visited (c .before .before) _ (c .enum-told .given .1)) in
-    (sym (put-none lowerOf _ _ _ w) ∙ h .inv .6, sym (put-none upperOf _ _ _ w) ∙ h .inv .7)
+    (sym (put-none cellLower _ _ _ w) ∙ h .inv .6, sym (put-none cellUpper _ _ _ w) ∙ h .inv .7)
 
 same-length-3 : tie.Need-same-length-3 Inv-loop μ-loop
 same-length-3 c = search needs
@@ -127,7 +127,7 @@ returns-2 : tie.Need-returns-2 Inv-loop μ-loop
 returns-2 c =
     let h = c .before .loop in
     let w = walk-end _ _ _ (h .inv .0) (h .index) (h .least) (omega arith) in
-    (sym (put-none lowerOf _ _ _ w) ∙ h .inv .6, sym (put-none upperOf _ _ _ w) ∙ h .inv .7)
+    (sym (put-none cellLower _ _ _ w) ∙ h .inv .6, sym (put-none cellUpper _ _ _ w) ∙ h .inv .7)
 
 pub fill-spec : {M : Type 1} → statement M
 fill-spec =

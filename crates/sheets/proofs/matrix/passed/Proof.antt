@@ -9,7 +9,7 @@ use Rattle.intervals.specs.Conversion.{bounded}
 use Rattle.intervals.specs.declared.Bounded.{Bounded}
 use Rattle.sheets.specs.Wear.{amountOf}
 use Rattle.sheets.specs.Cell.{widenedOf}
-use Rattle.sheets.specs.Chain.{cellOf}
+use Rattle.sheets.specs.Chain.{cellFrom}
 use Rattle.sheets.proofs.matrix.passed.Statement.{statement}
 use Rattle.sheets.proofs.matrix.passed.Tie as tie
 
@@ -44,9 +44,9 @@ of-cell-requires c κs = search needs
 -- the cell by its widened bounds v
 cell : (c : tie.After-widen) (v : Bounded) → c .widen .result ≡ v →
     let a = c .before .args in
-    cellOf (a .columns) (a .r) (bounded v) ≡ cellOf (a .columns) (a .r) (widenedOf (a .r .lower) (a .r .upper) (amountOf (a .r .wear)))
+    cellFrom (a .columns) (a .r) (bounded v) ≡ cellFrom (a .columns) (a .r) (widenedOf (a .r .lower) (a .r .upper) (amountOf (a .r .wear)))
 unfolding widenedOf
-cell c v e = ap (cellOf (c .before .args .columns) (c .before .args .r)) (said bounded (c .widen .ensures) e ∙ passing-on _ _ (c .before .pre .4))
+cell c v e = ap (cellFrom (c .before .args .columns) (c .before .args .r)) (said bounded (c .widen .ensures) e ∙ passing-on _ _ (c .before .pre .4))
 
 returns : tie.Need-returns
 returns c = cell (c .before .before .before) _ (c .before .a .given .1)
