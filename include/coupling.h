@@ -33,7 +33,7 @@
    own. A call uses no heap and no writable global data, does no input or output,
    and neither reads nor changes floating-point state.
 
-   Stack: on x86-64 a call took at most 53,896 bytes below its caller's frame,
+   Stack: on x86-64 a call took at most 53,928 bytes below its caller's frame,
    measured on 32 by 32 by 32 products by each method (tests/stack). Give the
    calling thread COUPLING_STACK bytes for it. */
 #ifndef COUPLING_H
