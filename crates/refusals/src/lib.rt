@@ -77,6 +77,7 @@ impl Outcome {
             Outcome::Refused(r) => Outcome::Refused(r),
         }
     }
+
     // For a caller in C: 0, or the refusal's code.
     pub fn code(self) -> u32
         ensures { λ r. ⌜ r ≡ coded (λ v. 0) (outcome self) ⌝ }
