@@ -6,12 +6,12 @@ use Prim.Native.Nat.{ℕ, _*_, _≤_}
 use native.Mathlib.Omega.{arith}
 use lib.ListN.{length}
 use Rattle.refusals.specs.Answer.{done}
-use Rattle.products.specs.Lists.{front}
-use Rattle.products.specs.Matrix.{AllFine, midAt, radAt}
+use Rattle.matrices.specs.Lists.{front}
+use Rattle.matrices.specs.Matrix.{AllFine, midAt, radAt}
 use Rattle.products.specs.MidRad.{Sized}
 use Rattle.products.specs.Entries.{Sizes}
-use Rattle.products.specs.Checks.{Given, chosen, checkOf}
-use Rattle.products.proofs.CheckTells.{Checked, checked-tells}
+use Rattle.matrices.specs.Checks.{Given, chosen, checkOf}
+use Rattle.matrices.proofs.CheckTells.{Checked, checked-tells}
 use Rattle.products.proofs.EntryExt.{ByMidRad}
 use Rattle.products.proofs.Chosen.{numbered, by-mid-rad}
 use Rattle.products.proofs.MidRads.{Converted, converted-front, mid-rads}

@@ -16,10 +16,10 @@ use Rattle.algebra.proofs.Order.{≼-refl}
 use Rattle.rounding.specs.Format.{binary32, MAX}
 use Rattle.rounding.specs.Rounding.{up, down, negate}
 use Rattle.enclosure.specs.Sums.{sum}
-use Rattle.products.specs.declared.number.Number.{Number}
-use Rattle.products.specs.Number.{worth, Below, Holds, Runs, IsNumber, zeroNumber}
+use Rattle.unpacked.specs.declared.Number.{Number}
+use Rattle.unpacked.specs.Number.{worth, Below, Holds, Runs, IsNumber, zeroNumber}
 use Rattle.products.specs.Running.{plusDown}
-use Rattle.products.proofs.Packing.{exp-high}
+use Rattle.unpacked.proofs.Packing.{exp-high}
 
 true-false : {A : Type 0} → true ≡ false → A
 true-false e = absurd (subst (λ x. cond x (Unit {0}) ⊥) e tt)

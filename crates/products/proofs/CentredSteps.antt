@@ -10,10 +10,10 @@ use Rattle.rounding.specs.Format.{binary32}
 use Rattle.rounding.specs.Rounding.{up, down, negate}
 use Rattle.enclosure.specs.Sums.{sum}
 use Rattle.binary32.specs.Operations.{mul, with₂}
-use Rattle.products.specs.declared.number.Number.{Number}
+use Rattle.unpacked.specs.declared.Number.{Number}
 use Rattle.products.specs.declared.centred.Centred.{Centred}
 use Rattle.binary32.specs.Order.{magnitudeOf}
-use Rattle.products.specs.Number.{worth, IsNumber, Below, Holds, Runs}
+use Rattle.unpacked.specs.Number.{worth, IsNumber, Below, Holds, Runs}
 use Rattle.products.specs.Running.{plusDown}
 use Rattle.products.specs.Centred.{zeroCentred, AllNumbers, Added, refusedCentred, CentredSum}
 use Rattle.products.proofs.Or.{or-first, or-second, or-cases}

@@ -8,7 +8,7 @@ use native.Mathlib.Omega.{arith}
 use lib.Dec.{eqb}
 use borrow.Author.Tests.{eqb-true}
 use Rattle.enclosure.specs.Methods.{Method, classical, three, four, seven}
-use Rattle.products.specs.Checks.{methodOf, chosen}
+use Rattle.matrices.specs.Checks.{methodOf, chosen}
 use Rattle.products.proofs.EntryExt.{ByMidRad, is-three, is-four, is-seven}
 
 pub chosen-1 : (n : ℕ) → n ≡ 1 → classical ≡ chosen n

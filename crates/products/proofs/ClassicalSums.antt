@@ -14,17 +14,17 @@ use Rattle.enclosure.specs.Methods.{Range, classical, leastTerm, greatestTerm, 
 use Rattle.enclosure.specs.Sums.{sum}
 use Rattle.binary32.specs.Number.{valueOf}
 use Rattle.products.specs.declared.sums.Sums.{Sums}
-use Rattle.products.specs.Number.{worth, Holds}
+use Rattle.unpacked.specs.Number.{worth, Holds}
 use Rattle.products.specs.declared.apart.Apart.{Apart}
 use Rattle.products.specs.Apart.{lowerNumber, upperNumber}
-use Rattle.products.specs.Corners.{leastProduct, greatestProduct}
+use Rattle.unpacked.specs.Corners.{leastProduct, greatestProduct}
 use Rattle.products.specs.Running.{BothNumbers, Stepped, Sum, refusedSums, zeroSums}
-use Rattle.products.specs.Matrix.{Matrix, cellAt, lowerAt, upperAt}
+use Rattle.matrices.specs.Matrix.{Matrix, cellAt, lowerAt, upperAt}
 use Rattle.products.specs.Entries.{entryOf}
 use Rattle.products.proofs.Or.{or-first, or-second, or-cases}
 use Rattle.products.proofs.Carrying.{zero-runs, holds-runs, holds-none, sum-stays, mirrored-is, negate-none, down-more, up-more}
 use Rattle.products.proofs.Pairs.{Taken}
-use Rattle.products.proofs.CornerTerms.{least-term, greatest-term, ZeroTerms}
+use Rattle.unpacked.proofs.CornerTerms.{least-term, greatest-term, ZeroTerms}
 use Rattle.products.proofs.Zeros.{down-same, up-same}
 
 pub both-numbers : {low high : Option ℤ} (s : Sums) → Sum low high s → BothNumbers s

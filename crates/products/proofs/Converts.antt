@@ -7,7 +7,7 @@ use Rattle.refusals.proofs.Answers.{gives-injective, not-both, passing-on}
 use Rattle.intervals.specs.declared.Converted.{Converted}
 use Rattle.intervals.specs.declared.Converted.the-variants.{MidRad, Refused}
 use Rattle.intervals.specs.Conversion.{converted, midradOf}
-use Rattle.products.specs.Matrix.{Matrix, lowerAt, upperAt, midAt, radAt, faultAt}
+use Rattle.matrices.specs.Matrix.{Matrix, lowerAt, upperAt, midAt, radAt, faultAt}
 
 -- at position c of X, for the answer z of the conversion
 module _ (X : Matrix) (c : ℕ) (fine : faultAt X c ≡ 0) (z : Converted) (e : converted z ≡ midradOf (lowerAt X c) (upperAt X c)) where

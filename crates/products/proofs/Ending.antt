@@ -15,13 +15,13 @@ use Rattle.rounding.specs.Format.{binary32}
 use Rattle.rounding.specs.Rounding.{up, down, negate}
 use Rattle.enclosure.specs.Arithmetic.{of}
 use Rattle.enclosure.specs.Methods.{Range, ends, entry}
-use Rattle.products.specs.declared.number.Number.{Number}
+use Rattle.unpacked.specs.declared.Number.{Number}
 use Rattle.products.specs.declared.sums.Sums.{Sums}
-use Rattle.products.specs.Number.{worth, Runs}
+use Rattle.unpacked.specs.Number.{worth, Runs}
 use Rattle.products.specs.Running.{Ended, BothNumbers, refusedSums}
 use Rattle.products.specs.MidRad.{Sized}
 use Rattle.products.specs.Derived.{MidRad}
-use Rattle.products.proofs.Writing.{below, small}
+use Rattle.matrices.proofs.Places.{below, small}
 use Rattle.products.proofs.Carrying.{holds-runs, holds-none, mirrored-is, negate-none}
 use Rattle.products.proofs.Or.{or-first, or-second, or-cases}
 use Rattle.products.proofs.CentredSteps.{OneNone}

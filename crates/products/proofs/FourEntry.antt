@@ -18,17 +18,17 @@ use Rattle.enclosure.specs.Methods.{Method, Range, four, midTerm, innerTerm, ou
 use Rattle.binary32.specs.Number.{valueOf, held}
 use Rattle.binary32.specs.Operations.{Way, mul, with₂}
 use Rattle.binary32.specs.Order.{magnitudeOf}
-use Rattle.products.specs.declared.number.Number.{Number}
+use Rattle.unpacked.specs.declared.Number.{Number}
 use Rattle.products.specs.declared.centred.Centred.{Centred}
 use Rattle.products.specs.declared.sums.Sums.{Sums}
-use Rattle.products.specs.Number.{worth, IsNumber, Below, Holds, Runs}
+use Rattle.unpacked.specs.Number.{worth, IsNumber, Below, Holds, Runs}
 use Rattle.products.specs.Running.{Ended}
 use Rattle.products.specs.Centred.{addsOf, zeroCentred, AllNumbers, Added, Grown, refusedCentred, CentredSum}
 use Rattle.products.specs.Derived.{outerOf}
 use Rattle.products.specs.MidRad.{midRadAt, entryFrom}
 use Rattle.products.proofs.Writing.{position-entry-from}
 use Rattle.products.proofs.Carrying.{holds-runs, holds-none, mirrored-is, negate-none, up-more, sum-stays}
-use Rattle.products.proofs.CornerTerms.{zero-value}
+use Rattle.unpacked.proofs.CornerTerms.{zero-value}
 use Rattle.products.proofs.Radii.{grown-below}
 use Rattle.products.proofs.MidRadSteps.{mid-is, inner-is, outer-is}
 use Rattle.products.proofs.CentredSteps.{CentredHolds, OneNone, all-numbers, centred-runs, centred-none, centred-more, centred-none-yet, one-stays, radius-from}

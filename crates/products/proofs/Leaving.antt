@@ -21,14 +21,14 @@ use Rattle.intervals.specs.Slices.{zeros, cleared}
 use Rattle.intervals.proofs.Clearing.{cleared-front}
 use Rattle.products.specs.declared.sums.Place.{Place}
 use Rattle.products.specs.declared.sums.Place.the-variants.{Nowhere, At}
-use Rattle.products.specs.Lists.{tabulate, front}
-use Rattle.products.specs.Matrix.{midAt, radAt}
+use Rattle.matrices.specs.Lists.{tabulate, front}
+use Rattle.matrices.specs.Matrix.{midAt, radAt}
 use Rattle.products.specs.MidRad.{entryFrom}
 use Rattle.products.specs.Entries.{entryAt, refused, lowerOf, upperOf, stopOf, placeOf, Written}
-use Rattle.products.specs.Checks.{Given, chosen, checkOf}
+use Rattle.matrices.specs.Checks.{Given, chosen, checkOf}
 use Rattle.products.specs.Product.{Left, InReach, Finished, entries, cells, stop, productOf, resultAfter, workAfter, answerAt, clearedAt}
-use Rattle.products.proofs.Firsts.{first-le}
-use Rattle.products.proofs.Fronts.{tabulate-length}
+use Rattle.matrices.proofs.Firsts.{first-le}
+use Rattle.matrices.proofs.Fronts.{tabulate-length}
 use Rattle.products.proofs.EntryExt.{ByMidRad}
 use Rattle.products.proofs.Chosen.{chosen-1}
 use Rattle.products.proofs.MidRads.{Converted, entries-from}

@@ -15,7 +15,7 @@ use Rattle.binary32.specs.Number.{valueOf, Finite, held}
 use Rattle.binary32.specs.Operations.{Way, mul, with₂}
 use Rattle.binary32.specs.Order.{magnitudeOf}
 use Rattle.products.specs.Derived.{outerOf, raisedOf, factorOf, partOf}
-use Rattle.products.proofs.Patterns.{held-is, held-magnitude}
+use Rattle.unpacked.proofs.Patterns.{held-is, held-magnitude}
 use Rattle.products.proofs.Radii.{held-size, outer-above, raised-above}
 
 -- ---- products of what two patterns hold

@@ -16,14 +16,14 @@ use Rattle.binary32.proofs.Held.{pattern-value, pattern-finite}
 use Rattle.intervals.specs.Conversion.{midOf, radOf}
 use Rattle.intervals.proofs.Rounded.{mid-num, rad-num}
 use Rattle.intervals.proofs.Faults.{Ordered, fine-tells}
-use Rattle.products.specs.Lists.{front}
-use Rattle.products.specs.Matrix.{Matrix, AllFine, lowerAt, upperAt, cellAt, midAt, radAt}
+use Rattle.matrices.specs.Lists.{front}
+use Rattle.matrices.specs.Matrix.{Matrix, AllFine, lowerAt, upperAt, cellAt, midAt, radAt}
 use Rattle.products.specs.Derived.{MidRad, MidRads}
 use Rattle.products.specs.MidRad.{midRadAt, entryFrom}
 use Rattle.products.specs.Entries.{entryOf, entryAt}
 use Rattle.products.proofs.EntryExt.{ByMidRad, bare, entry-ext, entry-bare}
-use Rattle.products.proofs.Fronts.{getD-front, length-front}
-use Rattle.products.proofs.Writing.{below}
+use Rattle.matrices.proofs.Fronts.{getD-front, length-front}
+use Rattle.matrices.proofs.Places.{below}
 
 -- ---- a cell without a fault
 module _ (X : Matrix) (c : ℕ) (o : Ordered (lowerAt X c) (upperAt X c)) where

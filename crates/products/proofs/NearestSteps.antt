@@ -11,13 +11,13 @@ use Rattle.algebra.specs.Order.{_≼_}
 use Rattle.rounding.proofs.Sign.{neg-le-pos}
 use Rattle.rounding.specs.Format.{binary32, MAX}
 use Rattle.rounding.specs.Rounding.{up, negate}
-use Rattle.products.specs.declared.number.Number.{Number}
+use Rattle.unpacked.specs.declared.Number.{Number}
 use Rattle.products.specs.declared.nearest.Nearest.{Nearest}
-use Rattle.products.specs.Number.{worth, Below, Holds, Runs, Opposite, minusTiny}
+use Rattle.unpacked.specs.Number.{worth, Below, Holds, Runs, Opposite, minusTiny}
 use Rattle.products.specs.Running.{plusDown}
 use Rattle.products.specs.Centred.{refusedNearest, NearestSum}
 use Rattle.products.proofs.Carrying.{holds-runs, holds-none, negate-none, mirror-plus, mirrored-is}
-use Rattle.products.proofs.Opposites.{opposite-number}
+use Rattle.unpacked.proofs.Opposites.{opposite-number}
 use Rattle.products.proofs.Or.{or-first, or-second, or-cases}
 
 -- the same where each of the two is a number or none

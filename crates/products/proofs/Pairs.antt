@@ -12,16 +12,16 @@ use Rattle.binary32.specs.Number.{valueOf}
 use Rattle.binary32.specs.Order.{magnitudeOf}
 use Rattle.binary32.proofs.Held.{finite-is, finites-first, finites-second}
 use Rattle.intervals.proofs.Faults.{fine-tells}
-use Rattle.products.specs.declared.number.Number.{Number}
+use Rattle.unpacked.specs.declared.Number.{Number}
 use Rattle.products.specs.declared.apart.Apart.{Apart}
-use Rattle.products.specs.Number.{worth, IsNumber}
+use Rattle.unpacked.specs.Number.{worth, IsNumber}
 use Rattle.products.specs.Apart.{IsApart, lowerNumber, upperNumber}
-use Rattle.products.specs.Corners.{Cells}
-use Rattle.products.specs.Matrix.{Matrix, AllFine, lowerAt, upperAt}
-use Rattle.products.proofs.Worths.{worth-is, exp-some, exp-low}
-use Rattle.products.proofs.FarShifts.{natAbs-zero}
-use Rattle.products.proofs.Multiplying.{unpacked-number}
-use Rattle.products.proofs.CornerSteps.{Worth}
+use Rattle.products.specs.Apart.{Cells}
+use Rattle.matrices.specs.Matrix.{Matrix, AllFine, lowerAt, upperAt}
+use Rattle.unpacked.proofs.Worths.{worth-is, exp-some, exp-low}
+use Rattle.unpacked.proofs.FarShifts.{natAbs-zero}
+use Rattle.unpacked.proofs.Multiplying.{unpacked-number}
+use Rattle.unpacked.proofs.CornerSteps.{Worth}
 
 -- the cell at position p of A, taken apart
 pub record Taken (A : Matrix) (p : ℕ) (a : Apart) : Type 0 where

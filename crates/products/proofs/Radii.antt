@@ -23,12 +23,12 @@ use Rattle.enclosure.specs.Methods.{outerRadius, raisedRadius}
 use Rattle.binary32.specs.Number.{valueOf, finite, held}
 use Rattle.binary32.specs.Operations.{mul, with₂}
 use Rattle.binary32.specs.Order.{magnitudeOf}
-use Rattle.products.specs.declared.number.Number.{Number}
-use Rattle.products.specs.Number.{worth, Below, Holds}
+use Rattle.unpacked.specs.declared.Number.{Number}
+use Rattle.unpacked.specs.Number.{worth, Below, Holds}
 use Rattle.products.specs.Running.{plusDown}
 use Rattle.products.specs.Centred.{Grown}
 use Rattle.products.specs.Derived.{outerOf, raisedOf}
-use Rattle.products.proofs.Patterns.{magnitude-value, magnitude-test}
+use Rattle.unpacked.proofs.Patterns.{magnitude-value, magnitude-test}
 
 -- ---- partial results that are not below zero, and not above
 abbrev pub NotBelow : Option ℤ → Type 0

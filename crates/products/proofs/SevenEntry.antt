@@ -14,10 +14,10 @@ use Rattle.enclosure.specs.Sums.{sum}
 use Rattle.enclosure.specs.Methods.{seven, partTerm, sharedTerm, total, radius₄, radius₇, centre, centre₇, ends, entry}
 use Rattle.binary32.specs.Number.{valueOf, held}
 use Rattle.binary32.specs.Operations.{Way}
-use Rattle.products.specs.declared.number.Number.{Number}
+use Rattle.unpacked.specs.declared.Number.{Number}
 use Rattle.products.specs.declared.centred.Centred.{Centred}
 use Rattle.products.specs.declared.sums.Sums.{Sums}
-use Rattle.products.specs.Number.{worth, IsNumber, Holds, Runs}
+use Rattle.unpacked.specs.Number.{worth, IsNumber, Holds, Runs}
 use Rattle.products.specs.Running.{Ended}
 use Rattle.products.specs.Centred.{AllNumbers, Added, Shrunk, refusedCentred, CentredSum}
 use Rattle.products.specs.Derived.{outerOf, partOf}

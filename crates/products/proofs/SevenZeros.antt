@@ -18,12 +18,12 @@ use Rattle.enclosure.specs.Methods.{part, partTerm, sharedTerm}
 use Rattle.binary32.specs.Number.{valueOf, Finite, held}
 use Rattle.binary32.specs.Operations.{Way}
 use Rattle.binary32.specs.Order.{magnitudeOf}
-use Rattle.products.specs.declared.number.Number.{Number}
+use Rattle.unpacked.specs.declared.Number.{Number}
 use Rattle.products.specs.declared.centred.Centred.{Centred}
 use Rattle.products.specs.Centred.{addsOf}
 use Rattle.products.specs.Derived.{outerOf}
-use Rattle.products.proofs.CornerTerms.{zero-value, zero-left}
-use Rattle.products.proofs.Patterns.{held-is}
+use Rattle.unpacked.proofs.CornerTerms.{zero-value, zero-left}
+use Rattle.unpacked.proofs.Patterns.{held-is}
 use Rattle.products.proofs.Zeros.{up-same, centred-same, magnitude-zero, adds-not, down-zero, up-zero, outer-zero}
 use Rattle.products.proofs.FourEntry.{Spot, a-mid, a-rad, b-mid, b-rad, left, right, outers}
 use Rattle.products.proofs.SevenEntry.{Made, parts, PartSum, shareds, SharedSum}

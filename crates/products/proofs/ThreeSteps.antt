@@ -14,17 +14,17 @@ use Rattle.enclosure.specs.Methods.{raisedTerm, total, radius₃, centre, ends,
 use Rattle.enclosure.specs.Sums.{sum}
 use Rattle.binary32.specs.Number.{valueOf, held}
 use Rattle.binary32.specs.Operations.{mul, with₂}
-use Rattle.products.specs.declared.number.Number.{Number}
+use Rattle.unpacked.specs.declared.Number.{Number}
 use Rattle.products.specs.declared.nearest.Nearest.{Nearest}
 use Rattle.products.specs.declared.sums.Sums.{Sums}
-use Rattle.products.specs.Number.{worth, IsNumber, Below, Holds, Runs, Opposite, minusTiny}
+use Rattle.unpacked.specs.Number.{worth, IsNumber, Below, Holds, Runs, Opposite, minusTiny}
 use Rattle.products.specs.Running.{plusDown, Ended}
 use Rattle.products.specs.Centred.{zeroNearest, NearNumbers, NearAdded, refusedNearest, NearestSum, addsOf}
 use Rattle.products.specs.Derived.{raisedOf, factorOf}
 use Rattle.products.proofs.Writing.{position-entry-from}
 use Rattle.products.proofs.Carrying.{holds-runs, holds-none, zero-runs, zero-below, mirrored-is, negate-none, any-more, up-more, sum-stays}
 use Rattle.products.proofs.Radii.{plus-below, grown-below}
-use Rattle.products.proofs.CornerTerms.{zero-value}
+use Rattle.unpacked.proofs.CornerTerms.{zero-value}
 use Rattle.products.proofs.Zeros.{near-same, up-same, adds-not, near-zero, mid-zero, raised-zero}
 use Rattle.products.proofs.MidRadSteps.{mid-is, raised-is}
 use Rattle.products.proofs.CentredSteps.{OneNone}

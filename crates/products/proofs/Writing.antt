@@ -4,9 +4,8 @@ use mathlib.Core.Bool.{true, false}
 use mathlib.Core.List.{List}
 use mathlib.Core.Option.{Option, none, some}
 use Prim.Native.Nat.{ℕ, _+_, _*_, _/_, _%_, _≤_, _<_}
-use native.Mathlib.Nat.{mul-le-mul}
 use native.Mathlib.Omega.{arith}
-use lib.Arith.{digits-div, digits-mod, digits-lt}
+use lib.Arith.{digits-div, digits-mod}
 use lib.Dec.{ltb}
 use borrow.Author.Tests.{lt-ltb, le-ltb}
 use Rattle.rounding.specs.Format.{binary32}
@@ -14,18 +13,11 @@ use Rattle.enclosure.specs.Arithmetic.{of}
 use Rattle.enclosure.specs.Methods.{Method, Range, entry}
 use Rattle.binary32.specs.Number.{patternOf}
 use Rattle.products.specs.declared.sums.Place.the-variants.{Nowhere, At}
-use Rattle.products.specs.Matrix.{Matrix}
+use Rattle.matrices.specs.Matrix.{Matrix}
 use Rattle.products.specs.MidRad.{midRadAt, entryFrom}
 use Rattle.products.specs.Entries.{entryOf, entryAt, refused, lowerOf, upperOf, stopOf, Written}
-use Rattle.products.proofs.Fronts.{Filled, filled-is}
-use Rattle.products.proofs.Firsts.{first-none, first-more, first-here}
-
--- a row and a column make a place below the product of the sizes
-pub below : (i m j n : ℕ) → i < m → j < n → i * n + j < m * n
-below i m j n h k = digits-lt h k
-
-pub small : (i j : ℕ) → i ≤ 32 → j ≤ 32 → i * j ≤ 1024
-small i j h k = mul-le-mul h k
+use Rattle.matrices.proofs.Fronts.{Filled, filled-is}
+use Rattle.matrices.proofs.Firsts.{first-none, first-more, first-here}
 
 -- ---- the entry at the place of row i and column j
 position-row : (i j n c : ℕ) → c ≡ i * n + j → j < n → c / n ≡ i

@@ -6,11 +6,11 @@ use Prim.Native.Nat.{ℕ, _*_, _<_, _≤_}
 use native.Mathlib.Omega.{arith}
 use Rattle.enclosure.specs.Methods.{Method, Range}
 use Rattle.products.specs.declared.sums.Place.{Place}
-use Rattle.products.specs.Lists.{front}
+use Rattle.matrices.specs.Lists.{front}
 use Rattle.products.specs.MidRad.{entryFrom}
 use Rattle.products.specs.Entries.{refused, lowerOf, upperOf, stopOf, placeOf, Written}
-use Rattle.products.proofs.Firsts.{first-le, first-ext}
-use Rattle.products.proofs.Fronts.{front-ext}
+use Rattle.matrices.proofs.Firsts.{first-le, first-ext}
+use Rattle.matrices.proofs.Fronts.{front-ext}
 
 module _ (E E′ : ℕ → Option Range) (m n : ℕ) (same : (c : ℕ) → c < m * n → E c ≡ E′ c) where
   stop-ext : stopOf E (m * n) ≡ stopOf E′ (m * n)

@@ -23,16 +23,16 @@ use Rattle.enclosure.specs.Sums.{sum}
 use Rattle.binary32.specs.Number.{valueOf, Finite, held}
 use Rattle.binary32.specs.Operations.{Way}
 use Rattle.binary32.specs.Order.{magnitudeOf}
-use Rattle.products.specs.declared.number.Number.{Number}
+use Rattle.unpacked.specs.declared.Number.{Number}
 use Rattle.products.specs.declared.centred.Centred.{Centred}
-use Rattle.products.specs.Number.{worth, Runs}
+use Rattle.unpacked.specs.Number.{worth, Runs}
 use Rattle.products.specs.Centred.{addsOf, CentredSum}
 use Rattle.products.specs.Derived.{outerOf, raisedOf, factorOf}
-use Rattle.products.proofs.Packing.{num-of}
+use Rattle.unpacked.proofs.Packing.{num-of}
 use Rattle.products.proofs.Carrying.{sum-next, mirrored-is}
 use Rattle.products.proofs.Or.{or-first, or-second}
-use Rattle.products.proofs.CornerTerms.{zero-value, zero-left}
-use Rattle.products.proofs.Patterns.{held-is}
+use Rattle.unpacked.proofs.CornerTerms.{zero-value, zero-left}
+use Rattle.unpacked.proofs.Patterns.{held-is}
 
 -- ---- a sum with zero more is itself
 plus-zero : (v : ℤ) → v +ℤ pos 0 ≡ v *ℤ pos 1

@@ -1,9 +1,10 @@
 -- A cell taken apart: the numbers of its bounds. Definitions only, for the contracts of inner functions.
 use Prim.Native.Nat.{ℕ}
 use lib.IntN.{pos}
-use Rattle.products.specs.declared.number.Number.{Number}
+use Rattle.unpacked.specs.declared.Number.{Number}
+use Rattle.binary32.specs.Number.{Finite}
 use Rattle.products.specs.declared.apart.Apart.{Apart}
-use Rattle.products.specs.Number.{Unpacked}
+use Rattle.unpacked.specs.Number.{Unpacked, IsNumber}
 
 abbrev pub lowerNumber : Apart → Number
 lowerNumber a = record { sig = a .«lower_sig»; exp = a .«lower_exp» }
@@ -18,3 +19,10 @@ pub record IsApart (lo hi : ℕ) (a : Apart) : Type 0 where
 
 abbrev pub zeroApart : Apart
 zeroApart = record { «lower_sig» = pos 0; «upper_sig» = pos 0; «lower_exp» = 0; «upper_exp» = 0 }
+
+-- the bounds of a cell taken apart, and of one in patterns, are numbers
+pub record Cells (a : Apart) (bl bu : ℕ) : Type 0 where
+  pub a-lower : IsNumber (lowerNumber a)
+  pub a-upper : IsNumber (upperNumber a)
+  pub b-lower : Finite bl
+  pub b-upper : Finite bu

@@ -8,10 +8,10 @@ use Rattle.rounding.specs.Format.{binary32}
 use Rattle.rounding.specs.Rounding.{up, down, near, negate}
 use Rattle.binary32.specs.Operations.{mul, with₂}
 use Rattle.binary32.specs.Order.{magnitudeOf}
-use Rattle.products.specs.declared.number.Number.{Number}
+use Rattle.unpacked.specs.declared.Number.{Number}
 use Rattle.products.specs.declared.centred.Centred.{Centred}
 use Rattle.products.specs.declared.nearest.Nearest.{Nearest}
-use Rattle.products.specs.Number.{worth, IsNumber, Below, Holds, Runs, zeroNumber}
+use Rattle.unpacked.specs.Number.{worth, IsNumber, Below, Holds, Runs, zeroNumber}
 use Rattle.products.specs.Running.{plusDown}
 
 -- ---- a radius, kept with the other sign, so that it is not above zero and is rounded down

@@ -8,8 +8,8 @@ use Rattle.enclosure.specs.Demand.{Kept}
 use Rattle.enclosure.specs.Methods.{Range}
 use Rattle.refusals.specs.Answer.{done}
 use Rattle.binary32.specs.Number.{valueOf}
-use Rattle.products.specs.Matrix.{cellAt}
-use Rattle.products.specs.Checks.{Given, chosen}
+use Rattle.matrices.specs.Matrix.{cellAt}
+use Rattle.matrices.specs.Checks.{Given, chosen}
 use Rattle.products.specs.Product.{productOf}
 
 -- A's row i and B's column j, as handed in

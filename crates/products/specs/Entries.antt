@@ -12,8 +12,8 @@ use Rattle.enclosure.specs.Methods.{Method, Range, entry}
 use Rattle.binary32.specs.Number.{patternOf}
 use Rattle.products.specs.declared.sums.Place.{Place}
 use Rattle.products.specs.declared.sums.Place.the-variants.{Nowhere, At}
-use Rattle.products.specs.Lists.{front, first}
-use Rattle.products.specs.Matrix.{Matrix, AllFine, cellAt}
+use Rattle.matrices.specs.Lists.{front, first}
+use Rattle.matrices.specs.Matrix.{Matrix, AllFine, cellAt}
 
 -- ---- one entry
 

@@ -1,15 +1,8 @@
-pub mod Lists
-pub mod Number
 pub mod Apart
-pub mod Cuts
-pub mod Exact
-pub mod Corners
 pub mod Running
 pub mod Centred
 pub mod Derived
-pub mod Matrix
 pub mod MidRad
 pub mod Entries
-pub mod Checks
 pub mod Product
 pub mod Demand

@@ -11,10 +11,10 @@ use Rattle.refusals.specs.Answer.{Answer, refuses, done, then, unlessRefused}
 use Rattle.intervals.specs.Slices.{zeros}
 use Rattle.products.specs.declared.sums.Place.{Place}
 use Rattle.products.specs.declared.sums.Place.the-variants.{Nowhere, At}
-use Rattle.products.specs.Lists.{front}
-use Rattle.products.specs.Matrix.{midAt, radAt}
+use Rattle.matrices.specs.Lists.{front}
+use Rattle.matrices.specs.Matrix.{midAt, radAt}
 use Rattle.products.specs.Entries.{entryAt, stopOf, lowerOf, upperOf}
-use Rattle.products.specs.Checks.{Given, chosen, checkOf}
+use Rattle.matrices.specs.Checks.{Given, chosen, checkOf}
 
 -- the entries by place
 abbrev pub entries : Given → ℕ → Option Range

@@ -7,12 +7,12 @@ use lib.IntN.{ℤ, _+ℤ_}
 use Rattle.rounding.specs.Format.{binary32}
 use Rattle.rounding.specs.Rounding.{down, negate}
 use Rattle.binary32.specs.Number.{valueOf}
-use Rattle.products.specs.declared.number.Number.{Number}
+use Rattle.unpacked.specs.declared.Number.{Number}
 use Rattle.products.specs.declared.apart.Apart.{Apart}
 use Rattle.products.specs.declared.sums.Sums.{Sums}
-use Rattle.products.specs.Number.{worth, IsNumber, Holds, Runs, zeroNumber}
+use Rattle.unpacked.specs.Number.{worth, IsNumber, Holds, Runs, zeroNumber}
 use Rattle.products.specs.Apart.{lowerNumber, upperNumber}
-use Rattle.products.specs.Corners.{leastProduct, greatestProduct}
+use Rattle.unpacked.specs.Corners.{leastProduct, greatestProduct}
 
 -- a sum v with a term more, rounded down
 abbrev pub plusDown : ℤ → Option ℤ → Option ℤ

@@ -2,10 +2,10 @@
 ghost use mathlib.Core.Path.{_≡_};
 ghost use Prim.Native.Nat.{_+_};
 ghost use lib.Dec.{ltb};
-ghost use Rattle.products.specs.Number.{IsNumber};
+ghost use Rattle.unpacked.specs.Number.{IsNumber};
 ghost use Rattle.products.specs.Apart.{IsApart, lowerNumber, upperNumber, zeroApart};
-use crate::number::Number;
 use crate::pattern::unpack;
+use unpacked::Number;
 
 // A cell taken apart: significands and exponents of its bounds. Flat, so that it has no padding and an array of it is cleared at once.
 pub struct Apart {

@@ -2,8 +2,8 @@
 ghost use mathlib.Core.Path.{_≡_};
 ghost use Prim.Native.Nat.{_≤_};
 ghost use lib.ListN.{length};
-ghost use Rattle.products.specs.Lists.{front};
-ghost use Rattle.products.specs.Matrix.{Matrix, AllFine, midAt, radAt};
+ghost use Rattle.matrices.specs.Lists.{front};
+ghost use Rattle.matrices.specs.Matrix.{Matrix, AllFine, midAt, radAt};
 use intervals::Converted;
 use intervals::to_midrad;
 

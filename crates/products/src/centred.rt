@@ -5,10 +5,7 @@ ghost use lib.Dec.{ltb};
 ghost use Rattle.binary32.specs.Number.{Finite};
 ghost use Rattle.binary32.specs.Order.{magnitudeOf};
 ghost use Rattle.products.specs.Centred.{AllNumbers, Added, refusedCentred, zeroCentred, addsOf};
-use crate::number::Number;
 use crate::number::absolute;
-use crate::number::is_none;
-use crate::number::zero;
 use crate::pattern::unpack;
 use crate::plus::plus_down;
 use crate::plus::plus_negative;
@@ -16,6 +13,9 @@ use crate::rounded::rounded_down;
 use crate::rounded::rounded_up;
 use crate::times::times;
 use binary32::order::magnitude;
+use unpacked::Number;
+use unpacked::is_none;
+use unpacked::zero;
 
 // The lower centre, and the opposites of the upper centre and of the radius: all are rounded down.
 pub struct Centred {

@@ -5,7 +5,7 @@ ghost use Prim.Native.Nat.{_+_};
 ghost use lib.Dec.{ltb};
 ghost use Rattle.enclosure.specs.Methods.{classical};
 ghost use Rattle.binary32.specs.Order.{magnitudeOf};
-ghost use Rattle.products.specs.Matrix.{Matrix};
+ghost use Rattle.matrices.specs.Matrix.{Matrix};
 ghost use Rattle.products.specs.Entries.{Sizes, entryAt, Written};
 use crate::apart::Apart;
 use crate::sums::Place;

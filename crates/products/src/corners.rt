@@ -2,17 +2,12 @@
 ghost use mathlib.Core.Path.{_≡_};
 ghost use lib.IntN.{natAbs};
 ghost use Prim.Native.Nat.{_^_, _≤_};
-ghost use Rattle.products.specs.Exact.{Factors};
-ghost use Rattle.products.specs.Corners.{CornerIs, rankOf, lesserOf, greaterOf};
-use crate::number::Number;
-use crate::times::Product;
+ghost use Rattle.unpacked.specs.Exact.{Factors};
+ghost use Rattle.unpacked.specs.Corners.{CornerIs, rankOf, lesserOf, greaterOf};
 use crate::times::times;
-
-// An exact product and its rank among all: exponent and digits in one whole number, whose order is that of the products.
-pub struct Corner {
-    pub product: Product,
-    pub rank: i64,
-}
+use unpacked::Corner;
+use unpacked::Number;
+use unpacked::Product;
 
 fn rank(sig: i64, exp: u32) -> i64
     requires { ⌜ (natAbs sig ≤ 2 ^ 48) × (exp ≤ 5000) ⌝ }

@@ -8,10 +8,10 @@ ghost use Rattle.products.specs.Entries.{Written};
 use crate::centred::Centred;
 use crate::centred::adds;
 use crate::centred::is_nonzero;
-use crate::number::is_none;
 use crate::radius::outer_four;
 use crate::sums::Place;
 use crate::sums::ends;
+use unpacked::is_none;
 
 // From midpoints and radii; wb has |m| + r of B's cells.
 pub fn entries(

@@ -4,11 +4,9 @@ ghost use Prim.Native.Nat.{_^_, _≤_, _<_};
 ghost use lib.IntN.{ℤ, natAbs, _+ℤ_};
 ghost use Rattle.rounding.specs.Format.{binary32};
 ghost use Rattle.rounding.specs.Rounding.{near};
-ghost use Rattle.products.specs.Number.{worth, Normal, IsNumber, Holds, Part};
-ghost use Rattle.products.specs.Cuts.{Summands, SumNear, limitedNear, CutNear, Marked};
-use crate::number::Number;
+ghost use Rattle.unpacked.specs.Number.{worth, Normal, IsNumber, Holds, Part};
+ghost use Rattle.unpacked.specs.Cuts.{Summands, SumNear, limitedNear, CutNear, Marked};
 use crate::number::fits;
-use crate::number::none;
 use crate::number::or_low;
 use crate::shifts::added;
 use crate::shifts::cap;
@@ -19,6 +17,8 @@ use crate::shifts::raised;
 use crate::shifts::widened;
 use crate::summands::first;
 use crate::summands::second;
+use unpacked::Number;
+use unpacked::none;
 
 // w × 2^(exp - 436) units, rounded to nearest, to 24 digits.
 fn cut_near(w: i64, exp: u32) -> Number

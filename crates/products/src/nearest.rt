@@ -3,16 +3,16 @@ ghost use mathlib.Core.Path.{_≡_};
 ghost use Rattle.binary32.specs.Number.{Finite};
 ghost use Rattle.products.specs.Centred.{NearNumbers, NearAdded, refusedNearest, zeroNearest};
 use crate::near::plus_near;
-use crate::number::Number;
 use crate::number::absolute;
-use crate::number::is_none;
-use crate::number::zero;
 use crate::pattern::unpack;
 use crate::plus::plus_negative;
 use crate::rounded::rounded_near;
 use crate::rounded::rounded_up;
 use crate::times::times;
 use binary32::order::magnitude;
+use unpacked::Number;
+use unpacked::is_none;
+use unpacked::zero;
 
 // The centre, to nearest, and the opposite of the radius.
 pub struct Nearest {

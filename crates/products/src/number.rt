@@ -5,51 +5,14 @@ ghost use Prim.Native.Nat.{_^_, _≤_};
 ghost use lib.Dec.{leb, ltb};
 ghost use lib.IntN.{natAbs};
 ghost use Rattle.rounding.specs.Format.{binary32, MAX};
-ghost use Rattle.products.specs.Number.{worth, Normal, Holds, Opposite, Absolute, zeroNumber, noNumber, minusTiny};
-ghost use Rattle.products.specs.Cuts.{CutDown, OrLow};
+ghost use Rattle.unpacked.specs.Number.{worth, Normal, Holds, Opposite, Absolute, zeroNumber, noNumber, minusTiny};
+ghost use Rattle.unpacked.specs.Cuts.{CutDown, OrLow};
 use crate::shifts::digits;
 use crate::shifts::lowered;
 use crate::shifts::raised;
 use crate::shifts::size;
 use crate::shifts::widened;
-
-// sig × 2^(exp - 400) units: 24 digits, or 2^24. Zero has the exponent 64, far below all others; none, a value far below all numbers, has 2000.
-pub struct Number {
-    pub sig: i64,
-    pub exp: u32,
-}
-
-pub fn zero() -> Number
-    ensures { λ r. ⌜ r ≡ zeroNumber ⌝ }
-{
-    Number { sig: 0, exp: 64 }
-}
-
-pub fn none() -> Number
-    ensures { λ r. ⌜ r ≡ noNumber ⌝ }
-{
-    Number {
-        sig: -0x80_0000,
-        exp: 2000,
-    }
-}
-
-// -2^-125: 2^23 × 2^(401 - 400) units, with the other sign.
-pub fn minus_tiny() -> Number
-    ensures { λ r. ⌜ r ≡ minusTiny ⌝ }
-{
-    Number {
-        sig: -0x80_0000,
-        exp: 401,
-    }
-}
-
-// Whether x, a number or none, is none.
-pub fn is_none(x: Number) -> bool
-    ensures { λ r. ⌜ r ≡ ltb 653 (x .exp) ⌝ }
-{
-    653 < x.exp
-}
+use unpacked::Number;
 
 // Whether x is not beyond the largest number.
 pub fn fits(x: Number) -> bool

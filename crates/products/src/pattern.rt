@@ -5,14 +5,14 @@ ghost use mathlib.Core.Logic.{_⊎_};
 ghost use Prim.Native.Nat.{_*_, _%_, _^_, _≤_, _<_};
 ghost use lib.Dec.{ltb};
 ghost use Rattle.binary32.specs.Number.{patternOf};
-ghost use Rattle.products.specs.Number.{worth, IsNumber, Unpacked};
-ghost use Rattle.products.specs.Cuts.{fieldsOf};
-use crate::number::Number;
-use crate::number::none;
+ghost use Rattle.unpacked.specs.Number.{worth, IsNumber, Unpacked};
+ghost use Rattle.unpacked.specs.Cuts.{fieldsOf};
 use crate::number::whole;
 use crate::shifts::cap;
 use crate::shifts::size;
 use crate::shifts::with_sign;
+use unpacked::Number;
+use unpacked::none;
 
 // What a pattern holds that is not a normal number: zero, a subnormal number, or none.
 fn unpack_other(p: u32) -> Number

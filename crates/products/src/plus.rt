@@ -4,14 +4,14 @@ ghost use Prim.Native.Nat.{_≤_};
 ghost use lib.IntN.{ℤ, _+ℤ_};
 ghost use Rattle.rounding.specs.Format.{binary32};
 ghost use Rattle.rounding.specs.Rounding.{down};
-ghost use Rattle.products.specs.Number.{worth, Normal, IsNumber, Below, Holds, Part};
-ghost use Rattle.products.specs.Cuts.{Summands, SumDown, CutNegative, Filled, limited};
-use crate::number::Number;
+ghost use Rattle.unpacked.specs.Number.{worth, Normal, IsNumber, Below, Holds, Part};
+ghost use Rattle.unpacked.specs.Cuts.{Summands, SumDown, CutNegative, Filled, limited};
 use crate::number::cut_down;
 use crate::number::fits;
-use crate::number::none;
 use crate::shifts::lowered;
 use crate::summands::align;
+use unpacked::Number;
+use unpacked::none;
 
 // x + y, rounded down to 24 digits, with no upper limit.
 fn add_down(x: Number, y: Number) -> Number

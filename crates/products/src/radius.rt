@@ -1,7 +1,6 @@
 // A radius with a product more or less. It is kept with the other sign, so that what is rounded up is rounded down. Each loop has its own function, which the compiler puts into it.
-ghost use Rattle.products.specs.Number.{IsNumber, Below};
+ghost use Rattle.unpacked.specs.Number.{IsNumber, Below};
 ghost use Rattle.products.specs.Centred.{Grown, Shrunk};
-use crate::number::Number;
 use crate::pattern::unpack;
 use crate::plus::plus_down;
 use crate::plus::plus_negative;
@@ -9,6 +8,7 @@ use crate::rounded::rounded_down;
 use crate::rounded::rounded_up;
 use crate::times::times;
 use binary32::order::magnitude;
+use unpacked::Number;
 
 // Method 3: |u| × |v| more.
 pub fn outer_three(radius: Number, u: u32, v: u32) -> Number

@@ -3,21 +3,21 @@ ghost use Prim.Native.Nat.{_^_, _≤_, _<_};
 ghost use lib.IntN.{ℤ, natAbs};
 ghost use Rattle.rounding.specs.Format.{binary32};
 ghost use Rattle.rounding.specs.Rounding.{down, near};
-ghost use Rattle.products.specs.Number.{Holds};
-ghost use Rattle.products.specs.Exact.{Exact, Formed, RoundedDown, RoundedUp, RoundedNear};
+ghost use Rattle.unpacked.specs.Number.{Holds};
+ghost use Rattle.unpacked.specs.Exact.{Exact, Formed, RoundedDown, RoundedUp, RoundedNear};
 use crate::near::limit_near;
-use crate::number::Number;
-use crate::number::none;
 use crate::number::whole;
 use crate::plus::limit;
 use crate::shifts::cap;
 use crate::shifts::lowered;
 use crate::shifts::nearest;
-use crate::times::Product;
 use crate::times::is_usual;
 use crate::times::shortened;
 use crate::times::shortened_near;
 use crate::times::turned;
+use unpacked::Number;
+use unpacked::Product;
+use unpacked::none;
 
 // A product below 2^24 units, rounded down: whole units.
 fn small(p: Product) -> Number

@@ -5,7 +5,7 @@ ghost use lib.IntN.{pos, natAbs, _+ℤ_, _*ℤ_};
 ghost use lib.Signed.{mag, shrZ};
 ghost use Rattle.rounding.specs.Quotient.{rem};
 ghost use Rattle.binary32.specs.Number.{signedBy};
-ghost use Rattle.products.specs.Cuts.{nearestOf};
+ghost use Rattle.unpacked.specs.Cuts.{nearestOf};
 
 // 2^n
 fn power(n: u32) -> i64

@@ -1,11 +1,12 @@
 // Two summands over one exponent, the larger of theirs.
 ghost use mathlib.Core.Path.{_≡_};
-ghost use Rattle.products.specs.Cuts.{Summands, AlignedIs, earlier, later};
-use crate::number::Number;
+ghost use Rattle.unpacked.specs.Cuts.{Summands, AlignedIs, earlier, later};
 use crate::shifts::added;
 use crate::shifts::cap;
 use crate::shifts::lowered;
 use crate::shifts::raised;
+use unpacked::Aligned;
+use unpacked::Number;
 
 // Of the two the one with the larger exponent; x where they are equal.
 pub fn first(x: Number, y: Number) -> Number
@@ -25,12 +26,6 @@ pub fn second(x: Number, y: Number) -> Number
         return x;
     }
     y
-}
-
-// w × 2^(exp - 436) units
-pub struct Aligned {
-    pub w: i64,
-    pub exp: u32,
 }
 
 // x + y: exact, or of at least 58 digits and rounded down.

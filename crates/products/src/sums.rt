@@ -2,22 +2,22 @@
 ghost use mathlib.Core.Path.{_≡_};
 ghost use lib.IntN.{negℤ};
 ghost use Rattle.binary32.specs.Number.{patternOf};
-ghost use Rattle.products.specs.Number.{worth, IsNumber};
-ghost use Rattle.products.specs.Corners.{Cells};
+ghost use Rattle.unpacked.specs.Number.{worth, IsNumber};
+ghost use Rattle.products.specs.Apart.{Cells};
 ghost use Rattle.products.specs.Running.{BothNumbers, Stepped, Ended, refusedSums, zeroSums};
 use crate::apart::Apart;
 use crate::corners::corner_of;
 use crate::corners::greater;
 use crate::corners::lesser;
-use crate::number::Number;
-use crate::number::is_none;
 use crate::number::opposite;
-use crate::number::zero;
 use crate::pattern::pack;
 use crate::pattern::unpack;
 use crate::plus::plus_down;
 use crate::rounded::rounded_down;
 use crate::rounded::rounded_up;
+use unpacked::Number;
+use unpacked::is_none;
+use unpacked::zero;
 
 // The lower sum, and the opposite of the upper one: rounding up is rounding down with the other sign, so that both are rounded down. Each is a number or none.
 pub struct Sums {

@@ -7,13 +7,13 @@ ghost use Rattle.products.specs.MidRad.{Sized, entryFrom};
 ghost use Rattle.products.specs.Entries.{Written};
 use crate::centred::adds;
 use crate::nearest::Nearest;
-use crate::number::is_none;
-use crate::number::minus_tiny;
 use crate::number::opposite;
 use crate::plus::plus_negative;
 use crate::radius::outer_three;
 use crate::sums::Place;
 use crate::sums::ends;
+use unpacked::is_none;
+use unpacked::minus_tiny;
 
 // From midpoints and radii; vb has rB' of B's cells, wb |m| + r. The radius gets 2^-125 between its two sums.
 pub fn entries(

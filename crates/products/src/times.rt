@@ -4,19 +4,14 @@ ghost use mathlib.Core.Bool.{cond, false};
 ghost use Prim.Native.Nat.{_^_, _≤_};
 ghost use lib.Dec.{ltb};
 ghost use lib.IntN.{natAbs};
-ghost use Rattle.products.specs.Exact.{Factors, ProductIs, Shortened, ShortenedNear, Turned};
-use crate::number::Number;
+ghost use Rattle.unpacked.specs.Exact.{Factors, ProductIs, Shortened, ShortenedNear, Turned};
 use crate::shifts::digits;
 use crate::shifts::lowered;
 use crate::shifts::multiplied;
 use crate::shifts::nearest;
 use crate::shifts::twice;
-
-// An exact product: sig × 2^(exp - 950) units, 48 digits.
-pub struct Product {
-    pub sig: i64,
-    pub exp: u32,
-}
+use unpacked::Number;
+use unpacked::Product;
 
 // x × y, exactly.
 pub fn times(x: Number, y: Number) -> Product

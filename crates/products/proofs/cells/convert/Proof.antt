@@ -3,8 +3,8 @@ use mathlib.Core.Path.{_≡_}
 use Prim.Native.Nat.{_≤_, _-_}
 use native.Mathlib.Omega.{arith}
 use borrow.Author.Needs.{needs}
-use Rattle.products.specs.Matrix.{Matrix, midAt, radAt, faultAt}
-use Rattle.products.proofs.Fronts.{Filled, filled-none, filled-more, filled-is}
+use Rattle.matrices.specs.Matrix.{Matrix, midAt, radAt, faultAt}
+use Rattle.matrices.proofs.Fronts.{Filled, filled-none, filled-more, filled-is}
 use Rattle.products.proofs.Converts.{fine-mid, fine-rad, fine-refused}
 use Rattle.products.proofs.cells.convert.Statement.{statement}
 use Rattle.products.proofs.cells.convert.Tie as tie

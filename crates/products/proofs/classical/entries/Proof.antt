@@ -10,7 +10,7 @@ use native.Mathlib.Numerals.{add-one}
 use native.Mathlib.Omega.{arith}
 use borrow.Author.Needs.{needs}
 use Rattle.enclosure.specs.Methods.{classical}
-use Rattle.products.proofs.Fronts.{filled-none, filled-more, filled-from}
+use Rattle.matrices.proofs.Fronts.{filled-none, filled-more, filled-from}
 use Rattle.products.proofs.Writing.{position-entry, stop-none, stop-more, lower-is, upper-is, written-all, written-at}
 use Rattle.products.proofs.ClassicalSums.{both-numbers, sum-start, entry-refused}
 use Rattle.products.proofs.classical.entries.Statement.{statement}

@@ -5,7 +5,7 @@ use mir.Syntax.{w64}
 use mir.Val.{ofZ, toZ}
 use borrow.Author.Needs.{needs}
 use Rattle.binary32.proofs.Ints.{read, read-small}
-use Rattle.products.specs.Corners.{rankOf}
+use Rattle.unpacked.specs.Corners.{rankOf}
 use Rattle.products.proofs.corners.corner_of.Statement.{statement}
 use Rattle.products.proofs.corners.corner_of.Tie as tie
 

@@ -5,7 +5,7 @@ use Prim.Native.Nat.{_^_, _<_}
 use native.Mathlib.Omega.{arith}
 use lib.Signed.{leZ, mag}
 use Rattle.binary32.proofs.Ints.{read}
-use Rattle.products.specs.Corners.{greaterOf}
+use Rattle.unpacked.specs.Corners.{greaterOf}
 use Rattle.products.proofs.corners.greater.Statement.{statement}
 use Rattle.products.proofs.corners.greater.Tie as tie
 

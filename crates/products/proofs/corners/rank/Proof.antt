@@ -13,8 +13,8 @@ use borrow.Author.Tests.{ltb-true}
 use Rattle.algebra.proofs.Machine.{fits-natAbs}
 use Rattle.rounding.proofs.Sign.{natAbs-neg}
 use Rattle.binary32.proofs.Ints.{read-small, test}
-use Rattle.products.specs.Corners.{rankOf}
-use Rattle.products.proofs.CornerOrder.{rank-neg}
+use Rattle.unpacked.specs.Corners.{rankOf}
+use Rattle.unpacked.proofs.CornerOrder.{rank-neg}
 use Rattle.products.proofs.corners.rank.Statement.{statement}
 use Rattle.products.proofs.corners.rank.Tie as tie
 

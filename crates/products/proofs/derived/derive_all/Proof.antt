@@ -6,7 +6,7 @@ use borrow.Author.Needs.{needs}
 use lib.ListN.{length, getD, length-set}
 use Rattle.binary32.specs.Number.{valueOf, held}
 use Rattle.products.specs.Derived.{derivedOf}
-use Rattle.products.proofs.Stores.{stored-more}
+use Rattle.matrices.proofs.Stores.{stored-more}
 use Rattle.products.proofs.derived.derive_all.Statement.{statement}
 use Rattle.products.proofs.derived.derive_all.Tie as tie
 

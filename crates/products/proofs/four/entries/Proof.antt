@@ -10,7 +10,7 @@ use native.Mathlib.Nat.{suc-mul, zero-mul}
 use native.Mathlib.Numerals.{add-one}
 use native.Mathlib.Omega.{arith}
 use borrow.Author.Needs.{needs}
-use Rattle.products.proofs.Fronts.{filled-none, filled-more, filled-from}
+use Rattle.matrices.proofs.Fronts.{filled-none, filled-more, filled-from}
 use Rattle.products.proofs.Writing.{stop-none, stop-more, lower-is, upper-is, written-all}
 use Rattle.products.proofs.four.entries.Statement.{statement}
 use Rattle.products.proofs.four.entries.Tie as tie

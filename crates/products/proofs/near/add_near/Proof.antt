@@ -8,13 +8,13 @@ use lib.IntN.{ℤ, pos, natAbs, _+ℤ_, _*ℤ_}
 use mir.Syntax.{w64}
 use mir.Val.{toZ, ofZ}
 use Rattle.binary32.proofs.Ints.{read, read-small}
-use Rattle.products.specs.declared.number.Number.{Number}
-use Rattle.products.specs.Cuts.{Marked}
-use Rattle.products.proofs.Worths.{exp-low}
-use Rattle.products.proofs.Ordering.{Ordered, ordered}
-use Rattle.products.proofs.FarShifts.{raised-abs}
-use Rattle.products.proofs.Marks.{marked-few}
-use Rattle.products.proofs.Found.{near-sum-found}
+use Rattle.unpacked.specs.declared.Number.{Number}
+use Rattle.unpacked.specs.Cuts.{Marked}
+use Rattle.unpacked.proofs.Worths.{exp-low}
+use Rattle.unpacked.proofs.Ordering.{Ordered, ordered}
+use Rattle.unpacked.proofs.FarShifts.{raised-abs}
+use Rattle.unpacked.proofs.Marks.{marked-few}
+use Rattle.unpacked.proofs.Found.{near-sum-found}
 use borrow.Author.Needs.{needs}
 use Rattle.products.proofs.near.add_near.Statement.{statement}
 use Rattle.products.proofs.near.add_near.Tie as tie

@@ -12,7 +12,7 @@ use Rattle.algebra.proofs.Absolute.{natAbs-add}
 use Rattle.algebra.proofs.Machine.{fits-natAbs}
 use Rattle.binary32.proofs.Ints.{read}
 use Rattle.binary32.proofs.Rests.{shr-less}
-use Rattle.products.proofs.Halves.{shr-back, double-few, marked-kept, marked-lost}
+use Rattle.unpacked.proofs.Halves.{shr-back, double-few, marked-kept, marked-lost}
 use borrow.Author.Needs.{needs}
 use Rattle.products.proofs.near.marked.Statement.{statement}
 use Rattle.products.proofs.near.marked.Tie as tie

@@ -1,5 +1,5 @@
 -- `products::near::plus_near` meets its contract: by `near-plus-holds`.
-use Rattle.products.proofs.Partials.{summands, near-plus-holds}
+use Rattle.unpacked.proofs.Partials.{summands, near-plus-holds}
 use borrow.Author.Needs.{needs}
 use Rattle.products.proofs.near.plus_near.Statement.{statement}
 use Rattle.products.proofs.near.plus_near.Tie as tie

@@ -3,7 +3,7 @@ use mathlib.Core.Bool.{true, false}
 use native.Mathlib.Omega.{arith}
 use Rattle.algebra.proofs.Machine.{fits-natAbs}
 use Rattle.binary32.proofs.Ints.{test}
-use Rattle.products.proofs.Opposites.{absolute-below, absolute-above}
+use Rattle.unpacked.proofs.Opposites.{absolute-below, absolute-above}
 use borrow.Author.Needs.{needs}
 use Rattle.products.proofs.number.absolute.Statement.{statement}
 use Rattle.products.proofs.number.absolute.Tie as tie

@@ -10,9 +10,9 @@ use mir.Val.{toZ, ofZ}
 use mir.ValLaws.{toZ-ofZ}
 use Rattle.algebra.proofs.Machine.{mag-of-natAbs}
 use Rattle.binary32.proofs.Ints.{read}
-use Rattle.products.specs.Cuts.{room, OrLow}
-use Rattle.products.proofs.Leading.{Lead, lead-of, wide-abs}
-use Rattle.products.proofs.Cutting.{cut-found, room-is}
+use Rattle.unpacked.specs.Cuts.{room, OrLow}
+use Rattle.unpacked.proofs.Leading.{Lead, lead-of, wide-abs}
+use Rattle.unpacked.proofs.Cutting.{cut-found, room-is}
 use borrow.Author.Needs.{needs}
 use Rattle.products.proofs.number.cut_down.Statement.{statement}
 use Rattle.products.proofs.number.cut_down.Tie as tie

@@ -5,7 +5,7 @@ use native.Mathlib.Omega.{arith}
 use lib.Dec.{ltb}
 use lib.IntN.{natAbs}
 use Rattle.binary32.proofs.Ints.{read-small}
-use Rattle.products.proofs.Worths.{fits-below, fits-beyond, fits-last}
+use Rattle.unpacked.proofs.Worths.{fits-below, fits-beyond, fits-last}
 use borrow.Author.Needs.{needs}
 use Rattle.products.proofs.number.fits.Statement.{statement}
 use Rattle.products.proofs.number.fits.Tie as tie

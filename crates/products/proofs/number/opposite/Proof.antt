@@ -8,9 +8,9 @@ use mir.ValLaws.{toZ-ofZ}
 use Rattle.algebra.proofs.Machine.{fits-natAbs}
 use Rattle.rounding.proofs.Sign.{natAbs-neg}
 use Rattle.binary32.proofs.Ints.{read-small}
-use Rattle.products.specs.declared.number.Number.{Number}
-use Rattle.products.specs.Number.{Normal}
-use Rattle.products.proofs.Opposites.{opposite-is}
+use Rattle.unpacked.specs.declared.Number.{Number}
+use Rattle.unpacked.specs.Number.{Normal}
+use Rattle.unpacked.proofs.Opposites.{opposite-is}
 use Rattle.products.proofs.number.opposite.Statement.{statement}
 use Rattle.products.proofs.number.opposite.Tie as tie
 

@@ -7,9 +7,9 @@ use mir.Syntax.{w64}
 use mir.Val.{toZ, ofZ}
 use mir.ValLaws.{toZ-ofZ}
 use Rattle.binary32.proofs.Ints.{read}
-use Rattle.products.specs.Cuts.{CutDown}
-use Rattle.products.proofs.FarShifts.{raised-abs}
-use Rattle.products.proofs.CutSums.{whole-holds}
+use Rattle.unpacked.specs.Cuts.{CutDown}
+use Rattle.unpacked.proofs.FarShifts.{raised-abs}
+use Rattle.unpacked.proofs.CutSums.{whole-holds}
 use Rattle.products.proofs.number.whole.Statement.{statement}
 use Rattle.products.proofs.number.whole.Tie as tie
 

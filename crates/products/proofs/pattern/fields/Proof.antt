@@ -3,7 +3,7 @@ use mathlib.Core.Path.{ap, _∙_}
 use Prim.Native.Nat.{ℕ, _/_, _^_}
 use native.Mathlib.Omega.{arith}
 use native.Mathlib.Nat.{div-le-self}
-use Rattle.products.proofs.Packing.{fields-high, fields-capped}
+use Rattle.unpacked.proofs.Packing.{fields-high, fields-capped}
 use borrow.Author.Needs.{needs}
 use Rattle.products.proofs.pattern.fields.Statement.{statement}
 use Rattle.products.proofs.pattern.fields.Tie as tie

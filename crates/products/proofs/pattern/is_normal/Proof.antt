@@ -1,5 +1,5 @@
 -- `products::pattern::is_normal` meets its contract: the two tests of a range.
-use Rattle.products.proofs.Ranges.{range-below, range-from}
+use Rattle.unpacked.proofs.Ranges.{range-below, range-from}
 use Rattle.products.proofs.pattern.is_normal.Statement.{statement}
 use Rattle.products.proofs.pattern.is_normal.Tie as tie
 

@@ -8,9 +8,9 @@ use mir.Syntax.{w64}
 use mir.Val.{SFits}
 use Rattle.algebra.proofs.Machine.{fits-natAbs}
 use Rattle.binary32.proofs.Ints.{read-small, test}
-use Rattle.products.specs.Cuts.{fieldsOf}
-use Rattle.products.proofs.Worths.{exp-low}
-use Rattle.products.proofs.Packing.{exp-high, fields-less, pack-below, pack-above}
+use Rattle.unpacked.specs.Cuts.{fieldsOf}
+use Rattle.unpacked.proofs.Worths.{exp-low}
+use Rattle.unpacked.proofs.Packing.{exp-high, fields-less, pack-below, pack-above}
 use borrow.Author.Needs.{needs}
 use Rattle.products.proofs.pattern.pack.Statement.{statement}
 use Rattle.products.proofs.pattern.pack.Tie as tie

@@ -4,8 +4,8 @@ use mathlib.Core.Logic.{_⊎_, inl, inr, ⊎-elim}
 use Prim.Native.Nat.{ℕ, _*_, _/_, _%_, _^_, _≤_, _<_}
 use native.Mathlib.Omega.{arith}
 use Rattle.binary32.proofs.Ints.{read}
-use Rattle.products.proofs.Ranges.{range-yes, range-no}
-use Rattle.products.proofs.Unpacking.{unpacked-normal}
+use Rattle.unpacked.proofs.Ranges.{range-yes, range-no}
+use Rattle.unpacked.proofs.Unpacking.{unpacked-normal}
 use borrow.Author.Needs.{needs}
 use Rattle.products.proofs.pattern.unpack.Statement.{statement}
 use Rattle.products.proofs.pattern.unpack.Tie as tie

@@ -11,8 +11,8 @@ use mir.Val.{toZ, ofZ}
 use Rattle.binary32.specs.Number.{signedBy}
 use Rattle.binary32.proofs.Ints.{read}
 use Rattle.binary32.proofs.Values.{signed-abs}
-use Rattle.products.specs.Number.{Unpacked}
-use Rattle.products.proofs.Unpacking.{unpacked-low, unpacked-none}
+use Rattle.unpacked.specs.Number.{Unpacked}
+use Rattle.unpacked.proofs.Unpacking.{unpacked-low, unpacked-none}
 use borrow.Author.Needs.{needs}
 use Rattle.products.proofs.pattern.unpack_other.Statement.{statement}
 use Rattle.products.proofs.pattern.unpack_other.Tie as tie

@@ -6,8 +6,8 @@ use lib.IntN.{ℤ, natAbs}
 use mir.Syntax.{w64}
 use mir.Val.{toZ, ofZ}
 use Rattle.binary32.proofs.Ints.{read-small}
-use Rattle.products.specs.Cuts.{CutDown}
-use Rattle.products.proofs.Found.{aligned-form, sum-found}
+use Rattle.unpacked.specs.Cuts.{CutDown}
+use Rattle.unpacked.proofs.Found.{aligned-form, sum-found}
 use borrow.Author.Needs.{needs}
 use Rattle.products.proofs.plus.add_down.Statement.{statement}
 use Rattle.products.proofs.plus.add_down.Tie as tie

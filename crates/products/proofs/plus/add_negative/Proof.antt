@@ -5,8 +5,8 @@ use lib.IntN.{ℤ}
 use mir.Syntax.{w64}
 use mir.Val.{toZ, ofZ}
 use Rattle.binary32.proofs.Ints.{read-small}
-use Rattle.products.specs.Cuts.{Filled, CutNegative}
-use Rattle.products.proofs.Found.{aligned-form, negative-form, negative-found}
+use Rattle.unpacked.specs.Cuts.{Filled, CutNegative}
+use Rattle.unpacked.proofs.Found.{aligned-form, negative-form, negative-found}
 use borrow.Author.Needs.{needs}
 use Rattle.products.proofs.plus.add_negative.Statement.{statement}
 use Rattle.products.proofs.plus.add_negative.Tie as tie

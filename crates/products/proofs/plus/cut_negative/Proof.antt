@@ -12,7 +12,7 @@ use mir.ValLaws.{toZ-ofZ}
 use borrow.Author.Tests.{ltb-true, ltb-false}
 use Rattle.algebra.proofs.Natural.{to-le}
 use Rattle.binary32.proofs.Ints.{read}
-use Rattle.products.specs.Cuts.{Filled}
+use Rattle.unpacked.specs.Cuts.{Filled}
 use borrow.Author.Needs.{needs}
 use Rattle.products.proofs.plus.cut_negative.Statement.{statement}
 use Rattle.products.proofs.plus.cut_negative.Tie as tie

@@ -4,9 +4,9 @@ use mathlib.Core.Bool.{true, false}
 use native.Mathlib.Omega.{arith}
 use Rattle.algebra.proofs.Machine.{fits-natAbs}
 use Rattle.binary32.proofs.Ints.{test}
-use Rattle.products.specs.Number.{worth, Holds}
-use Rattle.products.specs.Cuts.{limited}
-use Rattle.products.proofs.Limits.{limit-fits, limit-below, limit-above}
+use Rattle.unpacked.specs.Number.{worth, Holds}
+use Rattle.unpacked.specs.Cuts.{limited}
+use Rattle.unpacked.proofs.Limits.{limit-fits, limit-below, limit-above}
 use borrow.Author.Needs.{needs}
 use Rattle.products.proofs.plus.limit.Statement.{statement}
 use Rattle.products.proofs.plus.limit.Tie as tie

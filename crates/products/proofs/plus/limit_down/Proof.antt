@@ -1,7 +1,7 @@
 -- `products::plus::limit_down` meets its contract: below the largest exponent by `fits-below`.
 use mathlib.Core.Path.{sym}
-use Rattle.products.proofs.Worths.{fits-below}
-use Rattle.products.proofs.Limits.{limit-fits}
+use Rattle.unpacked.proofs.Worths.{fits-below}
+use Rattle.unpacked.proofs.Limits.{limit-fits}
 use borrow.Author.Needs.{needs}
 use Rattle.products.proofs.plus.limit_down.Statement.{statement}
 use Rattle.products.proofs.plus.limit_down.Tie as tie

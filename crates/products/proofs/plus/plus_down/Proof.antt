@@ -1,5 +1,5 @@
 -- `products::plus::plus_down` meets its contract: by `down-plus-holds`.
-use Rattle.products.proofs.Partials.{summands, down-plus-holds}
+use Rattle.unpacked.proofs.Partials.{summands, down-plus-holds}
 use borrow.Author.Needs.{needs}
 use Rattle.products.proofs.plus.plus_down.Statement.{statement}
 use Rattle.products.proofs.plus.plus_down.Tie as tie

@@ -1,5 +1,5 @@
 -- `products::plus::plus_negative` meets its contract: by `down-plus-holds`.
-use Rattle.products.proofs.Partials.{summands, down-plus-holds}
+use Rattle.unpacked.proofs.Partials.{summands, down-plus-holds}
 use borrow.Author.Needs.{needs}
 use Rattle.products.proofs.plus.plus_negative.Statement.{statement}
 use Rattle.products.proofs.plus.plus_negative.Tie as tie

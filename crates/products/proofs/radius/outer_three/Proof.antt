@@ -3,10 +3,10 @@ use borrow.Author.Needs.{needs}
 use Rattle.rounding.specs.Rounding.{up, negate}
 use Rattle.binary32.specs.Operations.{mul, with₂}
 use Rattle.binary32.specs.Order.{magnitudeOf}
-use Rattle.products.specs.Number.{Holds}
-use Rattle.products.specs.Exact.{Exactly}
-use Rattle.products.proofs.Multiplying.{exactly-of}
-use Rattle.products.proofs.RoundedProducts.{exactly-formed, up-exactly}
+use Rattle.unpacked.specs.Number.{Holds}
+use Rattle.unpacked.specs.Exact.{Exactly}
+use Rattle.unpacked.proofs.Multiplying.{exactly-of}
+use Rattle.unpacked.proofs.RoundedProducts.{exactly-formed, up-exactly}
 use Rattle.products.proofs.Radii.{by-sizes, term-below}
 use Rattle.products.proofs.radius.outer_three.Statement.{statement}
 use Rattle.products.proofs.radius.outer_three.Tie as tie

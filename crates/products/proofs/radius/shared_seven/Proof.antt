@@ -3,11 +3,11 @@ use mathlib.Core.Path.{ap₂, subst}
 use borrow.Author.Needs.{needs}
 use Rattle.rounding.specs.Rounding.{down}
 use Rattle.binary32.specs.Operations.{mul, with₂}
-use Rattle.products.specs.Number.{worth, Holds}
+use Rattle.unpacked.specs.Number.{worth, Holds}
 use Rattle.products.specs.Running.{plusDown}
-use Rattle.products.specs.Exact.{Exactly}
-use Rattle.products.proofs.Multiplying.{exactly-of}
-use Rattle.products.proofs.RoundedProducts.{exactly-formed, down-exactly}
+use Rattle.unpacked.specs.Exact.{Exactly}
+use Rattle.unpacked.proofs.Multiplying.{exactly-of}
+use Rattle.unpacked.proofs.RoundedProducts.{exactly-formed, down-exactly}
 use Rattle.products.proofs.radius.shared_seven.Statement.{statement}
 use Rattle.products.proofs.radius.shared_seven.Tie as tie
 

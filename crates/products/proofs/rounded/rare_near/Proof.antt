@@ -3,9 +3,9 @@ use mathlib.Core.Path.{sym, subst}
 use mathlib.Core.Option.{none}
 use native.Mathlib.Nat.{not-le-of-lt}
 use native.Mathlib.Omega.{arith}
-use Rattle.products.specs.Number.{Holds}
-use Rattle.products.proofs.Unpacking.{none-holds}
-use Rattle.products.proofs.Multiplying.{shortened-near-normal, limit-near-holds}
+use Rattle.unpacked.specs.Number.{Holds}
+use Rattle.unpacked.proofs.Unpacking.{none-holds}
+use Rattle.unpacked.proofs.Multiplying.{shortened-near-normal, limit-near-holds}
 use borrow.Author.Needs.{needs}
 use Rattle.products.proofs.rounded.rare_near.Statement.{statement}
 use Rattle.products.proofs.rounded.rare_near.Tie as tie

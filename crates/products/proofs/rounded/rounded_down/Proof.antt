@@ -2,9 +2,9 @@
 use mathlib.Core.Path.{sym, _∙_}
 use Prim.Native.Nat.{ℕ, _≤_, _<_}
 use native.Mathlib.Omega.{arith}
-use Rattle.products.specs.Exact.{Usual}
-use Rattle.products.proofs.Ranges.{range-yes}
-use Rattle.products.proofs.Multiplying.{shortened-holds}
+use Rattle.unpacked.specs.Exact.{Usual}
+use Rattle.unpacked.proofs.Ranges.{range-yes}
+use Rattle.unpacked.proofs.Multiplying.{shortened-holds}
 use borrow.Author.Needs.{needs}
 use Rattle.products.proofs.rounded.rounded_down.Statement.{statement}
 use Rattle.products.proofs.rounded.rounded_down.Tie as tie

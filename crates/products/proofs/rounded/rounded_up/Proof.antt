@@ -1,5 +1,5 @@
 -- `products::rounded::rounded_up` meets its contract: the product with the other sign, rounded down.
-use Rattle.products.proofs.RoundedProducts.{turned-formed, rounded-turned}
+use Rattle.unpacked.proofs.RoundedProducts.{turned-formed, rounded-turned}
 use borrow.Author.Needs.{needs}
 use Rattle.products.proofs.rounded.rounded_up.Statement.{statement}
 use Rattle.products.proofs.rounded.rounded_up.Tie as tie

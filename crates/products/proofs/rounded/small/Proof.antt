@@ -8,9 +8,9 @@ use lib.Signed.{shrZ}
 use mir.Syntax.{w64}
 use mir.Val.{toZ, ofZ}
 use Rattle.binary32.proofs.Ints.{read, read-small}
-use Rattle.products.specs.declared.times.Product.{Product}
-use Rattle.products.specs.Number.{Holds}
-use Rattle.products.proofs.SmallProducts.{units, small-few, small-holds}
+use Rattle.unpacked.specs.declared.Product.{Product}
+use Rattle.unpacked.specs.Number.{Holds}
+use Rattle.unpacked.proofs.SmallProducts.{units, small-few, small-holds}
 use borrow.Author.Needs.{needs}
 use Rattle.products.proofs.rounded.small.Statement.{statement}
 use Rattle.products.proofs.rounded.small.Tie as tie

@@ -7,10 +7,10 @@ use lib.IntN.{ℤ, natAbs}
 use mir.Syntax.{w64}
 use mir.Val.{toZ, ofZ}
 use Rattle.binary32.proofs.Ints.{read, read-small}
-use Rattle.products.specs.declared.times.Product.{Product}
-use Rattle.products.specs.Number.{Holds}
-use Rattle.products.specs.Cuts.{nearestOf}
-use Rattle.products.proofs.SmallNear.{nearest-units, small-near-few, small-near-holds}
+use Rattle.unpacked.specs.declared.Product.{Product}
+use Rattle.unpacked.specs.Number.{Holds}
+use Rattle.unpacked.specs.Cuts.{nearestOf}
+use Rattle.unpacked.proofs.SmallNear.{nearest-units, small-near-few, small-near-holds}
 use borrow.Author.Needs.{needs}
 use Rattle.products.proofs.rounded.small_near.Statement.{statement}
 use Rattle.products.proofs.rounded.small_near.Tie as tie

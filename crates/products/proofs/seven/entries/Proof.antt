@@ -10,7 +10,7 @@ use Prim.Native.Nat.{_+_, _*_}
 use native.Mathlib.Nat.{suc-mul, zero-mul}
 use native.Mathlib.Numerals.{add-one}
 use native.Mathlib.Omega.{arith}
-use Rattle.products.proofs.Fronts.{filled-none, filled-more, filled-from}
+use Rattle.matrices.proofs.Fronts.{filled-none, filled-more, filled-from}
 use Rattle.products.proofs.Writing.{stop-none, stop-more, lower-is, upper-is}
 use Rattle.products.proofs.seven.entries.Statement.{statement}
 use Rattle.products.proofs.seven.entries.Tie as tie

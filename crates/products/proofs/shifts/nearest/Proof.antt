@@ -1,6 +1,6 @@
 -- `products::shifts::nearest` meets its contract: by `near-shift`.
 use borrow.Author.Needs.{needs}
-use Rattle.products.proofs.NearShifts.{first-fits, quotient-few, second-fits, near-shift}
+use Rattle.unpacked.proofs.NearShifts.{first-fits, quotient-few, second-fits, near-shift}
 use Rattle.products.proofs.shifts.nearest.Statement.{statement}
 use Rattle.products.proofs.shifts.nearest.Tie as tie
 

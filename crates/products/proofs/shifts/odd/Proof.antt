@@ -11,7 +11,7 @@ use Rattle.rounding.specs.Quotient.{rem}
 use Rattle.rounding.proofs.Floor.{rem-lt}
 use Rattle.binary32.proofs.Ints.{read}
 use Rattle.binary32.proofs.Rests.{rest-is}
-use Rattle.products.proofs.Halves.{double-few}
+use Rattle.unpacked.proofs.Halves.{double-few}
 use borrow.Author.Needs.{needs}
 use Rattle.products.proofs.shifts.odd.Statement.{statement}
 use Rattle.products.proofs.shifts.odd.Tie as tie

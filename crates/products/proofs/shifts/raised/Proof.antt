@@ -6,7 +6,7 @@ use mir.Syntax.{w64}
 use mir.Val.{SFits}
 use mir.ValLaws.{toZ-ofZ}
 use Rattle.algebra.proofs.Machine.{fits-natAbs}
-use Rattle.products.proofs.FarShifts.{raised-abs}
+use Rattle.unpacked.proofs.FarShifts.{raised-abs}
 use Rattle.products.proofs.shifts.raised.Statement.{statement}
 use Rattle.products.proofs.shifts.raised.Tie as tie
 

@@ -7,9 +7,9 @@ use lib.Signed.{shrZ}
 use mir.Syntax.{w64}
 use mir.Val.{toZ, ofZ}
 use Rattle.binary32.proofs.Ints.{read, read-small}
-use Rattle.products.specs.declared.number.Number.{Number}
-use Rattle.products.proofs.Ordering.{Ordered, ordered}
-use Rattle.products.proofs.FarShifts.{raised-abs}
+use Rattle.unpacked.specs.declared.Number.{Number}
+use Rattle.unpacked.proofs.Ordering.{Ordered, ordered}
+use Rattle.unpacked.proofs.FarShifts.{raised-abs}
 use Rattle.binary32.proofs.Rests.{shr-less}
 use borrow.Author.Needs.{needs}
 use Rattle.products.proofs.summands.align.Statement.{statement}

@@ -1,5 +1,5 @@
 -- `products::summands::first` meets its contract: by its test, which is that of `earlier`.
-use Rattle.products.proofs.Ordering.{first-y, first-x}
+use Rattle.unpacked.proofs.Ordering.{first-y, first-x}
 use Rattle.products.proofs.summands.first.Statement.{statement}
 use Rattle.products.proofs.summands.first.Tie as tie
 

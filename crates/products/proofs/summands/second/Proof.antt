@@ -1,5 +1,5 @@
 -- `products::summands::second` meets its contract: by its test, which is that of `later`.
-use Rattle.products.proofs.Ordering.{second-x, second-y}
+use Rattle.unpacked.proofs.Ordering.{second-x, second-y}
 use Rattle.products.proofs.summands.second.Statement.{statement}
 use Rattle.products.proofs.summands.second.Tie as tie
 

@@ -1,7 +1,7 @@
 -- `products::sums::ends` meets its contract: two sums of numbers, rounded down.
 use mathlib.Core.Option.{some, bind}
-use Rattle.products.specs.Number.{worth}
-use Rattle.products.proofs.Limits.{number-part, number-holds}
+use Rattle.unpacked.specs.Number.{worth}
+use Rattle.unpacked.proofs.Limits.{number-part, number-holds}
 use Rattle.products.proofs.sums.ends.Statement.{statement}
 use Rattle.products.proofs.sums.ends.Tie as tie
 

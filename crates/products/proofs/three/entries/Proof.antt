@@ -11,7 +11,7 @@ use native.Mathlib.Nat.{suc-mul, zero-mul}
 use native.Mathlib.Numerals.{add-one}
 use native.Mathlib.Omega.{arith}
 use borrow.Author.Needs.{needs}
-use Rattle.products.proofs.Fronts.{filled-none, filled-from}
+use Rattle.matrices.proofs.Fronts.{filled-none, filled-from}
 use Rattle.products.proofs.Writing.{stop-none}
 use Rattle.products.proofs.three.entries.Statement.{statement}
 use Rattle.products.proofs.three.entries.Tie as tie

@@ -1,5 +1,5 @@
 -- `products::times::is_usual` meets its contract: the two tests of a range.
-use Rattle.products.proofs.Ranges.{range-below, range-from}
+use Rattle.unpacked.proofs.Ranges.{range-below, range-from}
 use Rattle.products.proofs.times.is_usual.Statement.{statement}
 use Rattle.products.proofs.times.is_usual.Tie as tie
 

@@ -3,7 +3,7 @@ use mathlib.Core.Path.{refl, ap, _∙_, subst, sym}
 use Prim.Native.Nat.{_^_, _≤_}
 use native.Mathlib.Omega.{arith}
 use lib.IntN.{ℤ, natAbs}
-use Rattle.products.specs.Cuts.{nearestOf}
+use Rattle.unpacked.specs.Cuts.{nearestOf}
 use Rattle.binary32.proofs.Ints.{read, read-small}
 use borrow.Author.Needs.{needs}
 use Rattle.products.proofs.times.shortened_near.Statement.{statement}

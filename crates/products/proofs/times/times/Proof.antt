@@ -6,8 +6,8 @@ use lib.IntN.{ℤ, _*ℤ_}
 use mir.Syntax.{w64}
 use mir.Val.{toZ, ofZ}
 use Rattle.binary32.proofs.Ints.{read, read-small}
-use Rattle.products.specs.declared.number.Number.{Number}
-use Rattle.products.proofs.ExactProducts.{p-few, times-small, times-large}
+use Rattle.unpacked.specs.declared.Number.{Number}
+use Rattle.unpacked.proofs.ExactProducts.{p-few, times-small, times-large}
 use borrow.Author.Needs.{needs}
 use Rattle.products.proofs.times.times.Statement.{statement}
 use Rattle.products.proofs.times.times.Tie as tie

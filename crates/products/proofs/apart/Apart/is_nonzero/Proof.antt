@@ -1,7 +1,7 @@
 -- `products::apart::Apart::is_nonzero` meets its contract: exponents of numbers are small.
 use native.Mathlib.Omega.{arith}
 use Rattle.products.specs.Apart.{lowerNumber, upperNumber}
-use Rattle.products.proofs.Packing.{exp-high}
+use Rattle.unpacked.proofs.Packing.{exp-high}
 use borrow.Author.Needs.{needs}
 use Rattle.products.proofs.apart.Apart.is_nonzero.Statement.{statement}
 use Rattle.products.proofs.apart.Apart.is_nonzero.Tie as tie

@@ -4,11 +4,11 @@ use mathlib.Core.Path.{refl}
 use Rattle.rounding.specs.Rounding.{down, up, negate}
 use Rattle.binary32.specs.Operations.{mul, with₂}
 use Rattle.binary32.specs.Order.{magnitudeOf}
-use Rattle.products.specs.Number.{Holds, Unpacked}
-use Rattle.products.specs.Exact.{Exactly}
-use Rattle.products.proofs.Opposites.{absolute-unpacked}
-use Rattle.products.proofs.Multiplying.{exactly-of}
-use Rattle.products.proofs.RoundedProducts.{exactly-formed, down-exactly, up-exactly}
+use Rattle.unpacked.specs.Number.{Holds, Unpacked}
+use Rattle.unpacked.specs.Exact.{Exactly}
+use Rattle.unpacked.proofs.Opposites.{absolute-unpacked}
+use Rattle.unpacked.proofs.Multiplying.{exactly-of}
+use Rattle.unpacked.proofs.RoundedProducts.{exactly-formed, down-exactly, up-exactly}
 use Rattle.products.proofs.Radii.{by-sizes, term-below}
 use Rattle.products.proofs.centred.Centred.step_four.Statement.{statement}
 use Rattle.products.proofs.centred.Centred.step_four.Tie as tie

@@ -10,14 +10,15 @@ use Rattle.enclosure.specs.Methods.{Range, classical}
 use Rattle.products.specs.declared.sums.Sums.{Sums}
 use Rattle.products.specs.declared.sums.Place.the-variants.{Nowhere}
 use Rattle.products.specs.declared.apart.Apart.{Apart}
-use Rattle.products.specs.Number.{worth}
+use Rattle.unpacked.specs.Number.{worth}
 use Rattle.products.specs.Apart.{IsApart, zeroApart}
-use Rattle.products.specs.Matrix.{Matrix, lowerAt, upperAt}
-use Rattle.products.specs.Corners.{Cells}
+use Rattle.matrices.specs.Matrix.{Matrix, lowerAt, upperAt}
+use Rattle.products.specs.Apart.{Cells}
 use Rattle.products.specs.Running.{Sum}
 use Rattle.products.specs.Entries.{entryAt, stopOf}
-use Rattle.products.proofs.Fronts.{Filled}
-use Rattle.products.proofs.Writing.{below, position-entry, lowersOf, uppersOf}
+use Rattle.matrices.proofs.Fronts.{Filled}
+use Rattle.matrices.proofs.Places.{below}
+use Rattle.products.proofs.Writing.{position-entry, lowersOf, uppersOf}
 use Rattle.products.proofs.ClassicalSums.{lowerTo, upperTo, entry-whole}
 use Rattle.products.proofs.Pairs.{Taken, fine-taken, fine-cells}
 use Rattle.products.proofs.classical.entries.Tie as tie

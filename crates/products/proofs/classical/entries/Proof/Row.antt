@@ -5,8 +5,8 @@ use native.Mathlib.Omega.{arith}
 use lib.ListN.{length-set}
 use borrow.Author.Needs.{needs}
 use Rattle.products.specs.Apart.{IsApart, zeroApart}
-use Rattle.products.specs.Matrix.{lowerAt, upperAt}
-use Rattle.products.proofs.Stores.{put-more}
+use Rattle.matrices.specs.Matrix.{lowerAt, upperAt}
+use Rattle.matrices.proofs.Stores.{put-more}
 use Rattle.products.proofs.classical.entries.Tie as tie
 use Rattle.products.proofs.classical.entries.Proof.Loops.{Inv-loop, μ-loop, Inv-loop3, μ-loop3, Inv-loop2, μ-loop2, Inv-search, μ-search, Head, K, A, apart-positions}
 

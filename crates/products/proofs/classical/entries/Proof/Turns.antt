@@ -3,7 +3,7 @@ use mathlib.Core.Path.{refl, sym, _∙_, subst}
 use mathlib.Core.Logic.{⊎-elim}
 use native.Mathlib.Omega.{arith}
 use borrow.Author.Needs.{needs}
-use Rattle.products.proofs.CornerTerms.{zero-value, zero-first, zero-second}
+use Rattle.unpacked.proofs.CornerTerms.{zero-value, zero-first, zero-second}
 use Rattle.products.proofs.Pairs.{zero-cell, zero-apart}
 use Rattle.products.proofs.ClassicalSums.{both-numbers, sum-step, sum-skip}
 use Rattle.products.proofs.classical.entries.Tie as tie

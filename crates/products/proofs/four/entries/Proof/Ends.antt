@@ -5,9 +5,9 @@ use native.Mathlib.Omega.{arith}
 use lib.IntN.{negℤ}
 use borrow.Author.Needs.{needs}
 use Rattle.products.specs.declared.sums.Place.the-variants.{At}
-use Rattle.products.specs.Number.{worth}
+use Rattle.unpacked.specs.Number.{worth}
 use Rattle.products.specs.Entries.{Written}
-use Rattle.products.proofs.Fronts.{filled-from}
+use Rattle.matrices.proofs.Fronts.{filled-from}
 use Rattle.products.proofs.Writing.{written-at}
 use Rattle.products.proofs.Ending.{Closes}
 use Rattle.products.proofs.FourEntry.{MiddleSum, middle-numbers, middle-none, OuterSum, outer-number, outer-none, four-middle, four-outer, four-closes}

@@ -7,9 +7,9 @@ use lib.IntN.{ℤ, negℤ}
 use lib.ListN.{getD}
 use borrow.Author.Needs.{needs}
 use Rattle.binary32.specs.Number.{valueOf, held}
-use Rattle.products.specs.declared.number.Number.{Number}
+use Rattle.unpacked.specs.declared.Number.{Number}
 use Rattle.products.specs.declared.centred.Centred.{Centred}
-use Rattle.products.specs.Number.{worth}
+use Rattle.unpacked.specs.Number.{worth}
 use Rattle.products.specs.Centred.{Added, Grown}
 use Rattle.products.specs.Derived.{outerOf}
 use Rattle.products.proofs.FourEntry.{Spot, a-mid, a-rad, b-mid, b-rad, MiddleSum, MiddleNext, middle-start, middle-numbers, middle-next, middle-more, middle-skip}

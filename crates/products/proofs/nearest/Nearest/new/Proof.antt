@@ -1,7 +1,7 @@
 -- `products::nearest::Nearest::new` meets its contract: both numbers are zero.
 use mathlib.Core.Path.{ap₂}
 use borrow.Author.Needs.{needs}
-use Rattle.products.specs.declared.number.Number.{Number}
+use Rattle.unpacked.specs.declared.Number.{Number}
 use Rattle.products.specs.declared.nearest.Nearest.{Nearest}
 use Rattle.products.proofs.nearest.Nearest.new.Statement.{statement}
 use Rattle.products.proofs.nearest.Nearest.new.Tie as tie

@@ -8,11 +8,12 @@ use lib.IntN.{negℤ}
 use lib.ListN.{length, getD}
 use Rattle.enclosure.specs.Methods.{Range, seven}
 use Rattle.products.specs.declared.sums.Place.the-variants.{Nowhere}
-use Rattle.products.specs.Number.{worth}
+use Rattle.unpacked.specs.Number.{worth}
 use Rattle.products.specs.Entries.{stopOf}
 use Rattle.products.specs.MidRad.{entryFrom}
-use Rattle.products.proofs.Fronts.{Filled}
-use Rattle.products.proofs.Writing.{below, small, lowersOf, uppersOf}
+use Rattle.matrices.proofs.Fronts.{Filled}
+use Rattle.matrices.proofs.Places.{below, small}
+use Rattle.products.proofs.Writing.{lowersOf, uppersOf}
 use Rattle.products.proofs.Ending.{places}
 use Rattle.products.proofs.FourEntry.{Spot, Read, MiddleSum}
 use Rattle.products.proofs.SevenEntry.{Made, PartSum, SharedSum}

@@ -7,8 +7,8 @@ use native.Mathlib.Omega.{arith}
 use lib.IntN.{negℤ}
 use lib.ListN.{getD}
 use borrow.Author.Needs.{needs}
-use Rattle.products.specs.declared.number.Number.{Number}
-use Rattle.products.specs.Number.{worth}
+use Rattle.unpacked.specs.declared.Number.{Number}
+use Rattle.unpacked.specs.Number.{worth}
 use Rattle.products.specs.Centred.{Shrunk}
 use Rattle.products.proofs.SevenEntry.{part-numbers, SharedSum, SharedNext, shared-start, shared-number, shared-next, shared-more}
 use Rattle.products.proofs.SevenZeros.{shared-skip}

@@ -1,7 +1,7 @@
 -- `products::sums::Sums::new` meets its contract: both sums are zero.
 use mathlib.Core.Path.{ap₂}
 use borrow.Author.Needs.{needs}
-use Rattle.products.specs.declared.number.Number.{Number}
+use Rattle.unpacked.specs.declared.Number.{Number}
 use Rattle.products.specs.declared.sums.Sums.{Sums}
 use Rattle.products.proofs.sums.Sums.new.Statement.{statement}
 use Rattle.products.proofs.sums.Sums.new.Tie as tie

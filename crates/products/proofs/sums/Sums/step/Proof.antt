@@ -6,13 +6,13 @@ use Rattle.algebra.specs.Extremes.{least₄, greatest₄}
 use Rattle.rounding.specs.Rounding.{negate}
 use Rattle.binary32.specs.Number.{valueOf}
 use Rattle.binary32.proofs.Held.{is-finite}
-use Rattle.products.specs.Number.{worth, Holds}
+use Rattle.unpacked.specs.Number.{worth, Holds}
 use Rattle.products.specs.Apart.{lowerNumber, upperNumber}
-use Rattle.products.specs.Corners.{corner₄, leastProduct, greatestProduct}
-use Rattle.products.specs.Exact.{Exact}
-use Rattle.products.proofs.Multiplying.{unpacked-number}
-use Rattle.products.proofs.CornerSteps.{Worth, corner-factors, corner-at, least-of, greatest-of, least-rounded, greatest-rounded}
-use Rattle.products.proofs.RoundedProducts.{exact-formed}
+use Rattle.unpacked.specs.Corners.{corner₄, leastProduct, greatestProduct}
+use Rattle.unpacked.specs.Exact.{Exact}
+use Rattle.unpacked.proofs.Multiplying.{unpacked-number}
+use Rattle.unpacked.proofs.CornerSteps.{Worth, corner-factors, corner-at, least-of, greatest-of, least-rounded, greatest-rounded}
+use Rattle.unpacked.proofs.RoundedProducts.{exact-formed}
 use Rattle.products.proofs.sums.Sums.step.Statement.{statement}
 use Rattle.products.proofs.sums.Sums.step.Tie as tie
 

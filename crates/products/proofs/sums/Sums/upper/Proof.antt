@@ -2,7 +2,7 @@
 use mathlib.Core.Path.{ap, _∙_}
 use borrow.Author.Needs.{needs}
 use Rattle.binary32.specs.Number.{patternOf}
-use Rattle.products.proofs.Opposites.{opposite-number}
+use Rattle.unpacked.proofs.Opposites.{opposite-number}
 use Rattle.products.proofs.sums.Sums.upper.Statement.{statement}
 use Rattle.products.proofs.sums.Sums.upper.Tie as tie
 

@@ -4,11 +4,11 @@ use native.Mathlib.Omega.{arith}
 use borrow.Author.Needs.{needs}
 use lib.IntN.{negℤ}
 use Rattle.enclosure.specs.Methods.{Range, three}
-use Rattle.products.specs.Number.{worth}
-use Rattle.products.proofs.Fronts.{filled-more}
+use Rattle.unpacked.specs.Number.{worth}
+use Rattle.matrices.proofs.Fronts.{filled-more}
 use Rattle.products.proofs.Ending.{Closes}
 use Rattle.products.proofs.FourEntry.{entryBy, OuterSum, outer-number}
-use Rattle.products.proofs.Opposites.{opposite-number}
+use Rattle.unpacked.proofs.Opposites.{opposite-number}
 use Rattle.products.proofs.ThreeSteps.{first-numbers, three-closes}
 use Rattle.products.proofs.Writing.{stop-more, lower-is, upper-is}
 use Rattle.products.proofs.three.entries.Tie as tie

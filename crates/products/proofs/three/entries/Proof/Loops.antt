@@ -7,11 +7,12 @@ use lib.IntN.{negℤ}
 use lib.ListN.{length}
 use Rattle.enclosure.specs.Methods.{three}
 use Rattle.products.specs.declared.sums.Place.the-variants.{Nowhere, At}
-use Rattle.products.specs.Number.{worth}
+use Rattle.unpacked.specs.Number.{worth}
 use Rattle.products.specs.MidRad.{entryFrom}
 use Rattle.products.specs.Entries.{stopOf, Written}
-use Rattle.products.proofs.Fronts.{Filled, filled-from}
-use Rattle.products.proofs.Writing.{below, small, lowersOf, uppersOf, written-at}
+use Rattle.matrices.proofs.Fronts.{Filled, filled-from}
+use Rattle.matrices.proofs.Places.{below, small}
+use Rattle.products.proofs.Writing.{lowersOf, uppersOf, written-at}
 use Rattle.products.proofs.Ending.{places}
 use Rattle.products.proofs.FourEntry.{Spot, Read, entryBy, OuterSum}
 use Rattle.products.proofs.ThreeSteps.{FirstSum}

@@ -7,7 +7,7 @@ use borrow.Author.Needs.{needs}
 use lib.IntN.{negℤ}
 use lib.ListN.{getD}
 use Rattle.binary32.specs.Number.{valueOf, held}
-use Rattle.products.specs.Number.{worth}
+use Rattle.unpacked.specs.Number.{worth}
 use Rattle.products.specs.Derived.{outerOf, raisedOf, factorOf}
 use Rattle.products.proofs.NearestSteps.{tiny-holds, tiny-below}
 use Rattle.products.proofs.FourEntry.{b-mid, b-rad, OuterSum, OuterNext, outer-start, outer-number, outer-next, outer-more, outer-skip}

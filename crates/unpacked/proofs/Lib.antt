@@ -1,0 +1,39 @@
+-- values of patterns
+pub mod Patterns
+-- what numbers taken apart are worth, and their patterns
+pub mod Ranges
+pub mod Floors
+pub mod Leading
+pub mod Worths
+pub mod Cutting
+pub mod Packing
+pub mod Opposites
+pub mod Unpacking
+-- their sums, down and to nearest
+pub mod Ordering
+pub mod FarShifts
+pub mod CutSums
+pub mod Adding
+pub mod Nearing
+pub mod Sticky
+pub mod Halves
+pub mod NearShifts
+pub mod NearCuts
+pub mod Marks
+pub mod NearSum
+pub mod Negatives
+pub mod Limits
+-- their products
+pub mod Found
+pub mod Shortening
+pub mod ExactProducts
+pub mod Multiplying
+pub mod SmallProducts
+pub mod SmallNear
+pub mod RoundedProducts
+pub mod Partials
+-- corner products
+pub mod CornerOrder
+pub mod CornerRounding
+pub mod CornerSteps
+pub mod CornerTerms

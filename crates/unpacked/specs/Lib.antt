@@ -1,0 +1,4 @@
+pub mod Number
+pub mod Cuts
+pub mod Exact
+pub mod Corners
