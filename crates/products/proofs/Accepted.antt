@@ -9,7 +9,7 @@ use Rattle.refusals.specs.Answer.{done}
 use Rattle.matrices.specs.Lists.{front}
 use Rattle.matrices.specs.Matrix.{AllFine, midAt, radAt}
 use Rattle.products.specs.MidRad.{Sized}
-use Rattle.products.specs.Entries.{Sizes}
+use Rattle.products.specs.Written.{Sizes}
 use Rattle.matrices.specs.Checks.{Given, chosen, checkOf}
 use Rattle.matrices.proofs.CheckTells.{Checked, checked-tells}
 use Rattle.products.proofs.EntryExt.{ByMidRad}

@@ -20,7 +20,7 @@ use Rattle.products.specs.Apart.{lowerNumber, upperNumber}
 use Rattle.unpacked.specs.Corners.{leastProduct, greatestProduct}
 use Rattle.products.specs.Running.{BothNumbers, Stepped, Sum, refusedSums, zeroSums}
 use Rattle.matrices.specs.Matrix.{Matrix, cellAt, lowerAt, upperAt}
-use Rattle.products.specs.Entries.{entryOf}
+use Rattle.matrices.specs.Entries.{entryOf}
 use Rattle.products.proofs.Or.{or-first, or-second, or-cases}
 use Rattle.products.proofs.Carrying.{zero-runs, holds-runs, holds-none, sum-stays, mirrored-is, negate-none, down-more, up-more}
 use Rattle.products.proofs.Pairs.{Taken}

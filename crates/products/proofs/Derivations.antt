@@ -20,7 +20,7 @@ use Rattle.binary32.proofs.Held.{held-hold}
 use Rattle.products.specs.declared.derived.Kind.{Kind}
 use Rattle.products.specs.declared.derived.Kind.the-variants.{Outer, Raised, Part}
 use Rattle.products.specs.Derived.{MidRad, Derives, Derived, outerOf, raisedOf, partOf, factorOf, derivedOf, raisedFactor}
-use Rattle.products.proofs.Fitting.{plus-up-fits, mul-up-fits}
+use Rattle.matrices.proofs.Fitting.{plus-up-fits, mul-up-fits}
 use Rattle.unpacked.proofs.Patterns.{held-is, low-value, high-value, magnitude-value, magnitude-finite, held-magnitude, held-negated, held-least, min-zero}
 
 -- ---- p = sign(m) × min(|m|, r)

@@ -24,9 +24,11 @@ use Rattle.products.specs.declared.sums.Place.the-variants.{Nowhere, At}
 use Rattle.matrices.specs.Lists.{tabulate, front}
 use Rattle.matrices.specs.Matrix.{midAt, radAt}
 use Rattle.products.specs.MidRad.{entryFrom}
-use Rattle.products.specs.Entries.{entryAt, refused, lowerOf, upperOf, stopOf, placeOf, Written}
+use Rattle.matrices.specs.Entries.{entryAt, refused, lowerOf, upperOf, stopOf}
+use Rattle.products.specs.Written.{placeOf, Written}
 use Rattle.matrices.specs.Checks.{Given, chosen, checkOf}
-use Rattle.products.specs.Product.{Left, InReach, Finished, entries, cells, stop, productOf, resultAfter, workAfter, answerAt, clearedAt}
+use Rattle.matrices.specs.Product.{Left, entries, cells, stop, productOf, resultAfter, workAfter}
+use Rattle.products.specs.Written.{InReach, Finished, answerAt, clearedAt}
 use Rattle.matrices.proofs.Firsts.{first-le}
 use Rattle.matrices.proofs.Fronts.{tabulate-length}
 use Rattle.products.proofs.EntryExt.{ByMidRad}

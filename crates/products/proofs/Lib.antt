@@ -8,7 +8,6 @@ pub mod Pairs
 pub mod Zeros
 pub mod ClassicalSums
 -- midpoints and radii, and what is worked out of them
-pub mod Fitting
 pub mod Derivations
 pub mod Raised
 pub mod Converts
@@ -27,8 +26,5 @@ pub mod NearestSteps
 pub mod ThreeSteps
 -- the entries and what a product leaves
 pub mod WrittenExt
-pub mod EntryNumbers
-pub mod Keeping
 pub mod Accepted
 pub mod Leaving
-pub mod Examples

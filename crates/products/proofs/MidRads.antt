@@ -20,7 +20,7 @@ use Rattle.matrices.specs.Lists.{front}
 use Rattle.matrices.specs.Matrix.{Matrix, AllFine, lowerAt, upperAt, cellAt, midAt, radAt}
 use Rattle.products.specs.Derived.{MidRad, MidRads}
 use Rattle.products.specs.MidRad.{midRadAt, entryFrom}
-use Rattle.products.specs.Entries.{entryOf, entryAt}
+use Rattle.matrices.specs.Entries.{entryOf, entryAt}
 use Rattle.products.proofs.EntryExt.{ByMidRad, bare, entry-ext, entry-bare}
 use Rattle.matrices.proofs.Fronts.{getD-front, length-front}
 use Rattle.matrices.proofs.Places.{below}

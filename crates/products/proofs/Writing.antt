@@ -5,7 +5,6 @@ use mathlib.Core.List.{List}
 use mathlib.Core.Option.{Option, none, some}
 use Prim.Native.Nat.{ℕ, _+_, _*_, _/_, _%_, _≤_, _<_}
 use native.Mathlib.Omega.{arith}
-use lib.Arith.{digits-div, digits-mod}
 use lib.Dec.{ltb}
 use borrow.Author.Tests.{lt-ltb, le-ltb}
 use Rattle.rounding.specs.Format.{binary32}
@@ -15,22 +14,14 @@ use Rattle.binary32.specs.Number.{patternOf}
 use Rattle.products.specs.declared.sums.Place.the-variants.{Nowhere, At}
 use Rattle.matrices.specs.Matrix.{Matrix}
 use Rattle.products.specs.MidRad.{midRadAt, entryFrom}
-use Rattle.products.specs.Entries.{entryOf, entryAt, refused, lowerOf, upperOf, stopOf, Written}
+use Rattle.matrices.specs.Entries.{entryOf, entryAt, refused, lowerOf, upperOf, stopOf}
+use Rattle.products.specs.Written.{Written}
 use Rattle.matrices.proofs.Fronts.{Filled, filled-is}
+use Rattle.matrices.proofs.Places.{position-row, position-column}
 use Rattle.matrices.proofs.Firsts.{first-none, first-more, first-here}
 
 -- ---- the entry at the place of row i and column j
-position-row : (i j n c : ℕ) → c ≡ i * n + j → j < n → c / n ≡ i
-position-row i j n c e h = rw (e, digits-div i h)
-
-position-column : (i j n c : ℕ) → c ≡ i * n + j → j < n → c % n ≡ j
-position-column i j n c e h = rw (e, digits-mod i h)
-
 module _ (method : Method) (k n i j c : ℕ) (e : c ≡ i * n + j) (h : j < n) where
-  pub position-entry : (A B : Matrix) → entryAt method k n A B c ≡ entryOf method k n A B i j
-  unfolding entryAt
-  position-entry A B = ap₂ (entryOf method k n A B) (position-row i j n c e h) (position-column i j n c e h)
-
   pub position-entry-from : (ma ra mb rb : List ℕ) → entryFrom method k n ma ra mb rb c ≡ entry (of binary32) method k (λ l. midRadAt ma ra (i * k + l)) (λ l. midRadAt mb rb (l * n + j))
   unfolding entryFrom
   position-entry-from ma ra mb rb = ap₂ (λ r t. entry (of binary32) method k (λ l. midRadAt ma ra (r * k + l)) (λ l. midRadAt mb rb (l * n + t))) (position-row i j n c e h) (position-column i j n c e h)

@@ -8,7 +8,8 @@ use Rattle.enclosure.specs.Methods.{Method, Range}
 use Rattle.products.specs.declared.sums.Place.{Place}
 use Rattle.matrices.specs.Lists.{front}
 use Rattle.products.specs.MidRad.{entryFrom}
-use Rattle.products.specs.Entries.{refused, lowerOf, upperOf, stopOf, placeOf, Written}
+use Rattle.matrices.specs.Entries.{refused, lowerOf, upperOf, stopOf}
+use Rattle.products.specs.Written.{placeOf, Written}
 use Rattle.matrices.proofs.Firsts.{first-le, first-ext}
 use Rattle.matrices.proofs.Fronts.{front-ext}
 

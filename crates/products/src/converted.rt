@@ -4,7 +4,7 @@ ghost use mathlib.Core.Logic.{_⊎_};
 ghost use lib.ListN.{length};
 ghost use Rattle.enclosure.specs.Methods.{three, four, seven};
 ghost use Rattle.matrices.specs.Checks.{chosen};
-ghost use Rattle.products.specs.Entries.{Written};
+ghost use Rattle.products.specs.Written.{Written};
 ghost use Rattle.products.specs.MidRad.{Sized, entryFrom};
 use crate::derived::Kind;
 use crate::derived::derive_all;

@@ -4,7 +4,7 @@ ghost use Prim.Native.Nat.{_*_};
 ghost use Rattle.enclosure.specs.Methods.{three};
 ghost use Rattle.products.specs.Derived.{Derived, outerOf, raisedOf, factorOf};
 ghost use Rattle.products.specs.MidRad.{Sized, entryFrom};
-ghost use Rattle.products.specs.Entries.{Written};
+ghost use Rattle.products.specs.Written.{Written};
 use crate::centred::adds;
 use crate::nearest::Nearest;
 use crate::number::opposite;

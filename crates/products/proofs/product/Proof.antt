@@ -5,10 +5,10 @@ use borrow.Author.Needs.{needs}
 use lib.ListN.{length}
 use Rattle.refusals.specs.Answer.{done, outcome}
 use Rattle.refusals.proofs.Answers.{outcome-done}
-use Rattle.products.specs.Entries.{Sizes}
+use Rattle.products.specs.Written.{Sizes}
 use Rattle.matrices.specs.Checks.{Given, given, checkOf}
 use Rattle.products.proofs.Accepted.{inner, sizes, a-convertible, b-convertible, a-converted, b-converted, chosen-by-mid-rad, ready}
-use Rattle.products.proofs.Keeping.{left-keeps}
+use Rattle.matrices.proofs.Keeping.{left-keeps}
 use Rattle.products.proofs.Leaving.{reached, left-refused, left-classical, left-converted}
 use Rattle.matrices.proofs.Places.{small}
 use Rattle.products.proofs.product.Statement.{statement}

@@ -11,7 +11,8 @@ use native.Mathlib.Omega.{arith}
 use borrow.Author.Needs.{needs}
 use Rattle.enclosure.specs.Methods.{classical}
 use Rattle.matrices.proofs.Fronts.{filled-none, filled-more, filled-from}
-use Rattle.products.proofs.Writing.{position-entry, stop-none, stop-more, lower-is, upper-is, written-all, written-at}
+use Rattle.matrices.proofs.Places.{position-entry}
+use Rattle.products.proofs.Writing.{stop-none, stop-more, lower-is, upper-is, written-all, written-at}
 use Rattle.products.proofs.ClassicalSums.{both-numbers, sum-start, entry-refused}
 use Rattle.products.proofs.classical.entries.Statement.{statement}
 use Rattle.products.proofs.classical.entries.Tie as tie

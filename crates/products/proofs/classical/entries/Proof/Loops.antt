@@ -15,10 +15,10 @@ use Rattle.products.specs.Apart.{IsApart, zeroApart}
 use Rattle.matrices.specs.Matrix.{Matrix, lowerAt, upperAt}
 use Rattle.products.specs.Apart.{Cells}
 use Rattle.products.specs.Running.{Sum}
-use Rattle.products.specs.Entries.{entryAt, stopOf}
+use Rattle.matrices.specs.Entries.{entryAt, stopOf}
 use Rattle.matrices.proofs.Fronts.{Filled}
-use Rattle.matrices.proofs.Places.{below}
-use Rattle.products.proofs.Writing.{position-entry, lowersOf, uppersOf}
+use Rattle.matrices.proofs.Places.{below, position-entry}
+use Rattle.products.proofs.Writing.{lowersOf, uppersOf}
 use Rattle.products.proofs.ClassicalSums.{lowerTo, upperTo, entry-whole}
 use Rattle.products.proofs.Pairs.{Taken, fine-taken, fine-cells}
 use Rattle.products.proofs.classical.entries.Tie as tie

@@ -7,7 +7,7 @@ use lib.IntN.{negℤ}
 use borrow.Author.Needs.{needs}
 use Rattle.products.specs.declared.sums.Place.the-variants.{At}
 use Rattle.unpacked.specs.Number.{worth}
-use Rattle.products.specs.Entries.{Written}
+use Rattle.products.specs.Written.{Written}
 use Rattle.matrices.proofs.Fronts.{filled-from}
 use Rattle.products.proofs.Writing.{written-all, written-at}
 use Rattle.products.proofs.Ending.{Closes}

@@ -9,7 +9,7 @@ use lib.ListN.{length, getD}
 use Rattle.enclosure.specs.Methods.{Range, seven}
 use Rattle.products.specs.declared.sums.Place.the-variants.{Nowhere}
 use Rattle.unpacked.specs.Number.{worth}
-use Rattle.products.specs.Entries.{stopOf}
+use Rattle.matrices.specs.Entries.{stopOf}
 use Rattle.products.specs.MidRad.{entryFrom}
 use Rattle.matrices.proofs.Fronts.{Filled}
 use Rattle.matrices.proofs.Places.{below, small}

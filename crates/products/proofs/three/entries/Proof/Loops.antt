@@ -9,7 +9,8 @@ use Rattle.enclosure.specs.Methods.{three}
 use Rattle.products.specs.declared.sums.Place.the-variants.{Nowhere, At}
 use Rattle.unpacked.specs.Number.{worth}
 use Rattle.products.specs.MidRad.{entryFrom}
-use Rattle.products.specs.Entries.{stopOf, Written}
+use Rattle.matrices.specs.Entries.{stopOf}
+use Rattle.products.specs.Written.{Written}
 use Rattle.matrices.proofs.Fronts.{Filled, filled-from}
 use Rattle.matrices.proofs.Places.{below, small}
 use Rattle.products.proofs.Writing.{lowersOf, uppersOf, written-at}

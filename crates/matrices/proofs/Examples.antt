@@ -17,11 +17,11 @@ use Rattle.refusals.specs.Sizes.{checkSize, checkLengths}
 use Rattle.binary32.specs.Number.{valueOf, held, negated}
 use Rattle.binary32.specs.Operations.{with₂, answer, addDown, addUp, addNear, mulDown, mulUp}
 use Rattle.intervals.specs.Conversion.{faultOf, midOf, radOf, midradOf}
 use Rattle.matrices.specs.Lists.{tabulate, first}
 use Rattle.matrices.specs.Matrix.{cellAt}
-use Rattle.products.specs.Entries.{entryOf, entryAt, stopOf, lowerOf, upperOf}
+use Rattle.matrices.specs.Entries.{entryOf, entryAt, stopOf, lowerOf, upperOf}
 use Rattle.matrices.specs.Checks.{given, methodOf, checkMethod, checkSizes, checkOperands, checkLent, checkSlices, checkCells, checkBoth, checkShapes, checkOf}
-use Rattle.products.specs.Product.{productOf, resultAfter}
+use Rattle.matrices.specs.Product.{productOf, resultAfter}
 
 -- answers with the patterns that they give, one or two: of an operation, of a conversion, of a product
 pub record Line : Type 0 where

@@ -10,9 +10,9 @@ use Rattle.enclosure.specs.Arithmetic.{of}
 use Rattle.enclosure.specs.Methods.{Method, classical, three, four, seven, Range, total, ends, entry₁, entry}
 use Rattle.binary32.proofs.Held.{Fits}
 use Rattle.binary32.proofs.Numbers.{down-fits, up-fits}
 use Rattle.matrices.specs.Matrix.{Matrix}
-use Rattle.products.specs.Entries.{entryOf}
-use Rattle.products.proofs.Fitting.{sum-fits}
+use Rattle.matrices.specs.Entries.{entryOf}
+use Rattle.matrices.proofs.Fitting.{sum-fits}
 
 pub record Numbers (e : Range) : Type 0 where
   pub lower : Num binary32 (e .lower)

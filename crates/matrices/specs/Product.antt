@@ -3,18 +3,16 @@ use mathlib.Core.Path.{_≡_}
 use mathlib.Core.Bool.{cond}
 use mathlib.Core.List.{List}
 use mathlib.Core.Option.{Option}
-use Prim.Native.Nat.{ℕ, _*_, _/_, _%_, _<_}
+use Prim.Native.Nat.{ℕ, _*_, _/_, _%_}
 use lib.Dec.{ltb, eqb}
 use Rattle.enclosure.specs.Methods.{Range}
 use Rattle.refusals.specs.Refusal.{ofCell}
 use Rattle.refusals.specs.Answer.{Answer, refuses, done, then, unlessRefused}
 use Rattle.intervals.specs.Slices.{zeros}
-use Rattle.products.specs.declared.sums.Place.{Place}
-use Rattle.products.specs.declared.sums.Place.the-variants.{Nowhere, At}
 use Rattle.matrices.specs.Lists.{front}
 use Rattle.matrices.specs.Matrix.{midAt, radAt}
-use Rattle.products.specs.Entries.{entryAt, stopOf, lowerOf, upperOf}
+use Rattle.matrices.specs.Entries.{entryAt, stopOf, lowerOf, upperOf}
 use Rattle.matrices.specs.Checks.{Given, chosen, checkOf}
 
 -- the entries by place
 abbrev pub entries : Given → ℕ → Option Range
@@ -50,24 +48,3 @@ pub record Left (g : Given) (ma ra mb rb lo up : List ℕ) (r : Answer (Unit {0}
   pub b-rads : rb′ ≡ workAfter g (g .b-rows * g .b-columns) (radAt (g .B)) rb
   pub lowers : lo′ ≡ resultAfter g lowerOf lo
   pub uppers : up′ ≡ resultAfter g upperOf up
-
--- ---- the end of a product: an entry that is refused clears the result's cells
-
-abbrev pub answerAt : Place → Answer (Unit {0})
-answerAt Nowhere = done
-answerAt (At i j) = refuses (ofCell 5 3 i j)
-
-abbrev pub clearedAt : Place → ℕ → List ℕ → List ℕ
-clearedAt Nowhere count d = d
-clearedAt (At i j) count d = zeros count d
-
--- a row and a column below 32
-abbrev pub InReach : Place → Type 0
-InReach Nowhere = Unit {0}
-InReach (At i j) = (i < 32) × (j < 32)
-
--- what `finish` leaves
-pub record Finished (place : Place) (count : ℕ) (lo up : List ℕ) (r : Answer (Unit {0})) (lo′ up′ : List ℕ) : Type 0 where
-  pub answer : r ≡ answerAt place
-  pub lowers : lo′ ≡ clearedAt place count lo
-  pub uppers : up′ ≡ clearedAt place count up

@@ -8,9 +8,9 @@ use Rattle.enclosure.specs.Demand.{Kept}
 use Rattle.enclosure.specs.Methods.{Range}
 use Rattle.refusals.specs.Answer.{done}
 use Rattle.binary32.specs.Number.{valueOf}
 use Rattle.matrices.specs.Matrix.{cellAt}
 use Rattle.matrices.specs.Checks.{Given, chosen}
-use Rattle.products.specs.Product.{productOf}
+use Rattle.matrices.specs.Product.{productOf}
 
 -- A's row i and B's column j, as handed in
 abbrev pub rowOf : Given → ℕ → ℕ → Cell

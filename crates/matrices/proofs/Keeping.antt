@@ -17,18 +17,17 @@ use Rattle.intervals.proofs.Faults.{fine-tells}
 use Rattle.refusals.specs.Refusal.{ofCell}
 use Rattle.refusals.specs.Answer.{Answer, refuses, done}
 use Rattle.refusals.proofs.Answers.{not-both, then-tells}
 use Rattle.matrices.specs.Lists.{front}
 use Rattle.matrices.specs.Matrix.{Matrix, lowerAt, upperAt, cellAt, faultAt}
-use Rattle.products.specs.Entries.{entryOf, refused, lowerOf, upperOf, stopOf}
+use Rattle.matrices.specs.Entries.{entryOf, refused, lowerOf, upperOf, stopOf}
 use Rattle.matrices.specs.Checks.{Given, chosen, checkOf}
-use Rattle.products.specs.Product.{entries, cells, stop, productOf, resultAfter, Left}
-use Rattle.products.specs.Demand.{Keeps, rowOf, columnOf, rangeAt}
+use Rattle.matrices.specs.Product.{entries, cells, stop, productOf, resultAfter, Left}
+use Rattle.matrices.specs.Demand.{Keeps, rowOf, columnOf, rangeAt}
 use Rattle.matrices.proofs.CheckTells.{Checked, checked-tells}
-use Rattle.products.proofs.EntryNumbers.{entry-numbers}
+use Rattle.matrices.proofs.EntryNumbers.{entry-numbers}
 use Rattle.matrices.proofs.Firsts.{first-le, first-before}
 use Rattle.matrices.proofs.Fronts.{getD-front}
-use Rattle.matrices.proofs.Places.{below}
-use Rattle.products.proofs.Writing.{position-entry}
+use Rattle.matrices.proofs.Places.{below, position-entry}
 
 -- ---- an entry that is not refused
 record Accepted (m : Option Range) : Type 0 where
