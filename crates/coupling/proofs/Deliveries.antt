@@ -20,11 +20,11 @@ use Rattle.sheets.proofs.Answers.{done-tells}
 use Rattle.sheets.proofs.Bounding.{fine-finite}
 use Rattle.sheets.proofs.Exact.{canonical-value}
 use Rattle.sheets.proofs.Rooms.{bytes-tell}
-use Rattle.products.specs.Checks.{Given, checkMethod, checkOf}
-use Rattle.products.specs.Product.{productOf}
-use Rattle.products.specs.Demand.{Keeps}
-use Rattle.products.proofs.CheckTells.{checked-tells}
-use Rattle.products.proofs.Writing.{below}
+use Rattle.matrices.specs.Checks.{Given, checkMethod, checkOf}
+use Rattle.matrices.specs.Product.{productOf}
+use Rattle.matrices.specs.Demand.{Keeps}
+use Rattle.matrices.proofs.CheckTells.{checked-tells}
+use Rattle.matrices.proofs.Places.{below}
 use Rattle.coupling.specs.Job.{array, sheetRead, lowersIn, uppersIn, operands, sheetsRead}
 use Rattle.coupling.specs.Demand.{JobKeeps}
 use Rattle.coupling.proofs.Jobs.{Ready, produced}

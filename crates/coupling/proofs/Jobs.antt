@@ -15,8 +15,8 @@ use Rattle.sheets.specs.Layout.{rowsOf, columnsOf}
 use Rattle.sheets.specs.Reading.{shape}
 use Rattle.sheets.specs.Writing.{written, writeOf, outAfter}
 use Rattle.sheets.proofs.Rooms.{bytes-tell}
-use Rattle.products.specs.Product.{productOf}
-use Rattle.products.specs.Demand.{Keeps}
+use Rattle.matrices.specs.Product.{productOf}
+use Rattle.matrices.specs.Demand.{Keeps}
 use Rattle.coupling.specs.Job.{array, operands, sheetsRead, sheetsProductOf, Sheets, resultLowers, resultUppers, jobOf, outOf}
 
 -- ---- the product is there, with rows and columns r and c and its bounds in lo and up

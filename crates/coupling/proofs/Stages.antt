@@ -13,8 +13,8 @@ use Rattle.sheets.specs.declared.chain.Cell.{Cell}
 use Rattle.sheets.specs.Layout.{rowsOf, columnsOf}
 use Rattle.sheets.specs.Reading.{shape, sliceAfter, lowersAfter, uppersAfter}
 use Rattle.sheets.proofs.Answers.{done-tells}
-use Rattle.products.specs.Checks.{Given, given, checkMethod}
-use Rattle.products.specs.Product.{productOf}
+use Rattle.matrices.specs.Checks.{Given, given, checkMethod}
+use Rattle.matrices.specs.Product.{productOf}
 use Rattle.coupling.specs.Job.{array, sheetRead, lowersIn, uppersIn, operands, sheetsRead, sheetsProductOf, boundsAfter, Sheets, Multiplied}
 
 -- ---- a slice, by the shape o that was read

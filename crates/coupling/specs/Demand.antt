@@ -9,8 +9,8 @@ use Rattle.enclosure.specs.Methods.{Range}
 use Rattle.refusals.specs.Answer.{Answer, gives, refuses}
 use Rattle.binary32.specs.Number.{valueOf}
 use Rattle.sheets.specs.Layout.{rowsOf, columnsOf}
-use Rattle.products.specs.Matrix.{Matrix, cellAt}
-use Rattle.products.specs.Checks.{chosen}
+use Rattle.matrices.specs.Matrix.{Matrix, cellAt}
+use Rattle.matrices.specs.Checks.{chosen}
 use Rattle.coupling.specs.Job.{sheetRead, lowersIn, uppersIn}
 
 -- ---- a sheet as read: widened by its wear classes

@@ -11,10 +11,10 @@ use Rattle.sheets.specs.declared.Shape.{Shape}
 use Rattle.sheets.specs.Layout.{rowsOf, columnsOf}
 use Rattle.sheets.specs.Reading.{shape, readOf, lowersAfter, uppersAfter}
 use Rattle.sheets.specs.Writing.{writeOf, outAfter}
-use Rattle.products.specs.Entries.{lowerOf, upperOf}
-use Rattle.products.specs.Checks.{Given, given, checkMethod}
-use Rattle.products.specs.Product.{productOf, resultAfter}
-use Rattle.products.specs.Demand.{Keeps}
+use Rattle.matrices.specs.Entries.{lowerOf, upperOf}
+use Rattle.matrices.specs.Checks.{Given, given, checkMethod}
+use Rattle.matrices.specs.Product.{productOf, resultAfter}
+use Rattle.matrices.specs.Demand.{Keeps}
 
 -- an array of 1,024 zeros
 abbrev pub array : List ℕ

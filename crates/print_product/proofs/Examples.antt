@@ -20,11 +20,11 @@ use Rattle.sheets.specs.Cell.{widenedOf}
 use Rattle.sheets.specs.Chain.{judgeOf, visitOf, walk, chainOf}
 use Rattle.sheets.specs.Reading.{readOf, putIn, sliceAfter}
 use Rattle.sheets.specs.Sheet.{recordBytes}
-use Rattle.products.specs.Lists.{tabulate, first}
-use Rattle.products.specs.Matrix.{cellAt}
-use Rattle.products.specs.Entries.{entryOf, entryAt, stopOf}
-use Rattle.products.specs.Checks.{methodOf, checkMethod, checkSizes, checkOperands, checkLent, checkSlices, checkCells, checkBoth, checkShapes, checkOf}
-use Rattle.products.specs.Product.{productOf, resultAfter}
+use Rattle.matrices.specs.Lists.{tabulate, first}
+use Rattle.matrices.specs.Matrix.{cellAt}
+use Rattle.matrices.specs.Entries.{entryOf, entryAt, stopOf}
+use Rattle.matrices.specs.Checks.{methodOf, checkMethod, checkSizes, checkOperands, checkLent, checkSlices, checkCells, checkBoth, checkShapes, checkOf}
+use Rattle.matrices.specs.Product.{productOf, resultAfter}
 use Rattle.coupling.specs.Job.{sheetsProductOf, boundsAfter}
 use Rattle.print_product.specs.Digits.{digit, digits, digitCountTo}
 use Rattle.print_product.specs.Lines.{productLine, cellLine, refusedLine}

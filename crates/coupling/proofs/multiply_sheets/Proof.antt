@@ -2,7 +2,7 @@
 use mathlib.Core.Path.{_≡_, sym, ap, _∙_}
 use Rattle.refusals.specs.Answer.{done, outcome, then, gives}
 use Rattle.refusals.proofs.Answers.{outcome-done, outcome-refused}
-use Rattle.products.specs.Checks.{checkMethod}
+use Rattle.matrices.specs.Checks.{checkMethod}
 use Rattle.sheets.specs.Reading.{shape}
 use Rattle.coupling.proofs.Stages.{sheet-is, read-method, read-first, read-second, sheets-refused, sheets-made}
 use borrow.Author.Needs.{needs}
