@@ -4,7 +4,7 @@ ghost use Prim.Native.Nat.{_*_};
 ghost use Rattle.enclosure.specs.Methods.{seven};
 ghost use Rattle.products.specs.Derived.{Derived, outerOf, partOf};
 ghost use Rattle.products.specs.MidRad.{Sized, entryFrom};
-ghost use Rattle.products.specs.Entries.{Written};
+ghost use Rattle.products.specs.Written.{Written};
 use crate::centred::Centred;
 use crate::centred::adds;
 use crate::centred::is_nonzero;
