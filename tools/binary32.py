@@ -1,14 +1,17 @@
 """binary32 patterns and their exact values, for tools/sheet. Not proved."""
 import struct
-from decimal import ROUND_CEILING, ROUND_FLOOR, Context, Decimal
+from decimal import ROUND_05UP, ROUND_CEILING, ROUND_FLOOR, Context, Decimal
 from fractions import Fraction
 
+# Patterns; MAX is that of the largest finite number.
+MAX, INFINITY, MINUS_ZERO = 0x7F7FFFFF, 0x7F800000, 0x80000000
+
+# The value of MAX.
 LARGEST = Fraction(2**128 - 2**104)
-MINUS_ZERO = 1 << 31
 
 
 def is_finite(pattern):
-    return pattern >> 23 & 255 != 255
+    return pattern & INFINITY != INFINITY
 
 
 def decimal(pattern):
@@ -18,6 +21,13 @@ def decimal(pattern):
 
 def value(pattern):
     return Fraction(decimal(pattern))
+
+
+def shortened(exact):
+    """A fraction of few digits for a Decimal of any length, at most LARGEST in magnitude: each binary32 number is above, at or below both alike.
+    Every binary32 number is a whole number of 2^-149, so of 10^-149. The place of 10^-150 is the last that is kept. If digits are cut off behind it,
+    ROUND_05UP turns a 0 in this place to 1 and a 5 to 6: what lies between two whole numbers of 10^-149 stays strictly between them."""
+    return Fraction(exact.quantize(Decimal("1e-150"), ROUND_05UP, Context(prec=200)))
 
 
 def magnitude(exact):

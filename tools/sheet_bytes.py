@@ -5,15 +5,18 @@ from fractions import Fraction
 
 import binary32
 
+MOST_SIZE = 32
+MOST_CELLS = MOST_SIZE * MOST_SIZE
+MOST_CLASS = 7
 RECORD = 16
-MOST_BYTES = 16400
+MOST_BYTES = RECORD * (1 + MOST_CELLS)
 
 SENTENCES = {
     1: "a size is not from 1 to 32, or A's columns are not B's rows",
     2: "a slice is shorter than its cells",
     3: "a bound is not a finite number",
     4: "a lower bound is above the upper bound",
-    5: "no finite number is right for a rounding",
+    5: "a result is too large for binary32",
     6: "the sheet's length or record count is wrong, or a byte that must be zero is not",
     7: "an index is not below the record count, or a cell is outside the matrix",
     8: "the cells of the chain do not rise by row, then column",
@@ -54,14 +57,16 @@ def encode(sheet):
 
 def check_head(data):
     """6 on length and head, then 1."""
-    if len(data) % RECORD != 0 or not RECORD <= len(data) <= MOST_BYTES:
+    if len(data) > MOST_BYTES:
+        raise Refused(6, f"the length is above {MOST_BYTES} bytes")
+    if len(data) % RECORD != 0 or len(data) < RECORD:
         raise Refused(6, f"the length is {len(data)} bytes")
     _, rows, columns, count = struct.unpack_from("<HBBH", data)
     if count * RECORD != len(data):
         raise Refused(6, f"the record count is {count}, the length {len(data)} bytes")
     if any(data[6:RECORD]):
         raise Refused(6, "bytes 6 to 15 of the head")
-    if not (1 <= rows <= 32 and 1 <= columns <= 32):
+    if not (1 <= rows <= MOST_SIZE and 1 <= columns <= MOST_SIZE):
         raise Refused(1, f"{rows} rows and {columns} columns")
 
 
@@ -69,7 +74,7 @@ def check_bounds(cell, where):
     """10, 3, 4, 5 of a cell."""
     place = cell.row, cell.column
     where += ", row {}, column {}".format(*place)
-    if cell.wear > 7:
+    if cell.wear > MOST_CLASS:
         raise Refused(10, f"{where}: class {cell.wear}", *place)
     if not (binary32.is_finite(cell.lower) and binary32.is_finite(cell.upper)):
         raise Refused(3, f"{where}: {cell.lower:08X} {cell.upper:08X}", *place)

@@ -1,8 +1,8 @@
-"""For the tests of tools/sheet, not proved: the sheet job as a shared library."""
+"""For the tests of tools/sheet, not proved: the sheet job as a shared library. Imported after support, which has the tool's modules found."""
 import ctypes
 import os
 
-MOST_BYTES = 16400
+from sheet_bytes import MOST_BYTES
 
 
 class Library:

@@ -1,23 +1,15 @@
-"""Tests of tools/sheet on random sheets, not proved: sheets.py LIBRARY SEED. Round trips, and damaged sheets, both beside the library."""
+"""Tests of tools/sheet on random sheets, not proved: sheets.py LIBRARY SEED. Round trips, damaged sheets and damaged texts, all beside the library."""
 import os
 import random
 import sys
 import tempfile
 
-from support import ok, tool
+from support import EDGES, ok, tool
 from library import Library
 import binary32
 from sheet_bytes import Cell, Refused, Sheet, decode, encode
-from sheet_text import Parser, text_of
-
-EDGES = [0, 1, 0x7FFFFF, 0x800000, 0x3A800000, 0x3F7FFFFF, 0x3F800000, 0x7F7FFFFE, 0x7F7FFFFF]
-
-
-def packed(text):
-    parser = Parser()
-    for number, line in enumerate(text.splitlines(), 1):
-        parser.line(number, line)
-    return encode(parser.sheet())
+from sheet_text import read_sheet, text_of
+from text_lines import BadText
 
 
 def random_pattern(draw):
@@ -47,7 +39,7 @@ def test_round_trips(library, draw, count):
         assert library.read_code(data) == 0, data.hex()
         assert decode(data) == sheet
         for as_patterns in (False, True):
-            assert packed(text_of(sheet, as_patterns)) == data, text_of(sheet, as_patterns)
+            assert encode(read_sheet(text_of(sheet, as_patterns).encode())) == data, text_of(sheet, as_patterns)
     ok("tools/sheet, round trips", f"{count} random sheets, each accepted by the library")
 
 
@@ -90,11 +82,41 @@ def test_damage(library, draw, count):
     ok("tools/sheet, damaged sheets", f"{count}, refused as by the library, each number met")
 
 
+def damage_text(draw, data):
+    """Changes, takes out or puts in some bytes, exchanges two words or cuts the end off."""
+    for _ in range(draw.randint(1, 3)):
+        at, cut = draw.randrange(len(data) + 1), draw.randint(0, 2)
+        data = data[:at] + bytes(draw.choices(b"0123456789ABCDEFx.eE+-# \t\n\r\0\xff", k=draw.randint(0, 2))) + data[at + cut:]
+    if draw.random() < 0.2:
+        words = data.split(b" ")
+        i, j = draw.randrange(len(words)), draw.randrange(len(words))
+        words[i], words[j] = words[j], words[i]
+        data = b" ".join(words)
+    return data[:draw.randint(0, len(data))] if draw.random() < 0.1 else data
+
+
+def test_damaged_texts(library, draw, count):
+    """A damaged text is refused with a line, or packed as a sheet that the library accepts."""
+    packed = 0
+    for _ in range(count):
+        data = damage_text(draw, text_of(random_sheet(draw), draw.random() < 0.5).encode())
+        try:
+            sheet = encode(read_sheet(data))
+        except BadText as bad:
+            assert 1 <= bad.line <= data.count(b"\n") + 1, (data, bad)
+            continue
+        packed += 1
+        assert library.read_code(sheet) == 0, data
+    assert count / 20 < packed < count * 19 / 20, packed
+    ok("tools/sheet, damaged texts", f"{count}: {count - packed} refused with a line, {packed} packed and accepted by the library")
+
+
 def main(library, seed):
     draw = random.Random(seed)
     test_round_trips(library, draw, 300)
     test_commands(draw)
     test_damage(library, draw, 20000)
+    test_damaged_texts(library, draw, 5000)
 
 
 main(Library(sys.argv[1]), int(sys.argv[2]))
