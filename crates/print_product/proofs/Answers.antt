@@ -11,9 +11,9 @@ use Rattle.sheets.specs.declared.Shape.the-variants as S
 use Rattle.sheets.specs.Layout.{rowsOf, columnsOf}
 use Rattle.sheets.specs.Reading as reading
 use Rattle.sheets.proofs.Answers.{done-tells}
-use Rattle.coupling.specs.Job.{array, sheetsProductOf, Sheets}
-use Rattle.coupling.proofs.Jobs.{Ready, produced}
-use Rattle.coupling.proofs.Deliveries.{both-read}
+use Rattle.job.specs.Job.{array, sheetsProductOf, Sheets}
+use Rattle.job.proofs.Jobs.{Ready, produced}
+use Rattle.job.proofs.Deliveries.{both-read}
 use Rattle.print_product.specs.Lines.{refusedLine}
 use Rattle.print_product.specs.Input.{methodIn, lengthOfA}
 use Rattle.print_product.specs.Printed.{productText, answerText, sheetsText, printedOf}

@@ -15,7 +15,7 @@ use Rattle.refusals.proofs.Answers.{not-both, then-tells}
 use Rattle.sheets.specs.Layout.{u16At, framed, countOf}
 use Rattle.sheets.specs.Reading.{readOf}
 use Rattle.matrices.specs.Checks.{checkMethod}
-use Rattle.coupling.specs.Job.{sheetRead, sheetsProductOf}
+use Rattle.job.specs.Job.{sheetRead, sheetsProductOf}
 use Rattle.print_product.specs.Input.{digitValue, lengthOfA, sheetA, sheetB}
 use Rattle.print_product.specs.Printed.{answerText, sheetsText, printedOf}
 use Rattle.print_product.proofs.Answers.{textOf}

@@ -25,7 +25,7 @@ use Rattle.matrices.specs.Matrix.{cellAt}
 use Rattle.matrices.specs.Entries.{entryOf, entryAt, stopOf}
 use Rattle.matrices.specs.Checks.{methodOf, checkMethod, checkSizes, checkOperands, checkLent, checkSlices, checkCells, checkBoth, checkShapes, checkOf}
 use Rattle.matrices.specs.Product.{productOf, resultAfter}
-use Rattle.coupling.specs.Job.{sheetsProductOf, boundsAfter}
+use Rattle.job.specs.Job.{sheetsProductOf, boundsAfter}
 use Rattle.print_product.specs.Digits.{digit, digits, digitCountTo}
 use Rattle.print_product.specs.Lines.{productLine, cellLine, refusedLine}
 use Rattle.print_product.specs.Input.{digitValue, lengthOfA}

@@ -3,7 +3,7 @@ use mathlib.Core.List.{List, [], _++_}
 use Prim.Native.Nat.{ℕ, zero, suc, _*_, _/_, _%_}
 use lib.ListN.{getD}
 use Rattle.refusals.specs.Answer.{Answer, gives, refuses}
-use Rattle.coupling.specs.Job.{sheetsProductOf, resultLowers, resultUppers}
+use Rattle.job.specs.Job.{sheetsProductOf, resultLowers, resultUppers}
 use Rattle.print_product.specs.Lines.{productLine, cellLine, refusedLine}
 use Rattle.print_product.specs.Input.{methodIn, sheetsIn, sheetA, sheetB}
 

@@ -40,7 +40,7 @@ fn sheets_text(method: usize, s: &[u8], out: &mut [u8]) -> usize
     let mut lo = [0u32; 1024];
     let mut up = [0u32; 1024];
     let end = input::length_of_a(s);
-    match coupling::multiply_sheets(method as u32, &s[..end], &s[end..], &mut lo, &mut up) {
+    match job::multiply_sheets(method as u32, &s[..end], &s[end..], &mut lo, &mut up) {
         Shape::Sizes(rows, columns) => lines::product_text(out, method, rows, columns, &lo, &up),
         Shape::Refused(r) => lines::refused_line(out, r),
     }

@@ -4,9 +4,9 @@ use native.Mathlib.Omega.{arith}
 use Rattle.refusals.specs.Answer.{coded}
 use Rattle.refusals.proofs.Answers.{said}
 use Rattle.sheets.specs.Writing.{written}
-use Rattle.coupling.specs.Job.{outOf}
-use Rattle.coupling.proofs.Jobs.{job-small}
-use Rattle.coupling.proofs.Deliveries.{answer-keeps}
+use Rattle.job.specs.Job.{outOf}
+use Rattle.job.proofs.Jobs.{job-small}
+use Rattle.job.proofs.Deliveries.{answer-keeps}
 use borrow.Author.Needs.{needs}
 use Rattle.coupling.proofs.coupling_multiply.Statement.{statement}
 use Rattle.coupling.proofs.coupling_multiply.Tie as tie

@@ -3,7 +3,7 @@ use mathlib.Core.Path.{sym, subst, _∙_}
 use native.Mathlib.Omega.{arith}
 use lib.Seq.{length-take-le}
 use Rattle.refusals.proofs.SizeLaws.{small}
-use Rattle.coupling.proofs.Jobs.{ready}
+use Rattle.job.proofs.Jobs.{ready}
 use Rattle.print_product.specs.Put.{Put}
 use Rattle.print_product.proofs.Answers.{few, product-text, refused-text, sheets-text-is}
 use borrow.Author.Needs.{needs}

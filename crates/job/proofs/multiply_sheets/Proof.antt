@@ -1,13 +1,13 @@
--- `coupling::multiply_sheets` meets its contract: each way out is a case of `Sheets`.
+-- `job::multiply_sheets` meets its contract: each way out is a case of `Sheets`.
 use mathlib.Core.Path.{_≡_, sym, ap, _∙_}
 use Rattle.refusals.specs.Answer.{done, outcome, then, gives}
 use Rattle.refusals.proofs.Answers.{outcome-done, outcome-refused}
 use Rattle.matrices.specs.Checks.{checkMethod}
 use Rattle.sheets.specs.Reading.{shape}
-use Rattle.coupling.proofs.Stages.{sheet-is, read-method, read-first, read-second, sheets-refused, sheets-made}
+use Rattle.job.proofs.Stages.{sheet-is, read-method, read-first, read-second, sheets-refused, sheets-made}
 use borrow.Author.Needs.{needs}
-use Rattle.coupling.proofs.multiply_sheets.Statement.{statement}
-use Rattle.coupling.proofs.multiply_sheets.Tie as tie
+use Rattle.job.proofs.multiply_sheets.Statement.{statement}
+use Rattle.job.proofs.multiply_sheets.Tie as tie
 
 -- A was read: the method is known
 method-done : (c : tie.After-read-as) → checkMethod (c .before .before .before .before .before .before .before .before .before .before .args .method) ≡ done

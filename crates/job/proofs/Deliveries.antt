@@ -25,9 +25,9 @@ use Rattle.matrices.specs.Product.{productOf}
 use Rattle.matrices.specs.Demand.{Keeps}
 use Rattle.matrices.proofs.CheckTells.{checked-tells}
 use Rattle.matrices.proofs.Places.{below}
-use Rattle.coupling.specs.Job.{array, sheetRead, lowersIn, uppersIn, operands, sheetsRead}
-use Rattle.coupling.specs.Demand.{JobKeeps}
-use Rattle.coupling.proofs.Jobs.{Ready, produced}
+use Rattle.job.specs.Job.{array, sheetRead, lowersIn, uppersIn, operands, sheetsRead}
+use Rattle.job.specs.Demand.{JobKeeps}
+use Rattle.job.proofs.Jobs.{Ready, produced}
 
 -- ---- the cells that are read back, by position
 canonical-length : (l : List ℕ) (n p : ℕ) → length (canonicals l n p) ≡ n

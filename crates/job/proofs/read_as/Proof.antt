@@ -1,12 +1,12 @@
--- `coupling::read_as` meets its contract: the reader's, with the refusal named.
+-- `job::read_as` meets its contract: the reader's, with the refusal named.
 use mathlib.Core.Path.{ap, _∙_}
 use Rattle.refusals.specs.Answer.{refuses, naming}
 use Rattle.refusals.proofs.Answers.{said}
 use Rattle.sheets.specs.Reading.{cellLower, cellUpper, shape}
-use Rattle.coupling.proofs.Stages.{slice-by, slice-refused}
+use Rattle.job.proofs.Stages.{slice-by, slice-refused}
 use borrow.Author.Needs.{needs}
-use Rattle.coupling.proofs.read_as.Statement.{statement}
-use Rattle.coupling.proofs.read_as.Tie as tie
+use Rattle.job.proofs.read_as.Statement.{statement}
+use Rattle.job.proofs.read_as.Tie as tie
 
 read-requires : tie.Need-read-requires
 read-requires c κs = search needs

@@ -15,7 +15,7 @@ use Rattle.sheets.specs.Reading.{shape, sliceAfter, lowersAfter, uppersAfter}
 use Rattle.sheets.proofs.Answers.{done-tells}
 use Rattle.matrices.specs.Checks.{Given, given, checkMethod}
 use Rattle.matrices.specs.Product.{productOf}
-use Rattle.coupling.specs.Job.{array, sheetRead, lowersIn, uppersIn, operands, sheetsRead, sheetsProductOf, boundsAfter, Sheets, Multiplied}
+use Rattle.job.specs.Job.{array, sheetRead, lowersIn, uppersIn, operands, sheetsRead, sheetsProductOf, boundsAfter, Sheets, Multiplied}
 
 -- ---- a slice, by the shape o that was read
 pub slice-by : (b : Cell → ℕ) (s d d′ : List ℕ) (o v : Shape) → d′ ≡ sliceAfter b s (shape o) d → o ≡ v → d′ ≡ sliceAfter b s (shape v) d

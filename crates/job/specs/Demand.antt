@@ -11,7 +11,7 @@ use Rattle.binary32.specs.Number.{valueOf}
 use Rattle.sheets.specs.Layout.{rowsOf, columnsOf}
 use Rattle.matrices.specs.Matrix.{Matrix, cellAt}
 use Rattle.matrices.specs.Checks.{chosen}
-use Rattle.coupling.specs.Job.{sheetRead, lowersIn, uppersIn}
+use Rattle.job.specs.Job.{sheetRead, lowersIn, uppersIn}
 
 -- ---- a sheet as read: widened by its wear classes
 abbrev pub matrixIn : List ℕ → Matrix

@@ -1,11 +1,11 @@
--- `coupling::run` meets its contract: each way out is a case of the job.
+-- `job::run` meets its contract: each way out is a case of the job.
 use Rattle.refusals.proofs.Answers.{said}
 use Rattle.sheets.specs.Writing.{written}
-use Rattle.coupling.proofs.Deliveries.{delivered, refused-keeps}
-use Rattle.coupling.proofs.Jobs.{ready, job-refused, out-refused, job-written, out-bytes, job-room, out-room}
+use Rattle.job.proofs.Deliveries.{delivered, refused-keeps}
+use Rattle.job.proofs.Jobs.{ready, job-refused, out-refused, job-written, out-bytes, job-room, out-room}
 use borrow.Author.Needs.{needs}
-use Rattle.coupling.proofs.run.Statement.{statement}
-use Rattle.coupling.proofs.run.Tie as tie
+use Rattle.job.proofs.run.Statement.{statement}
+use Rattle.job.proofs.run.Tie as tie
 
 slice-aggregate-multiply-sheets : tie.Need-slice-aggregate-multiply-sheets
 slice-aggregate-multiply-sheets c = search needs

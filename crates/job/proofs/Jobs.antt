@@ -17,7 +17,7 @@ use Rattle.sheets.specs.Writing.{written, writeOf, outAfter}
 use Rattle.sheets.proofs.Rooms.{bytes-tell}
 use Rattle.matrices.specs.Product.{productOf}
 use Rattle.matrices.specs.Demand.{Keeps}
-use Rattle.coupling.specs.Job.{array, operands, sheetsRead, sheetsProductOf, Sheets, resultLowers, resultUppers, jobOf, outOf}
+use Rattle.job.specs.Job.{array, operands, sheetsRead, sheetsProductOf, Sheets, resultLowers, resultUppers, jobOf, outOf}
 
 -- ---- the product is there, with rows and columns r and c and its bounds in lo and up
 pub record Ready (method : ℕ) (a b : List ℕ) (r c : ℕ) (lo up : List ℕ) : Type 0 where
