@@ -20,7 +20,7 @@ use Rattle.rounding.proofs.DirectedLaws.{up-scale, down-scale}
 use Rattle.rounding.proofs.NearestLaws.{near-scale}
 use Rattle.rounding.proofs.Shift.{size-only, size-shl}
 use Rattle.binary32.specs.declared.funnel.Ways.{Ways}
-use Rattle.binary32.specs.Number.{holdDown, holdUp, holdNear}
+use Rattle.binary32.specs.Number.{holdDown, holdUp, holdNear, infinity, largest, least, minusInfinity}
 use Rattle.binary32.specs.Steps.{packed, Split, IsCut}
 use Rattle.binary32.proofs.LongShifts.{near-split}
 use Rattle.binary32.proofs.Signs.{Scaled, sign-up, sign-near, sign-down, few-up, few-near, few-down}
@@ -105,13 +105,13 @@ module _ (s : ℤ) (e zeros : ℕ) (p : 0 < natAbs s) (o : Zeros (natAbs s) zero
       go : Split wide (2 ^ (210 - kept)) (top - kept) r → IsCut (s *ℤ pos (2 ^ e)) r
       go h = record {
         downs =
-            ap₂ (λ c j. packed c j 0xFF800000 0x7F7FFFFF) (h .downs) (h .shifts)
+            ap₂ (λ c j. packed c j minusInfinity largest) (h .downs) (h .shifts)
             ∙ sign-down K e (210 - kept) (top - kept) wide wide-scaled ∙ ap holdDown (moved-down s e (zeros - 3) 149);
         ups =
-            ap₂ (λ c j. packed c j 0xFF7FFFFF 0x7F800000) (h .ups) (h .shifts)
+            ap₂ (λ c j. packed c j least infinity) (h .ups) (h .shifts)
             ∙ sign-up K e (210 - kept) (top - kept) wide wide-scaled ∙ ap holdUp (moved-up s e (zeros - 3) 149);
         nears =
-            ap₂ (λ c j. packed c j 0x7F800000 0x7F800000) (h .nears) (h .shifts)
+            ap₂ (λ c j. packed c j infinity infinity) (h .nears) (h .shifts)
             ∙ sign-near K e (210 - kept) (top - kept) wide wide-scaled ∙ ap holdNear (moved-near s e (zeros - 3) 149);
         down-few = subst (λ c. natAbs c ≤ 2 ^ 24) (sym (h .downs)) (few-down K e (210 - kept) (top - kept) wide wide-scaled);
         up-few = subst (λ c. natAbs c ≤ 2 ^ 24) (sym (h .ups)) (few-up K e (210 - kept) (top - kept) wide wide-scaled);

@@ -14,7 +14,7 @@ use Rattle.rounding.specs.Quotient.{ceilS}
 use Rattle.rounding.proofs.Floor.{down-floor}
 use Rattle.rounding.proofs.Nearest.{near-odd}
 use Rattle.rounding.proofs.Sign.{natAbs-neg}
-use Rattle.binary32.specs.Number.{patternOf, holdDown, holdUp, holdNear}
+use Rattle.binary32.specs.Number.{patternOf, holdDown, holdUp, holdNear, infinity, largest, least, minusInfinity}
 use Rattle.binary32.specs.Steps.{packed}
 use Rattle.binary32.proofs.Encodings.{at, past, plus, minus, cap-plus, cap-minus}
 use Rattle.binary32.proofs.Shifted.{up-above, up-below, near-above, floor-short, ceil-short, closest-short, floor-long, ceil-long, closest-long}
@@ -27,35 +27,35 @@ pub record Scaled (K e t j : ℕ) (w : ℤ) : Type 0 where
 
 module _ (K e t j : ℕ) where
   -- ---- up
-  pub sign-up : (w : ℤ) → Scaled K e t j w → packed (ceilS w (2 ^ t)) j 0xFF7FFFFF 0x7F800000 ≡ holdUp (up binary32 (2 ^ K) (w *ℤ pos (2 ^ e)))
+  pub sign-up : (w : ℤ) → Scaled K e t j w → packed (ceilS w (2 ^ t)) j least infinity ≡ holdUp (up binary32 (2 ^ K) (w *ℤ pos (2 ^ e)))
   sign-up (pos n) p =
-      plus j (ceil n (2 ^ t)) 0xFF7FFFFF 0x7F800000
+      plus j (ceil n (2 ^ t)) least infinity
       ∙ ap holdUp (sym (up-above binary32 K e t j n (p .some-digit) (p .digits) (p .dropped)))
   sign-up (negsuc k) p =
-      cap-minus j (suc k / 2 ^ t) 0x7F800000 (floor-long binary32 K e t j (suc k) (p .some-digit) (p .digits) (p .dropped))
+      cap-minus j (suc k / 2 ^ t) infinity (floor-long binary32 K e t j (suc k) (p .some-digit) (p .digits) (p .dropped))
       ∙ ap holdUp (sym (up-below binary32 K e t j (suc k) (p .some-digit) (p .digits) (p .dropped)))
 
   -- ---- nearest
   pub sign-near : (w : ℤ) → Scaled K e t j w
-      → packed (signed w (closest (natAbs w) (2 ^ t))) j 0x7F800000 0x7F800000 ≡ holdNear (near binary32 (2 ^ K) (w *ℤ pos (2 ^ e)))
+      → packed (signed w (closest (natAbs w) (2 ^ t))) j infinity infinity ≡ holdNear (near binary32 (2 ^ K) (w *ℤ pos (2 ^ e)))
   sign-near (pos n) p =
-      plus j (closest n (2 ^ t)) 0x7F800000 0x7F800000
+      plus j (closest n (2 ^ t)) infinity infinity
       ∙ ap holdNear (sym (near-above binary32 K e t j n (p .some-digit) (p .digits) (p .dropped)))
   sign-near (negsuc k) p =
-      minus j (closest (suc k) (2 ^ t)) 0x7F800000 0x7F800000 (closest-long binary32 K e t j (suc k) (p .some-digit) (p .digits) (p .dropped))
+      minus j (closest (suc k) (2 ^ t)) infinity infinity (closest-long binary32 K e t j (suc k) (p .some-digit) (p .digits) (p .dropped))
       ∙ ap (λ a. holdNear (negate a)) (sym (near-above binary32 K e t j (suc k) (p .some-digit) (p .digits) (p .dropped)))
       ∙ ap holdNear (sym (near-odd binary32 (2 ^ K) (pow-pos K) (pos (suc k * 2 ^ e))))
 
   -- ---- down, as the mirror image of up
-  pub sign-down : (w : ℤ) → Scaled K e t j w → packed (shrZ w (2 ^ t)) j 0xFF800000 0x7F7FFFFF ≡ holdDown (down binary32 (2 ^ K) (w *ℤ pos (2 ^ e)))
+  pub sign-down : (w : ℤ) → Scaled K e t j w → packed (shrZ w (2 ^ t)) j minusInfinity largest ≡ holdDown (down binary32 (2 ^ K) (w *ℤ pos (2 ^ e)))
   unfolding down
   sign-down (pos n) p =
-      cap-plus j (n / 2 ^ t) 0xFF800000
+      cap-plus j (n / 2 ^ t) minusInfinity
       ∙ ap patternOf (sym (negℤ-negℤ (pos (val binary32 (min (at j (n / 2 ^ t)) (past - 1))))))
       ∙ ap (λ a. holdDown (negate a)) (sym (up-below binary32 K e t j n (p .some-digit) (p .digits) (p .dropped)))
   sign-down (negsuc k) p =
-      ap (λ c. packed c j 0xFF800000 0x7F7FFFFF) (down-floor (negsuc k) (2 ^ t) (pow-pos t))
-      ∙ minus j (ceil (suc k) (2 ^ t)) 0x7F7FFFFF 0xFF800000 (ceil-long binary32 K e t j (suc k) (p .some-digit) (p .digits) (p .dropped))
+      ap (λ c. packed c j minusInfinity largest) (down-floor (negsuc k) (2 ^ t) (pow-pos t))
+      ∙ minus j (ceil (suc k) (2 ^ t)) largest minusInfinity (ceil-long binary32 K e t j (suc k) (p .some-digit) (p .digits) (p .dropped))
       ∙ ap (λ a. holdDown (negate a)) (sym (up-above binary32 K e t j (suc k) (p .some-digit) (p .digits) (p .dropped)))
       ∙ ap (λ X. holdDown (negate (up binary32 (2 ^ K) X))) (sym (negℤ-negℤ (pos (suc k * 2 ^ e))))
 

@@ -41,6 +41,19 @@ abbrev pub patternOf : ℤ → ℕ
 patternOf (pos v) = encode binary32 v
 patternOf (negsuc n) = 2 ^ 31 + encode binary32 (suc n)
 
+-- the patterns of MAX and -MAX, and of the infinities, which stand where there is no number
+abbrev pub largest : ℕ
+largest = 0x7F7FFFFF
+
+abbrev pub least : ℕ
+least = 0xFF7FFFFF
+
+abbrev pub infinity : ℕ
+infinity = 0x7F800000
+
+abbrev pub minusInfinity : ℕ
+minusInfinity = 0xFF800000
+
 -- where there is no number: a pattern of exponent field 255, named z
 abbrev pub hold : ℕ → Option ℤ → ℕ
 hold z (some v) = patternOf v
@@ -48,10 +61,10 @@ hold z none = z
 
 -- rounding down has no number below all, rounding up none above all: minus infinity, infinity
 abbrev pub holdDown : Option ℤ → ℕ
-holdDown = hold 0xFF800000
+holdDown = hold minusInfinity
 
 abbrev pub holdUp : Option ℤ → ℕ
-holdUp = hold 0x7F800000
+holdUp = hold infinity
 
 abbrev pub holdNear : Option ℤ → ℕ
-holdNear = hold 0x7F800000
+holdNear = hold infinity

@@ -14,7 +14,7 @@ use Rattle.binary32.specs.declared.parts.Parts.{Parts}
 use Rattle.binary32.specs.declared.funnel.Ways.{Ways}
 use Rattle.binary32.specs.declared.exact.Exact.{Exact}
 use Rattle.binary32.specs.declared.exact.Exact.the-variants.{Value, Unknown}
-use Rattle.binary32.specs.Number.{valueOf, holdDown, holdUp, holdNear}
+use Rattle.binary32.specs.Number.{valueOf, holdDown, holdUp, holdNear, infinity, largest, least, minusInfinity}
 use Rattle.binary32.specs.Operations.{Way}
 
 -- ---- a number taken apart
@@ -64,9 +64,9 @@ packed c j below above = cond (ltb (j * 2 ^ 23 + natAbs c) (255 * 2 ^ 23)) (put 
 
 -- r has the significands of X / 2 ^ 149 units: packed, each is the pattern that its rounding holds, with the answer for values that are too large
 pub record IsCut (X : ℤ) (r : Ways) : Type 0 where
-  pub downs : packed (r .down) (r .shift) 0xFF800000 0x7F7FFFFF ≡ holdDown (down binary32 (2 ^ 149) X)
-  pub ups : packed (r .up) (r .shift) 0xFF7FFFFF 0x7F800000 ≡ holdUp (up binary32 (2 ^ 149) X)
-  pub nears : packed (r .near) (r .shift) 0x7F800000 0x7F800000 ≡ holdNear (near binary32 (2 ^ 149) X)
+  pub downs : packed (r .down) (r .shift) minusInfinity largest ≡ holdDown (down binary32 (2 ^ 149) X)
+  pub ups : packed (r .up) (r .shift) least infinity ≡ holdUp (up binary32 (2 ^ 149) X)
+  pub nears : packed (r .near) (r .shift) infinity infinity ≡ holdNear (near binary32 (2 ^ 149) X)
   pub down-few : natAbs (r .down) ≤ 2 ^ 24
   pub up-few : natAbs (r .up) ≤ 2 ^ 24
   pub near-few : natAbs (r .near) ≤ 2 ^ 24

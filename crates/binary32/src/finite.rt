@@ -1,12 +1,13 @@
 // Whether patterns stand for numbers.
 ghost use mathlib.Core.Path.{_≡_};
 ghost use Rattle.binary32.specs.Number.{finite, finites};
+use crate::Binary32;
 
 // Whether the pattern stands for a number: exponent field 255 does not.
 pub fn is_finite(p: u32) -> bool
     ensures { λ r. ⌜ r ≡ finite p ⌝ }
 {
-    p % 0x8000_0000 < 0x7F80_0000
+    p % 0x8000_0000 < Binary32::INFINITY
 }
 
 // Whether both patterns stand for numbers.

@@ -70,7 +70,17 @@ pub fn split(w: i64, n: u32, shift: u32) -> Ways
     }
 }
 
-// s × 2^e × 2^-149 units, rounded three ways: s in 61 digits, shifted down by 61 - 24 = 37 places from 2^24 units on (173 is 149 + 24), below that to whole units (210 is 149 + 61).
+// Digits of a significand that is widened for the shift, and how many of them are dropped where 24 are kept.
+const WIDE: u32 = 61;
+
+const DROPPED: u32 = WIDE - Binary32::PRECISION;
+
+// The exponent of 2^24 units, from which on 24 digits are kept, and that of 2^61 units.
+const FULL: u32 = Binary32::SMALLEST_EXPONENT + Binary32::PRECISION;
+
+const WIDE_UNITS: u32 = Binary32::SMALLEST_EXPONENT + WIDE;
+
+// s × 2^e × 2^-149 units, rounded three ways: to 24 digits from 2^24 units on, below that to whole units.
 pub fn cut(s: i64, e: u32) -> Ways
     requires { ⌜ Small s e ⌝ }
     ensures { λ r. ⌜ IsCut (s *ℤ pos (2 ^ e)) r ⌝ }
@@ -86,10 +96,10 @@ pub fn cut(s: i64, e: u32) -> Ways
     let zeros = u64::leading_zeros(magnitude(s));
     let top = 64 - zeros + e;
     let wide = s * power(zeros - 3);
-    if 173 <= top {
-        return split(wide, 37, top - 173);
+    if FULL <= top {
+        return split(wide, DROPPED, top - FULL);
     }
-    split(wide, smaller(210 - top, 62), 0)
+    split(wide, smaller(WIDE_UNITS - top, 62), 0)
 }
 
 // The pattern of c × 2^shift units; else one of the two patterns for a value that is too large.
@@ -98,7 +108,7 @@ pub fn pack(c: i64, shift: u32, below: u32, above: u32) -> u32
     ensures { λ r. ⌜ r ≡ packed c shift below above ⌝ }
 {
     let t = shift * 0x80_0000 + magnitude(c) as u32;
-    if t < 0x7F80_0000 {
+    if t < Binary32::INFINITY {
         if c < 0 {
             return 0x8000_0000 + t;
         }
@@ -116,7 +126,7 @@ pub fn round_down(x: Parts) -> u32
     ensures { λ r. ⌜ r ≡ holdDown (exact down x) ⌝ }
 {
     let c = cut(x.sig, x.exp);
-    pack(c.down, c.shift, 0xFF80_0000, Binary32::LARGEST)
+    pack(c.down, c.shift, Binary32::MINUS_INFINITY, Binary32::LARGEST)
 }
 
 // x, rounded up: infinity above all numbers, the least number below.
@@ -125,7 +135,7 @@ pub fn round_up(x: Parts) -> u32
     ensures { λ r. ⌜ r ≡ holdUp (exact up x) ⌝ }
 {
     let c = cut(x.sig, x.exp);
-    pack(c.up, c.shift, 0xFF7F_FFFF, 0x7F80_0000)
+    pack(c.up, c.shift, Binary32::LEAST, Binary32::INFINITY)
 }
 
 // x, rounded to nearest: infinity from half a step beyond the largest number on.
@@ -134,5 +144,5 @@ pub fn round_near(x: Parts) -> u32
     ensures { λ r. ⌜ r ≡ holdNear (exact near x) ⌝ }
 {
     let c = cut(x.sig, x.exp);
-    pack(c.near, c.shift, 0x7F80_0000, 0x7F80_0000)
+    pack(c.near, c.shift, Binary32::INFINITY, Binary32::INFINITY)
 }

@@ -3,6 +3,7 @@ ghost use mathlib.Core.Path.{_≡_};
 ghost use Rattle.rounding.specs.Rounding.{up, down, near};
 ghost use Rattle.binary32.specs.Number.{holdDown, holdUp, holdNear};
 ghost use Rattle.binary32.specs.Steps.{exactly, Safe};
+use crate::Binary32;
 use crate::exact::Exact;
 use crate::funnel::round_down;
 use crate::funnel::round_near;
@@ -15,7 +16,7 @@ pub fn down_of(x: Exact) -> u32
 {
     match x {
         Exact::Value(p) => round_down(p),
-        Exact::Unknown => 0xFF80_0000,
+        Exact::Unknown => Binary32::MINUS_INFINITY,
     }
 }
 
@@ -26,7 +27,7 @@ pub fn up_of(x: Exact) -> u32
 {
     match x {
         Exact::Value(p) => round_up(p),
-        Exact::Unknown => 0x7F80_0000,
+        Exact::Unknown => Binary32::INFINITY,
     }
 }
 
@@ -37,6 +38,6 @@ pub fn near_of(x: Exact) -> u32
 {
     match x {
         Exact::Value(p) => round_near(p),
-        Exact::Unknown => 0x7F80_0000,
+        Exact::Unknown => Binary32::INFINITY,
     }
 }

@@ -13,7 +13,7 @@ mod parts;
 
 use refusals::Refusal;
 
-// The format: precision, smallest exponent (one unit is 2^-149) and largest number.
+// The format: precision, smallest exponent (one unit is 2^-149), and the patterns at its ends.
 pub struct Binary32 {
     pub bits: u32,
 }
@@ -23,7 +23,14 @@ impl Binary32 {
 
     pub const SMALLEST_EXPONENT: u32 = 149;
 
+    // Patterns: MAX and -MAX, and the infinities, which stand where there is no number.
     pub const LARGEST: u32 = 0x7F7F_FFFF;
+
+    pub const LEAST: u32 = 0xFF7F_FFFF;
+
+    pub const INFINITY: u32 = 0x7F80_0000;
+
+    pub const MINUS_INFINITY: u32 = 0xFF80_0000;
 }
 
 // An operation's answer: a number's pattern, or 3, an operand has exponent field 255, or 5, no finite number is right.

@@ -4,6 +4,7 @@ ghost use mathlib.Core.Path.{_≡_};
 ghost use Rattle.binary32.specs.Operations.{rounded, addDown, addUp, addNear, subDown, subUp, subNear};
 ghost use Rattle.binary32.specs.Operations.{mulDown, mulUp, mulNear, midpointDown, midpointUp, midpointNear};
 ghost use Rattle.coupling.specs.Operations.{patternFor};
+use binary32::Binary32;
 use binary32::Rounded;
 
 // A number's pattern never has exponent field 255, so a refusal's number stands in such a pattern.
@@ -12,7 +13,7 @@ fn pattern_for(r: Rounded) -> u32
 {
     match r {
         Rounded::Number(p) => p,
-        Rounded::Refused(x) => 0x7F80_0000 + x.number as u32,
+        Rounded::Refused(x) => Binary32::INFINITY + x.number as u32,
     }
 }
 

@@ -6,6 +6,7 @@ use Prim.Native.Nat.{ℕ}
 use lib.ListN.{length, replicate}
 use Rattle.refusals.specs.declared.Outcome.{Outcome}
 use Rattle.refusals.specs.Answer.{Answer, gives, outcome, then, naming, unlessRefused}
+use Rattle.refusals.specs.Sizes.{mostCells}
 use Rattle.enclosure.specs.Methods.{Range}
 use Rattle.sheets.specs.declared.Shape.{Shape}
 use Rattle.sheets.specs.Layout.{rowsOf, columnsOf}
@@ -18,12 +19,12 @@ use Rattle.matrices.specs.Demand.{Keeps}
 
 -- an array of 1,024 zeros
 abbrev pub array : List ℕ
-array = replicate 1024 0
+array = replicate mostCells 0
 
 -- ---- a read of a sheet into two such arrays, and the bounds that are there afterwards
 
 abbrev pub sheetRead : List ℕ → Answer (ℕ × ℕ)
-sheetRead s = readOf s 1024 1024
+sheetRead s = readOf s mostCells mostCells
 
 abbrev pub lowersIn : List ℕ → List ℕ
 lowersIn s = lowersAfter s (sheetRead s) array
@@ -35,7 +36,7 @@ uppersIn s = uppersAfter s (sheetRead s) array
 
 abbrev pub operands : ℕ → List ℕ → List ℕ → ℕ → ℕ → Given
 operands method a b l u =
-    given method (rowsOf a) (columnsOf a) (rowsOf b) (columnsOf b) (lowersIn a) (uppersIn a) (lowersIn b) (uppersIn b) 1024 1024 1024 1024 l u
+    given method (rowsOf a) (columnsOf a) (rowsOf b) (columnsOf b) (lowersIn a) (uppersIn a) (lowersIn b) (uppersIn b) mostCells mostCells mostCells mostCells l u
 
 -- 9, A, B
 abbrev pub sheetsRead : ℕ → List ℕ → List ℕ → Answer (ℕ × ℕ)
@@ -67,15 +68,15 @@ pub record Multiplied (g : Given) (lo up : List ℕ) (r : Outcome) (lo′ up′ 
 
 -- the bounds of the result
 abbrev pub resultLowers : ℕ → List ℕ → List ℕ → List ℕ
-resultLowers method a b = boundsAfter method a b 1024 1024 lowerOf array
+resultLowers method a b = boundsAfter method a b mostCells mostCells lowerOf array
 
 abbrev pub resultUppers : ℕ → List ℕ → List ℕ → List ℕ
-resultUppers method a b = boundsAfter method a b 1024 1024 upperOf array
+resultUppers method a b = boundsAfter method a b mostCells mostCells upperOf array
 
 -- the length of the sheet that is written; the writer's refusal names matrix 3
 unfoldable pub jobOf : ℕ → List ℕ → List ℕ → ℕ → Answer ℕ
 jobOf method a b room =
-    then (sheetsProductOf method a b 1024 1024) (naming 3 (writeOf (rowsOf a) (columnsOf b) (resultLowers method a b) (resultUppers method a b) room))
+    then (sheetsProductOf method a b mostCells mostCells) (naming 3 (writeOf (rowsOf a) (columnsOf b) (resultLowers method a b) (resultUppers method a b) room))
 
 -- the buffer afterwards, by the job's answer: the sheet in front of the surplus; on a refusal as it was
 unfoldable pub outOf : ℕ → List ℕ → List ℕ → Answer ℕ → List ℕ → List ℕ

@@ -3,6 +3,7 @@
 ghost use mathlib.Core.Path.{_≡_};
 ghost use lib.ListN.{length};
 ghost use Rattle.refusals.specs.Answer.{naming};
+ghost use Rattle.refusals.specs.Sizes.{mostCells};
 ghost use Rattle.sheets.specs.Reading.{shape, readOf, lowersAfter, uppersAfter};
 ghost use Rattle.sheets.specs.Writing.{written};
 ghost use Rattle.matrices.specs.Checks.{given};
@@ -10,6 +11,7 @@ ghost use Rattle.job.specs.Demand.{JobKeeps};
 ghost use Rattle.job.specs.Job.{Multiplied, Sheets, jobOf, outOf};
 use matrices::methods::check_method;
 use refusals::Outcome;
+use refusals::sizes::MOST_CELLS;
 use sheets::Shape;
 use sheets::Written;
 
@@ -40,12 +42,12 @@ fn multiply(
     up: &mut [u32],
 ) -> Outcome
     ensures { λ r. ⌜ Multiplied (given method «a_rows» «a_columns» «b_rows» «b_columns» (now (al .entry)) (now (au .entry)) (now (bl .entry)) (now (bu .entry))
-        1024 1024 1024 1024 (length (now (lo .entry))) (length (now (up .entry)))) (now (lo .entry)) (now (up .entry)) r (now (lo .exit)) (now (up .exit)) ⌝ }
+        mostCells mostCells mostCells mostCells (length (now (lo .entry))) (length (now (up .entry)))) (now (lo .entry)) (now (up .entry)) r (now (lo .exit)) (now (up .exit)) ⌝ }
 {
-    let mut ma = [0u32; 1024];
-    let mut ra = [0u32; 1024];
-    let mut mb = [0u32; 1024];
-    let mut rb = [0u32; 1024];
+    let mut ma = [0u32; MOST_CELLS];
+    let mut ra = [0u32; MOST_CELLS];
+    let mut mb = [0u32; MOST_CELLS];
+    let mut rb = [0u32; MOST_CELLS];
     products::product(
         method,
         a_rows,
@@ -76,10 +78,10 @@ pub fn multiply_sheets(method: u32, a: &[u8], b: &[u8], lo: &mut [u32], up: &mut
             return Shape::Refused(r);
         }
     }
-    let mut al = [0u32; 1024];
-    let mut au = [0u32; 1024];
-    let mut bl = [0u32; 1024];
-    let mut bu = [0u32; 1024];
+    let mut al = [0u32; MOST_CELLS];
+    let mut au = [0u32; MOST_CELLS];
+    let mut bl = [0u32; MOST_CELLS];
+    let mut bu = [0u32; MOST_CELLS];
     match read_as(1, a, &mut al, &mut au) {
         Shape::Refused(r) => Shape::Refused(r),
         Shape::Sizes(a_rows, a_columns) => match read_as(2, b, &mut bl, &mut bu) {
@@ -111,8 +113,8 @@ pub fn run(method: u32, a: &[u8], b: &[u8], out: &mut [u8]) -> Written
     ensures left { λ r. ⌜ now (out .exit) ≡ outOf method (now (a .entry)) (now (b .entry)) (written r) (now (out .entry)) ⌝ }
     ensures keeps { λ r. ⌜ JobKeeps method (now (a .entry)) (now (b .entry)) (written r) (now (out .exit)) ⌝ }
 {
-    let mut lo = [0u32; 1024];
-    let mut up = [0u32; 1024];
+    let mut lo = [0u32; MOST_CELLS];
+    let mut up = [0u32; MOST_CELLS];
     match multiply_sheets(method, a, b, &mut lo, &mut up) {
         Shape::Refused(r) => Written::Refused(r),
         Shape::Sizes(rows, columns) => match sheets::put(rows, columns, &lo, &up, out) {

@@ -14,6 +14,7 @@ mod put;
 
 use libc::STDIN_FILENO;
 use libc::STDOUT_FILENO;
+use refusals::sizes::MOST_CELLS;
 use sheets::Shape;
 
 // 1 + 16,400 + 16,401 bytes: one more than a digit and two sheets have at most. What is printed depends on no later byte (proofs/Cuts).
@@ -37,8 +38,8 @@ fn sheets_text(method: usize, s: &[u8], out: &mut [u8]) -> usize
     requires { ⌜ (method < 10) × (24592 ≤ length (now out)) ⌝ }
     ensures { λ r. ⌜ Put 0 (sheetsText method (now (s .entry))) (now (out .entry)) r (now (out .exit)) ⌝ }
 {
-    let mut lo = [0u32; 1024];
-    let mut up = [0u32; 1024];
+    let mut lo = [0u32; MOST_CELLS];
+    let mut up = [0u32; MOST_CELLS];
     let end = input::length_of_a(s);
     match job::multiply_sheets(method as u32, &s[..end], &s[end..], &mut lo, &mut up) {
         Shape::Sizes(rows, columns) => lines::product_text(out, method, rows, columns, &lo, &up),

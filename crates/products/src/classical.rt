@@ -11,6 +11,7 @@ ghost use Rattle.products.specs.Written.{Sizes, Written};
 use crate::apart::Apart;
 use crate::sums::Place;
 use crate::sums::Sums;
+use refusals::sizes::LARGEST_SIZE;
 
 // Whether a cell is not [0, 0], with zeros of either sign, whose corner products are zeros and add nothing.
 fn is_nonzero(lo: u32, hi: u32) -> bool
@@ -34,7 +35,7 @@ pub fn entries(
     requires { ⌜ Sizes m k n (record { lowers = now al; uppers = now au }) (record { lowers = now bl; uppers = now bu }) (length (now lo)) (length (now up)) ⌝ }
     ensures { λ r. ⌜ Written (entryAt classical k n (record { lowers = now (al .entry); uppers = now (au .entry) }) (record { lowers = now (bl .entry); uppers = now (bu .entry) })) m n (now (lo .entry)) (now (up .entry)) r (now (lo .exit)) (now (up .exit)) ⌝ }
 {
-    let mut row = [Apart::zero(); 32];
+    let mut row = [Apart::zero(); LARGEST_SIZE];
     let mut place = Place::Nowhere;
     let mut at = 0;
     'search: for i in 0..m {

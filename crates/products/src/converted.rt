@@ -13,9 +13,7 @@ use crate::four;
 use crate::seven;
 use crate::sums::Place;
 use crate::three;
-
-// How many cells a matrix has at most.
-const CELLS: usize = 1024;
+use refusals::sizes::MOST_CELLS;
 
 fn by_three(
     m: usize,
@@ -31,8 +29,8 @@ fn by_three(
     requires { ⌜ Sized m k n (now ma) (now ra) (now mb) (now rb) (length (now lo)) (length (now up)) ⌝ }
     ensures { λ r. ⌜ Written (entryFrom three k n (now (ma .entry)) (now (ra .entry)) (now (mb .entry)) (now (rb .entry))) m n (now (lo .entry)) (now (up .entry)) r (now (lo .exit)) (now (up .exit)) ⌝ }
 {
-    let mut vb = [0u32; CELLS];
-    let mut wb = [0u32; CELLS];
+    let mut vb = [0u32; MOST_CELLS];
+    let mut wb = [0u32; MOST_CELLS];
     derive_all(Kind::Raised(raised(k)), k * n, mb, rb, &mut vb);
     derive_all(Kind::Outer, k * n, mb, rb, &mut wb);
     three::entries(m, k, n, ma, ra, mb, rb, &vb, &wb, lo, up)
@@ -52,7 +50,7 @@ fn by_four(
     requires { ⌜ Sized m k n (now ma) (now ra) (now mb) (now rb) (length (now lo)) (length (now up)) ⌝ }
     ensures { λ r. ⌜ Written (entryFrom four k n (now (ma .entry)) (now (ra .entry)) (now (mb .entry)) (now (rb .entry))) m n (now (lo .entry)) (now (up .entry)) r (now (lo .exit)) (now (up .exit)) ⌝ }
 {
-    let mut wb = [0u32; CELLS];
+    let mut wb = [0u32; MOST_CELLS];
     derive_all(Kind::Outer, k * n, mb, rb, &mut wb);
     four::entries(m, k, n, ma, ra, mb, rb, &wb, lo, up)
 }
@@ -71,9 +69,9 @@ fn by_seven(
     requires { ⌜ Sized m k n (now ma) (now ra) (now mb) (now rb) (length (now lo)) (length (now up)) ⌝ }
     ensures { λ r. ⌜ Written (entryFrom seven k n (now (ma .entry)) (now (ra .entry)) (now (mb .entry)) (now (rb .entry))) m n (now (lo .entry)) (now (up .entry)) r (now (lo .exit)) (now (up .exit)) ⌝ }
 {
-    let mut pa = [0u32; CELLS];
-    let mut wb = [0u32; CELLS];
-    let mut pb = [0u32; CELLS];
+    let mut pa = [0u32; MOST_CELLS];
+    let mut wb = [0u32; MOST_CELLS];
+    let mut pb = [0u32; MOST_CELLS];
     derive_all(Kind::Part, m * k, ma, ra, &mut pa);
     derive_all(Kind::Outer, k * n, mb, rb, &mut wb);
     derive_all(Kind::Part, k * n, mb, rb, &mut pb);

@@ -5,9 +5,16 @@ use lib.Dec.{leb}
 use Rattle.refusals.specs.Refusal.{ofMatrix}
 use Rattle.refusals.specs.Answer.{Answer, unless, then}
 
+-- the largest size, and how many cells a matrix has at most
+abbrev pub largestSize : ℕ
+largestSize = 32
+
+abbrev pub mostCells : ℕ
+mostCells = 1024
+
 -- each size is from 1 to 32
 abbrev pub sized : ℕ → ℕ → Bool
-sized rows columns = cond (leb 1 rows) (cond (leb rows 32) (cond (leb 1 columns) (leb columns 32) false) false) false
+sized rows columns = cond (leb 1 rows) (cond (leb rows largestSize) (cond (leb 1 columns) (leb columns largestSize) false) false) false
 
 -- 1
 unfoldable pub checkSize : ℕ → ℕ → ℕ → Answer (Unit {0})

@@ -5,19 +5,24 @@ ghost use Rattle.refusals.specs.Sizes.{sized, checkSize, checkLengths, c
 use crate::Outcome;
 use crate::Refusal;
 
+// The largest size, and how many cells a matrix has at most.
+pub const LARGEST_SIZE: usize = 32;
+
+pub const MOST_CELLS: usize = LARGEST_SIZE * LARGEST_SIZE;
+
 fn are_sizes(rows: usize, columns: usize) -> bool
     ensures { λ r. ⌜ r ≡ sized rows columns ⌝ }
 {
     if rows < 1 {
         return false;
     }
-    if 32 < rows {
+    if LARGEST_SIZE < rows {
         return false;
     }
     if columns < 1 {
         return false;
     }
-    columns <= 32
+    columns <= LARGEST_SIZE
 }
 
 // 1

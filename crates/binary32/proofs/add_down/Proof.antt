@@ -2,6 +2,7 @@
 use mathlib.Core.Path.{refl, ap, _∙_}
 use lib.Dec.{lit<}
 use Rattle.rounding.specs.Rounding.{down}
+use Rattle.binary32.specs.Number.{minusInfinity}
 use Rattle.binary32.specs.Operations.{add, checkedOf}
 use Rattle.binary32.proofs.Exacts.{checked-is}
 use Rattle.binary32.proofs.Numbers.{down-fits}
@@ -19,7 +20,7 @@ returns : tie.Need-returns
 returns c =
     let s = c .before .before .args in
     c .checked .ensures ∙ ap (checkedOf (s .a) (s .b)) (c .before .add-down .ensures)
-    ∙ checked-is (add down) (s .a) (s .b) 0xFF800000 refl (down-fits 1 (lit< tt) _)
+    ∙ checked-is (add down) (s .a) (s .b) minusInfinity refl (down-fits 1 (lit< tt) _)
 
 pub add-down-spec : {M : Type 1} → statement M
 add-down-spec = tie.close (tie.spec add-down-requires checked-requires returns)

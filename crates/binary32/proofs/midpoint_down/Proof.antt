@@ -2,6 +2,7 @@
 use mathlib.Core.Path.{refl, ap, _∙_}
 use lib.Dec.{lit<}
 use Rattle.rounding.specs.Rounding.{down}
+use Rattle.binary32.specs.Number.{minusInfinity}
 use Rattle.binary32.specs.Operations.{midpoint, checkedOf}
 use Rattle.binary32.proofs.Exacts.{checked-is}
 use Rattle.binary32.proofs.Numbers.{down-fits}
@@ -19,7 +20,7 @@ returns : tie.Need-returns
 returns c =
     let s = c .before .before .args in
     c .checked .ensures ∙ ap (checkedOf (s .a) (s .b)) (c .before .midpoint-down .ensures)
-    ∙ checked-is (midpoint down) (s .a) (s .b) 0xFF800000 refl (down-fits 2 (lit< tt) _)
+    ∙ checked-is (midpoint down) (s .a) (s .b) minusInfinity refl (down-fits 2 (lit< tt) _)
 
 pub midpoint-down-spec : {M : Type 1} → statement M
 midpoint-down-spec = tie.close (tie.spec midpoint-down-requires checked-requires returns)

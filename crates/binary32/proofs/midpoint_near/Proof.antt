@@ -2,6 +2,7 @@
 use mathlib.Core.Path.{refl, ap, _∙_}
 use lib.Dec.{lit<}
 use Rattle.rounding.specs.Rounding.{near}
+use Rattle.binary32.specs.Number.{infinity}
 use Rattle.binary32.specs.Operations.{midpoint, checkedOf}
 use Rattle.binary32.proofs.Exacts.{checked-is}
 use Rattle.binary32.proofs.Numbers.{near-fits}
@@ -19,7 +20,7 @@ returns : tie.Need-returns
 returns c =
     let s = c .before .before .args in
     c .checked .ensures ∙ ap (checkedOf (s .a) (s .b)) (c .before .midpoint-near .ensures)
-    ∙ checked-is (midpoint near) (s .a) (s .b) 0x7F800000 refl (near-fits 2 (lit< tt) _)
+    ∙ checked-is (midpoint near) (s .a) (s .b) infinity refl (near-fits 2 (lit< tt) _)
 
 pub midpoint-near-spec : {M : Type 1} → statement M
 midpoint-near-spec = tie.close (tie.spec midpoint-near-requires checked-requires returns)
