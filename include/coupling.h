@@ -1,7 +1,10 @@
 /* Interval matrices in binary32, rounded in software, for C and C++: products of
    coupling sheets, sheets read and written, products of matrices, and the single
-   operations. What is said here of each call is proved of the library
-   (crates/coupling); this header itself, with its macros, is not proved.
+   operations.
+
+   Proved of the library (crates/coupling), for all arguments: what each call
+   returns, what it leaves in lent memory, and that ranges enclose. Not proved: this
+   header with its macros, and what it says of threads and stack, which is tested.
 
    Numbers: a binary32 number is passed as its pattern, a uint32_t with the bits
    of the float. A pattern with exponent field 255, an infinity or no number, is
@@ -30,7 +33,7 @@
    to. No call uses a heap or writable global data, does input or output, or reads
    or changes floating-point state.
 
-   Stack: on x86-64 a call of coupling_multiply took at most 53,928 bytes below
+   Stack: on x86-64 a call of coupling_multiply took at most 54,072 bytes below
    its caller's frame, measured on 32 by 32 by 32 products by each method
    (tests/stack); the other calls take less. COUPLING_STACK bytes are enough for
    each call. */
@@ -87,8 +90,8 @@ extern "C" {
    3, 4 or 7, and writes the product's sheet to the front of out. Returns the
    length written, 16 to 16,400, or the first of these refusals:
      9            the method is not 1, 3, 4 or 7
-     matrix 1     A's sheet, as coupling_read refuses it
-     matrix 2     B's sheet
+     matrix 1     A's sheet, as coupling_read refuses it (never 2)
+     matrix 2     B's sheet, likewise
      1, matrix 2  A's columns are not B's rows
      5, matrix 3  a step of this entry, the first such by rows, has no finite
                   number
