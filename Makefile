@@ -30,7 +30,7 @@ test: ## all tests, from nothing: ends in 'N passed, 0 failed'
 check: ## prove what changed since the last check
 	@rt check
 
-bench: $(patsubst %,target/staticlib/lib%.a,face sheet_face products_face coupling) ## time operations, sheets and sheet jobs beside their peers; ROUNDS=N sets the rounds
+bench: $(archive) ## time operations, sheets and sheet jobs beside their peers; ROUNDS=N sets the rounds
 	@$(MAKE) --no-print-directory -C bench $(if $(ROUNDS),ROUNDS=$(ROUNDS))
 
 install: $(archive) ## install archive, headers and coupling.pc under PREFIX, /usr/local unless given

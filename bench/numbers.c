@@ -12,8 +12,8 @@
 #include <stdbool.h>
 
 #include "bits.h"
+#include "coupling.h"
 #include "draw.h"
-#include "face.h"
 #include "plain.h"
 #include "table.h"
 
@@ -51,18 +51,18 @@ static const struct row {
     int mode;
     operation *ours, *plain, *machine;
 } rows[] = {
-    {"add_down", FE_DOWNWARD, fody_add_down, plain_add_down, machine_add},
-    {"add_up", FE_UPWARD, fody_add_up, plain_add_up, machine_add},
-    {"add_near", FE_TONEAREST, fody_add_near, plain_add_near, machine_add},
-    {"sub_down", FE_DOWNWARD, fody_sub_down, plain_sub_down, machine_sub},
-    {"sub_up", FE_UPWARD, fody_sub_up, plain_sub_up, machine_sub},
-    {"sub_near", FE_TONEAREST, fody_sub_near, plain_sub_near, machine_sub},
-    {"mul_down", FE_DOWNWARD, fody_mul_down, plain_mul_down, machine_mul},
-    {"mul_up", FE_UPWARD, fody_mul_up, plain_mul_up, machine_mul},
-    {"mul_near", FE_TONEAREST, fody_mul_near, plain_mul_near, machine_mul},
-    {"midpoint_down", FE_DOWNWARD, fody_midpoint_down, plain_midpoint_down, machine_midpoint},
-    {"midpoint_up", FE_UPWARD, fody_midpoint_up, plain_midpoint_up, machine_midpoint},
-    {"midpoint_near", FE_TONEAREST, fody_midpoint_near, plain_midpoint_near, machine_midpoint},
+    {"add_down", FE_DOWNWARD, coupling_add_down, plain_add_down, machine_add},
+    {"add_up", FE_UPWARD, coupling_add_up, plain_add_up, machine_add},
+    {"add_near", FE_TONEAREST, coupling_add_near, plain_add_near, machine_add},
+    {"sub_down", FE_DOWNWARD, coupling_sub_down, plain_sub_down, machine_sub},
+    {"sub_up", FE_UPWARD, coupling_sub_up, plain_sub_up, machine_sub},
+    {"sub_near", FE_TONEAREST, coupling_sub_near, plain_sub_near, machine_sub},
+    {"mul_down", FE_DOWNWARD, coupling_mul_down, plain_mul_down, machine_mul},
+    {"mul_up", FE_UPWARD, coupling_mul_up, plain_mul_up, machine_mul},
+    {"mul_near", FE_TONEAREST, coupling_mul_near, plain_mul_near, machine_mul},
+    {"midpoint_down", FE_DOWNWARD, coupling_midpoint_down, plain_midpoint_down, machine_midpoint},
+    {"midpoint_up", FE_UPWARD, coupling_midpoint_up, plain_midpoint_up, machine_midpoint},
+    {"midpoint_near", FE_TONEAREST, coupling_midpoint_near, plain_midpoint_near, machine_midpoint},
 };
 
 #define ROWS (sizeof rows / sizeof rows[0])
@@ -70,9 +70,10 @@ static const struct row {
 /* The machine's answer in the library's form. */
 static uint32_t coded(uint32_t pattern)
 {
-    if ((pattern & 0x7FFFFFFF) == 0)
+    uint32_t magnitude = pattern & 0x7FFFFFFF;
+    if (magnitude == 0)
         return 0;
-    return (pattern & 0x7FFFFFFF) == 0x7F800000 ? 0x7F800005 : pattern;
+    return magnitude == COUPLING_INFINITY ? COUPLING_INFINITY + COUPLING_OVERFLOW : pattern;
 }
 
 static int differences(const struct row *row)

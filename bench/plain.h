@@ -1,6 +1,5 @@
 /* The operations in plain C, not proved: what the benchmark compares with.
-   Each returns the pattern of the result, or 0x7F800003 or 0x7F800005 for
-   refusal 3 or 5, as the functions of face.h do. */
+   Each returns what the operation of the same name in coupling.h does. */
 #ifndef PLAIN_H
 #define PLAIN_H
 

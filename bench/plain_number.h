@@ -9,9 +9,11 @@
 #include <stdbool.h>
 #include <stdint.h>
 
+#include "coupling.h"
+
 #define SIGN       0x80000000u
-#define NOT_FINITE 0x7F800003u
-#define OVERFLOW   0x7F800005u
+#define NOT_FINITE (COUPLING_INFINITY + COUPLING_NOT_FINITE)
+#define OVERFLOW   (COUPLING_INFINITY + COUPLING_OVERFLOW)
 
 enum direction { DOWN, UP, NEAR };
 
@@ -24,7 +26,7 @@ struct number {
 
 static inline bool is_finite(uint32_t p)
 {
-    return (p & 0x7FFFFFFF) < 0x7F800000;
+    return !COUPLING_OPERATION_REFUSED(p);
 }
 
 static inline struct number decode(uint32_t p)
@@ -102,9 +104,9 @@ static inline uint32_t packed(bool negative, uint32_t magnitude, enum direction 
     uint32_t sign = (uint32_t)negative << 31;
     if (magnitude == 0)
         return 0;
-    if (magnitude < 0x7F800000)
+    if (magnitude < COUPLING_INFINITY)
         return sign | magnitude;
-    return direction == NEAR || away(negative, direction) ? OVERFLOW : sign | 0x7F7FFFFF;
+    return direction == NEAR || away(negative, direction) ? OVERFLOW : sign | COUPLING_LARGEST;
 }
 
 /* The pattern of x * 2^(lift - 149) units, rounded. */

@@ -5,11 +5,12 @@
 #include "bits.h"
 
 #include "../tests/oracle/parts.h"
+#include "coupling.h"
 #include "plain.h"
 
 bool is_finite(uint32_t pattern)
 {
-    return (pattern & 0x7F800000) != 0x7F800000;
+    return !COUPLING_OPERATION_REFUSED(pattern);
 }
 
 uint32_t magnitude(uint32_t pattern)
@@ -23,7 +24,7 @@ uint32_t oracle_operate(enum operation operation, enum direction direction, uint
     (void)direction;
     uint32_t pattern = operation == SUB ? plain_sub_down(a, b) : plain_add_up(a, b);
     if (!is_finite(pattern))
-        return pattern == 0x7F800003 ? 3 : 5;
+        return pattern == COUPLING_INFINITY + COUPLING_NOT_FINITE ? COUPLING_NOT_FINITE : COUPLING_OVERFLOW;
     *result = pattern;
     return 0;
 }

@@ -11,11 +11,9 @@
 
 #include "../tests/oracle/oracle.h"
 #include "../tests/sheets/sheet.h"
+#include "coupling.h"
 #include "matrices.h"
-#include "sheet_face.h"
 #include "table.h"
-
-#define BYTES (16 * (CELLS + 1))
 
 struct cells {
     uint32_t lowers[CELLS], uppers[CELLS];
@@ -25,7 +23,7 @@ struct pair {
     double ours, plain;
 };
 
-static uint8_t given[BYTES], our_sheet[BYTES], plain_sheet[BYTES];
+static uint8_t given[COUPLING_SHEET_MAX], our_sheet[COUPLING_SHEET_MAX], plain_sheet[COUPLING_SHEET_MAX];
 static struct cells our_cells, plain_cells;
 
 /* All classes in turn, or class 0 alone. */
@@ -40,12 +38,12 @@ static bool time_read(struct pair *least)
 {
     size_t rows, columns;
     double start = now();
-    uint32_t sizes = fody_read(given, BYTES, our_cells.lowers, CELLS, our_cells.uppers, CELLS);
+    uint32_t sizes = coupling_read(given, COUPLING_SHEET_MAX, our_cells.lowers, CELLS, our_cells.uppers, CELLS);
     double between = now();
-    struct refusal refusal = oracle_read(given, BYTES, plain_cells.lowers, CELLS, plain_cells.uppers, CELLS, &rows, &columns);
+    struct refusal refusal = oracle_read(given, COUPLING_SHEET_MAX, plain_cells.lowers, CELLS, plain_cells.uppers, CELLS, &rows, &columns);
     keep_least(&least->plain, now() - between);
     keep_least(&least->ours, between - start);
-    return sizes == 100 * SIZE + SIZE && refusal.number == 0
+    return COUPLING_READ_ROWS(sizes) == SIZE && COUPLING_READ_COLUMNS(sizes) == SIZE && refusal.number == 0
         && memcmp(&our_cells, &plain_cells, sizeof our_cells) == 0;
 }
 
@@ -54,12 +52,12 @@ static bool time_write(struct pair *least)
 {
     size_t written;
     double start = now();
-    uint32_t length = fody_put(SIZE, SIZE, our_cells.lowers, CELLS, our_cells.uppers, CELLS, our_sheet, BYTES);
+    uint32_t length = coupling_write(SIZE, SIZE, our_cells.lowers, CELLS, our_cells.uppers, CELLS, our_sheet, COUPLING_SHEET_MAX);
     double between = now();
-    oracle_write(SIZE, SIZE, plain_cells.lowers, CELLS, plain_cells.uppers, CELLS, plain_sheet, BYTES, &written);
+    oracle_write(SIZE, SIZE, plain_cells.lowers, CELLS, plain_cells.uppers, CELLS, plain_sheet, COUPLING_SHEET_MAX, &written);
     keep_least(&least->plain, now() - between);
     keep_least(&least->ours, between - start);
-    return length == BYTES && written == BYTES && memcmp(our_sheet, plain_sheet, BYTES) == 0;
+    return length == COUPLING_SHEET_MAX && written == COUPLING_SHEET_MAX && memcmp(our_sheet, plain_sheet, COUPLING_SHEET_MAX) == 0;
 }
 
 static bool print_row(const char *name, bool (*time)(struct pair *), int rounds)

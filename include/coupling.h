@@ -1,58 +1,48 @@
-/* The product of two coupling sheets, for C and C++. What the call promises is
-   proved (crates/coupling); this header is not.
+/* Interval matrices in binary32, rounded in software, for C and C++: products of
+   coupling sheets, sheets read and written, products of matrices, and the single
+   operations. What is said here of each call is proved of the library
+   (crates/coupling); this header itself, with its macros, is not proved.
 
-   coupling_multiply reads sheet A and sheet B, multiplies them by a method,
-   which is 1, 3, 4 or 7, and writes the product's sheet to the front of out.
+   Numbers: a binary32 number is passed as its pattern, a uint32_t with the bits
+   of the float. A pattern with exponent field 255, an infinity or no number, is
+   refused. Minus zero is read as zero, and a zero that is computed is the
+   pattern 0. A matrix is two arrays, of lower and of upper bounds, its cells by
+   rows; it has 1 to 32 rows and columns.
 
-   It returns the length written, 16 to 16,400, or for a refusal
-   1,000,000 x number + 10,000 x matrix + 100 x row + column. COUPLING_REFUSED
-   tells the two apart. The matrix is 1 for A, 2 for B, 3 for the product and 0
-   for none. Row and column count from 0; they are the place of a cell for 3, 4,
-   5 and 10, and 0 for the other numbers.
+   Refusals: a call that turns its arguments down returns
+   1,000,000 x number + 10,000 x matrix + 100 x row + column, which
+   COUPLING_REFUSED tells from every other answer. The matrix is 1 for A, 2 for B,
+   3 for the result and 0 for none; row and column count from 0, and are the place
+   of a cell for 3, 4, 5 and 10, else 0. The first refusal in the order that is
+   given for each call is returned. Single operations return one number alone, and
+   have a form of their own below.
 
-   The first of these that holds is returned:
-     9            the method is not 1, 3, 4 or 7
-     matrix 1     A's sheet: 6 for its length and its head, 1 for its sizes,
-                  then for each cell along the chain 7, 8, 6, 10, 3, 4, 5
-     matrix 2     B's sheet: the same, in the same order
-     1, matrix 2  A's columns are not B's rows
-     5, matrix 3  a step of this entry, the first such by rows, has no finite
-                  number
-     11, matrix 3 out is shorter than the product's sheet
-   No call returns 2, which other functions of the library do.
+   Lent memory: a refusal leaves all of it as it was, but for number 5 of
+   coupling_product. What lies beyond the cells or bytes that a call writes stays
+   as it was, so longer arrays are welcome. What is passed as const is only read.
 
-   A refusal leaves out as it was. A success writes as many bytes as it returns
-   and leaves the rest of out as it was. Bytes of a and b are only read.
+   Pointers: each is valid for its length and aligned for its type, and none is
+   kept. What is passed for writing overlaps nothing else that is passed; what is
+   only read may overlap. A length of zero is legal, but its pointer must not be
+   null: any object's address will do.
 
-   Pointers: each of the three is valid for its length. out overlaps neither a
-   nor b; a and b may overlap or be the same bytes. A length of zero is legal (6
-   for a sheet, 11 for out), but its pointer must not be null: any object's
-   address will do. No pointer is kept.
+   Threads: calls may run at the same time, each with memory of its own to write
+   to. No call uses a heap or writable global data, does input or output, or reads
+   or changes floating-point state.
 
-   Calls may run at the same time in several threads, each with an out of its
-   own. A call uses no heap and no writable global data, does no input or output,
-   and neither reads nor changes floating-point state.
-
-   Stack: on x86-64 a call took at most 53,928 bytes below its caller's frame,
-   measured on 32 by 32 by 32 products by each method (tests/stack). Give the
-   calling thread COUPLING_STACK bytes for it. */
+   Stack: on x86-64 a call of coupling_multiply took at most 53,928 bytes below
+   its caller's frame, measured on 32 by 32 by 32 products by each method
+   (tests/stack); the other calls take less. COUPLING_STACK bytes are enough for
+   each call. */
 #ifndef COUPLING_H
 #define COUPLING_H
 
 #include <stddef.h>
 #include <stdint.h>
 
-#ifdef __cplusplus
-extern "C" {
-#endif
-
-uint32_t coupling_multiply(uint32_t method, const uint8_t *a, size_t a_len, const uint8_t *b, size_t b_len, uint8_t *out, size_t out_len);
-
-#ifdef __cplusplus
-}
-#endif
-
-#define COUPLING_SHEET_MAX 16400 /* bytes of the longest sheet; an out of this length is never too short */
+#define COUPLING_SIZE_MAX 32     /* rows or columns of the largest matrix */
+#define COUPLING_CELLS_MAX 1024  /* its cells */
+#define COUPLING_SHEET_MAX 16400 /* bytes of the longest sheet; a buffer of this length is never too short */
 #define COUPLING_STACK 65536     /* bytes of stack that are enough for a call */
 
 /* The numbers of the refusals; coupling_sentences.h has a sentence for each. */
@@ -68,11 +58,116 @@ uint32_t coupling_multiply(uint32_t method, const uint8_t *a, size_t a_len, cons
 #define COUPLING_CLASS 10
 #define COUPLING_ROOM 11
 
-/* Whether r, which coupling_multiply returned, is a refusal; and the parts of r if it is. */
+/* Whether r, which a call returned, is a refusal; and the parts of r if it is. */
 #define COUPLING_REFUSED(r) ((r) >= 1000000u)
 #define COUPLING_NUMBER(r) ((r) / 1000000u)
 #define COUPLING_MATRIX(r) ((r) / 10000u % 100u)
 #define COUPLING_ROW(r) ((r) / 100u % 100u)
 #define COUPLING_COLUMN(r) ((r) % 100u)
+
+/* Rows and columns, from an answer of coupling_read that is no refusal. */
+#define COUPLING_READ_ROWS(r) ((r) / 100u)
+#define COUPLING_READ_COLUMNS(r) ((r) % 100u)
+
+/* Patterns: the largest number, and infinity, whose bits are the exponent field. */
+#define COUPLING_LARGEST 0x7F7FFFFFu
+#define COUPLING_INFINITY 0x7F800000u
+
+/* Whether p, which an operation returned, is a refusal; and its number if it is. */
+#define COUPLING_OPERATION_REFUSED(p) (((p) & COUPLING_INFINITY) == COUPLING_INFINITY)
+#define COUPLING_OPERATION_NUMBER(p) ((p) - COUPLING_INFINITY)
+
+#ifdef __cplusplus
+extern "C" {
+#endif
+
+/* ---- The sheet job ----
+
+   Reads sheet A and sheet B, multiplies them by a method, which is 1 (classical),
+   3, 4 or 7, and writes the product's sheet to the front of out. Returns the
+   length written, 16 to 16,400, or the first of these refusals:
+     9            the method is not 1, 3, 4 or 7
+     matrix 1     A's sheet, as coupling_read refuses it
+     matrix 2     B's sheet
+     1, matrix 2  A's columns are not B's rows
+     5, matrix 3  a step of this entry, the first such by rows, has no finite
+                  number
+     11, matrix 3 out is shorter than the product's sheet
+   The ranges that were written enclose: whatever numbers are picked, one from
+   each cell of a row of A and of a column of B, as read, the sum of the products
+   lies in the entry's range. */
+uint32_t coupling_multiply(uint32_t method, const uint8_t *a, size_t a_len, const uint8_t *b, size_t b_len, uint8_t *out, size_t out_len);
+
+/* ---- Sheets ----
+
+   Reads a sheet: its matrix, each cell widened by its wear class, goes to the
+   front of lowers and uppers. Returns 100 x rows + columns, or the first of: 6
+   for the sheet's length and head, 1 for its sizes, 2 for lowers and uppers
+   shorter than its cells, then for each cell along the chain 7, 8, 6, 10, 3, 4,
+   5. The matrix named is 0; 3, 4, 5 and 10 have the row and column. */
+uint32_t coupling_read(const uint8_t *sheet, size_t sheet_len, uint32_t *lowers, size_t lowers_len, uint32_t *uppers, size_t uppers_len);
+
+/* Writes the sheet of a matrix to the front of out, class 0 in each cell. Returns
+   the length written, or the first of: 1, 2, then 3 and 4 cell by cell, 11. The
+   matrix named is 0. What was written, coupling_read reads as the same numbers. */
+uint32_t coupling_write(size_t rows, size_t columns, const uint32_t *lowers, size_t lowers_len, const uint32_t *uppers,
+                        size_t uppers_len, uint8_t *out, size_t out_len);
+
+/* ---- The product of two matrices ----
+
+   The bounds of A times B by a method go to the front of lowers and uppers. The
+   four work arrays take the midpoints and radii of A's cells and of B's; method 1
+   leaves them as they were, but their lengths are checked too. Returns 0, or the
+   first of:
+     9            the method is not 1, 3, 4 or 7
+     1            sizes: A's (matrix 1), B's or A's columns are not B's rows (2)
+     2            an array is shorter than its cells: A (matrix 1), B (2), work
+                  (0), result (3)
+     3, 4         A's cells by rows (matrix 1), then B's (2)
+     5, matrix 3  a step of this entry, the first such by rows, has no finite
+                  number: the result's cells are then 0, and the work arrays hold
+                  midpoints and radii
+   The ranges enclose, as those of coupling_multiply do. */
+uint32_t coupling_product(uint32_t method, size_t a_rows, size_t a_columns, size_t b_rows, size_t b_columns,
+                          const uint32_t *a_lowers, size_t a_lowers_len, const uint32_t *a_uppers, size_t a_uppers_len,
+                          const uint32_t *b_lowers, size_t b_lowers_len, const uint32_t *b_uppers, size_t b_uppers_len,
+                          uint32_t *a_mids, size_t a_mids_len, uint32_t *a_rads, size_t a_rads_len,
+                          uint32_t *b_mids, size_t b_mids_len, uint32_t *b_rads, size_t b_rads_len,
+                          uint32_t *lowers, size_t lowers_len, uint32_t *uppers, size_t uppers_len);
+
+/* ---- Operations ----
+
+   The exact sum, difference, product or midpoint (a + b) / 2 of two numbers,
+   rounded once: down to the greatest number not above it, up to the least not
+   below it, or to nearest, ties to even. Each returns the pattern of the result,
+   or COUPLING_INFINITY + number: 3 where a or b has exponent field 255, 5 where
+   no finite number is right. COUPLING_OPERATION_REFUSED tells the two apart. */
+uint32_t coupling_add_down(uint32_t a, uint32_t b);
+uint32_t coupling_add_up(uint32_t a, uint32_t b);
+uint32_t coupling_add_near(uint32_t a, uint32_t b);
+uint32_t coupling_sub_down(uint32_t a, uint32_t b);
+uint32_t coupling_sub_up(uint32_t a, uint32_t b);
+uint32_t coupling_sub_near(uint32_t a, uint32_t b);
+uint32_t coupling_mul_down(uint32_t a, uint32_t b);
+uint32_t coupling_mul_up(uint32_t a, uint32_t b);
+uint32_t coupling_mul_near(uint32_t a, uint32_t b);
+uint32_t coupling_midpoint_down(uint32_t a, uint32_t b);
+uint32_t coupling_midpoint_up(uint32_t a, uint32_t b);
+uint32_t coupling_midpoint_near(uint32_t a, uint32_t b);
+
+/* ---- Conversions ----
+
+   From bounds to midpoint and radius: *mid is the midpoint rounded up, *rad the
+   distance from it to the lower bound, rounded up. Returns 0, or 3 or 4 (lower is
+   above upper); never 5. */
+uint32_t coupling_to_midrad(uint32_t lower, uint32_t upper, uint32_t *mid, uint32_t *rad);
+
+/* From midpoint and radius to bounds: *lower is mid - rad rounded down, *upper
+   mid + rad rounded up. Returns 0, or 3, 4 (the radius is below zero) or 5. */
+uint32_t coupling_to_bounds(uint32_t mid, uint32_t rad, uint32_t *lower, uint32_t *upper);
+
+#ifdef __cplusplus
+}
+#endif
 
 #endif

@@ -1,5 +1,5 @@
-/* A sentence in plain English for each number of a refusal of coupling_multiply,
-   for C and C++. Not proved. */
+/* A sentence in plain English for each number of a refusal, for C and C++.
+   Not proved. */
 #ifndef COUPLING_SENTENCES_H
 #define COUPLING_SENTENCES_H
 
@@ -13,7 +13,7 @@ static inline const char *coupling_sentence(uint32_t number)
     case 2: return "a slice is shorter than its cells";
     case 3: return "a bound is not a finite number";
     case 4: return "a lower bound is above the upper bound";
-    case 5: return "no finite number is right for a rounding";
+    case 5: return "a result is too large for binary32";
     case 6: return "the sheet's length or record count is wrong, or a byte that must be zero is not";
     case 7: return "an index is not below the record count, or a cell is outside the matrix";
     case 8: return "the cells of the chain do not rise by row, then column";

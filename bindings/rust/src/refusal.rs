@@ -38,7 +38,7 @@ impl Refusal {
             2 => "a slice is shorter than its cells",
             3 => "a bound is not a finite number",
             4 => "a lower bound is above the upper bound",
-            5 => "no finite number is right for a rounding",
+            5 => "a result is too large for binary32",
             6 => "the sheet's length or record count is wrong, or a byte that must be zero is not",
             7 => "an index is not below the record count, or a cell is outside the matrix",
             8 => "the cells of the chain do not rise by row, then column",

@@ -1,5 +1,6 @@
-// The sheet job for C callers: reads two coupling sheets, multiplies them by one of the four methods, and writes the result's sheet.
-// Work is in arrays of 1,024 numbers. A refusal leaves the out buffer as it was.
+// The library for callers in C; the modules have single sheets and products, operations and conversions. Here is the sheet job: it reads
+// two coupling sheets, multiplies them by one of the four methods, and writes the result's sheet. Work is in arrays of 1,024 numbers.
+// A refusal leaves the out buffer as it was.
 ghost use mathlib.Core.Path.{_≡_};
 ghost use lib.ListN.{length};
 ghost use Rattle.refusals.specs.Answer.{naming, coded};
@@ -8,6 +9,11 @@ ghost use Rattle.sheets.specs.Writing.{written};
 ghost use Rattle.products.specs.Checks.{given};
 ghost use Rattle.coupling.specs.Demand.{JobKeeps};
 ghost use Rattle.coupling.specs.Job.{Multiplied, Sheets, jobOf, outOf};
+
+pub mod conversions;
+pub mod matrices;
+pub mod operations;
+
 use products::methods::check_method;
 use refusals::Outcome;
 use sheets::Shape;
@@ -39,7 +45,8 @@ fn multiply(
     lo: &mut [u32],
     up: &mut [u32],
 ) -> Outcome
-    ensures { λ r. ⌜ Multiplied (given method «a_rows» «a_columns» «b_rows» «b_columns» (now (al .entry)) (now (au .entry)) (now (bl .entry)) (now (bu .entry)) 1024 1024 1024 1024 (length (now (lo .entry))) (length (now (up .entry)))) (now (lo .entry)) (now (up .entry)) r (now (lo .exit)) (now (up .exit)) ⌝ }
+    ensures { λ r. ⌜ Multiplied (given method «a_rows» «a_columns» «b_rows» «b_columns» (now (al .entry)) (now (au .entry)) (now (bl .entry)) (now (bu .entry))
+        1024 1024 1024 1024 (length (now (lo .entry))) (length (now (up .entry)))) (now (lo .entry)) (now (up .entry)) r (now (lo .exit)) (now (up .exit)) ⌝ }
 {
     let mut ma = [0u32; 1024];
     let mut ra = [0u32; 1024];
@@ -66,7 +73,8 @@ fn multiply(
 
 // 9, then A's sheet, then B's, then their product. That A's columns are B's rows is the product's first check.
 pub fn multiply_sheets(method: u32, a: &[u8], b: &[u8], lo: &mut [u32], up: &mut [u32]) -> Shape
-    ensures { λ r. ⌜ Sheets method (now (a .entry)) (now (b .entry)) (now (lo .entry)) (now (up .entry)) r (now (lo .exit)) (now (up .exit)) ⌝ }
+    ensures { λ r. ⌜ Sheets method (now (a .entry)) (now (b .entry)) (now (lo .entry)) (now (up .entry))
+        r (now (lo .exit)) (now (up .exit)) ⌝ }
 {
     match check_method(method) {
         Outcome::Done => {}
@@ -124,8 +132,10 @@ fn run(method: u32, a: &[u8], b: &[u8], out: &mut [u8]) -> Written
 #[no_mangle]
 pub extern "C" fn coupling_multiply(method: u32, a: &[u8], b: &[u8], out: &mut [u8]) -> u32
     ensures answer { λ r. ⌜ r ≡ coded (λ n. n) (jobOf method (now (a .entry)) (now (b .entry)) (length (now (out .entry)))) ⌝ }
-    ensures left { λ r. ⌜ now (out .exit) ≡ outOf method (now (a .entry)) (now (b .entry)) (jobOf method (now (a .entry)) (now (b .entry)) (length (now (out .entry)))) (now (out .entry)) ⌝ }
-    ensures keeps { λ r. ⌜ JobKeeps method (now (a .entry)) (now (b .entry)) (jobOf method (now (a .entry)) (now (b .entry)) (length (now (out .entry)))) (now (out .exit)) ⌝ }
+    ensures left { λ r. ⌜ now (out .exit) ≡ outOf method (now (a .entry)) (now (b .entry))
+        (jobOf method (now (a .entry)) (now (b .entry)) (length (now (out .entry)))) (now (out .entry)) ⌝ }
+    ensures keeps { λ r. ⌜ JobKeeps method (now (a .entry)) (now (b .entry))
+        (jobOf method (now (a .entry)) (now (b .entry)) (length (now (out .entry)))) (now (out .exit)) ⌝ }
 {
     match run(method, a, b, out) {
         Written::Bytes(n) => n as u32,

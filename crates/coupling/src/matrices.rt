@@ -1,0 +1,91 @@
+// Sheets and matrices for callers in C: reader, writer and product. An answer is one number: 100 × rows + columns of a read, the length
+// of a sheet written, 0 of a product, or 1,000,000 × number + 10,000 × matrix + 100 × row + column of the refusal.
+ghost use mathlib.Core.Path.{_≡_};
+ghost use lib.ListN.{length};
+ghost use Rattle.refusals.specs.Answer.{coded};
+ghost use Rattle.sheets.specs.Reading.{readOf, lowersAfter, uppersAfter};
+ghost use Rattle.sheets.specs.Writing.{writeOf, outAfter};
+ghost use Rattle.sheets.specs.Trip.{TripOf};
+ghost use Rattle.coupling.specs.Matrices.{sizesCode, Called};
+use sheets::Shape;
+use sheets::Written;
+
+// Reads a sheet's matrix into the front of the two slices; on a refusal they stay as they are.
+#[no_mangle]
+pub extern "C" fn coupling_read(sheet: &[u8], lowers: &mut [u32], uppers: &mut [u32]) -> u32
+    ensures answer { λ r. ⌜ r ≡ coded sizesCode (readOf (now (sheet .entry)) (length (now (lowers .entry))) (length (now (uppers .entry)))) ⌝ }
+    ensures below { λ r. ⌜ now (lowers .exit) ≡ lowersAfter (now (sheet .entry))
+        (readOf (now (sheet .entry)) (length (now (lowers .entry))) (length (now (uppers .entry)))) (now (lowers .entry)) ⌝ }
+    ensures above { λ r. ⌜ now (uppers .exit) ≡ uppersAfter (now (sheet .entry))
+        (readOf (now (sheet .entry)) (length (now (lowers .entry))) (length (now (uppers .entry)))) (now (uppers .entry)) ⌝ }
+{
+    match sheets::read(sheet, lowers, uppers) {
+        Shape::Sizes(rows, columns) => (100 * rows + columns) as u32,
+        Shape::Refused(r) => r.code(),
+    }
+}
+
+// Writes a matrix's sheet into the front of out; on a refusal out stays as it is. What is written reads back as the same matrix by value.
+#[no_mangle]
+pub extern "C" fn coupling_write(
+    rows: usize,
+    columns: usize,
+    lowers: &[u32],
+    uppers: &[u32],
+    out: &mut [u8],
+) -> u32
+    ensures answer { λ r. ⌜ r ≡ coded (λ n. n) (writeOf rows columns (now (lowers .entry)) (now (uppers .entry)) (length (now (out .entry)))) ⌝ }
+    ensures left { λ r. ⌜ now (out .exit) ≡ outAfter rows columns (now (lowers .entry)) (now (uppers .entry))
+        (writeOf rows columns (now (lowers .entry)) (now (uppers .entry)) (length (now (out .entry)))) (now (out .entry)) ⌝ }
+    ensures trip { λ r. ⌜ TripOf rows columns (now (lowers .entry)) (now (uppers .entry))
+        (writeOf rows columns (now (lowers .entry)) (now (uppers .entry)) (length (now (out .entry)))) (now (out .exit)) ⌝ }
+{
+    match sheets::put(rows, columns, lowers, uppers, out) {
+        Written::Bytes(n) => n as u32,
+        Written::Refused(r) => r.code(),
+    }
+}
+
+// A times B by the method with this number: its bounds in lo and up, in ma, ra, mb and rb what A's and B's cells were converted to.
+// The bounds enclose every product of picks from A's and B's cells.
+#[no_mangle]
+pub extern "C" fn coupling_product(
+    method: u32,
+    a_rows: usize,
+    a_columns: usize,
+    b_rows: usize,
+    b_columns: usize,
+    al: &[u32],
+    au: &[u32],
+    bl: &[u32],
+    bu: &[u32],
+    ma: &mut [u32],
+    ra: &mut [u32],
+    mb: &mut [u32],
+    rb: &mut [u32],
+    lo: &mut [u32],
+    up: &mut [u32],
+) -> u32
+    ensures { λ r. ⌜ Called method «a_rows» «a_columns» «b_rows» «b_columns»
+        (now (al .entry)) (now (au .entry)) (now (bl .entry)) (now (bu .entry))
+        (now (ma .entry)) (now (ra .entry)) (now (mb .entry)) (now (rb .entry)) (now (lo .entry)) (now (up .entry))
+        r (now (ma .exit)) (now (ra .exit)) (now (mb .exit)) (now (rb .exit)) (now (lo .exit)) (now (up .exit)) ⌝ }
+{
+    products::product(
+        method,
+        a_rows,
+        a_columns,
+        b_rows,
+        b_columns,
+        al,
+        au,
+        bl,
+        bu,
+        ma,
+        ra,
+        mb,
+        rb,
+        lo,
+        up,
+    ).code()
+}
