@@ -6,7 +6,8 @@
                                       converted both ways
 
    Status 1 if an answer differs, or if a refusal was met too seldom. */
-#include <stdlib.h>
+#include <inttypes.h>
+#include <stdio.h>
 
 #include "coupling.h"
 #include "draw.h"
@@ -29,22 +30,25 @@ typedef struct refusal oracle_conversion(uint32_t a, uint32_t b, uint32_t *first
 static conversion *const library[] = {coupling_to_midrad, coupling_to_bounds};
 static oracle_conversion *const oracle[] = {oracle_to_midrad, oracle_to_bounds};
 
-static bool converts(int column, uint32_t a, uint32_t b)
+static bool convert_alike(int column, uint32_t a, uint32_t b)
 {
-    uint32_t ours[GUARDED(2)], theirs[GUARDED(2)];
-    fill_words(ours, GUARDED(2));
-    fill_words(theirs, GUARDED(2));
-    uint32_t our = library[column](a, b, &ours[GUARD], &ours[GUARD + 1]);
-    uint32_t their = code_of(oracle[column](a, b, &theirs[GUARD], &theirs[GUARD + 1]));
-    count_outcome(&table, column, their);
-    bool same = same_number("answer", our, their);
-    return same_words(columns[column], ours, theirs, GUARDED(2)) && same;
+    uint32_t left[GUARDED(2)], expected[GUARDED(2)];
+    fill_words(left, GUARDED(2));
+    fill_words(expected, GUARDED(2));
+    uint32_t given = library[column](a, b, &left[GUARD], &left[GUARD + 1]);
+    uint32_t answer = code_of(oracle[column](a, b, &expected[GUARD], &expected[GUARD + 1]));
+    count_outcome(&table, column, answer);
+    bool same = same_number("answer", given, answer);
+    same = same_words(columns[column], left, expected, GUARDED(2)) && same;
+    if (!same && all_the_same())
+        printf("%s of %08" PRIX32 " and %08" PRIX32 "\n", columns[column], a, b);
+    return same;
 }
 
 static void compare(uint64_t index, uint32_t a, uint32_t b)
 {
     for (int column = 0; column < 2; column++)
-        end_call(index, converts(column, a, b));
+        end_call(index, convert_alike(column, a, b));
 }
 
 int main(int argc, char **argv)

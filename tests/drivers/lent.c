@@ -26,11 +26,11 @@ bool same_number(const char *name, uint32_t library, uint32_t expected)
     return library == expected;
 }
 
-static void print_difference(const char *name, size_t at, uint32_t library, uint32_t expected)
+static void print_difference(const char *name, size_t at, int digits, uint32_t library, uint32_t expected)
 {
     if (all_the_same())
-        printf("%s[%td]: library %08" PRIX32 ", expected %08" PRIX32 "\n",
-               name, (ptrdiff_t)at - GUARD, library, expected);
+        printf("%s[%td]: library %0*" PRIX32 ", expected %0*" PRIX32 "\n",
+               name, (ptrdiff_t)at - GUARD, digits, library, digits, expected);
 }
 
 bool same_words(const char *name, const uint32_t *library, const uint32_t *expected, size_t count)
@@ -40,7 +40,7 @@ bool same_words(const char *name, const uint32_t *library, const uint32_t *expec
     size_t at = 0;
     while (library[at] == expected[at])
         at++;
-    print_difference(name, at, library[at], expected[at]);
+    print_difference(name, at, 8, library[at], expected[at]);
     return false;
 }
 
@@ -51,6 +51,6 @@ bool same_bytes(const char *name, const uint8_t *library, const uint8_t *expecte
     size_t at = 0;
     while (library[at] == expected[at])
         at++;
-    print_difference(name, at, library[at], expected[at]);
+    print_difference(name, at, 2, library[at], expected[at]);
     return false;
 }

@@ -84,7 +84,8 @@ bool met_enough(const struct table *table)
         const struct outcome *o = &table->outcomes[i];
         if (fewest_calls(o) >= table->least && (!o->placed || places_of(o) >= table->least_places))
             continue;
-        printf("refusal %u of matrix %u (0: none) was met too seldom, or at too few places\n", o->number, o->matrix);
+        printf("met too seldom, or at too few places:\n");
+        print_outcome(table, o);
         enough = false;
     }
     return enough;
