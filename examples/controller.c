@@ -1,79 +1,57 @@
-/* How a controller in C multiplies two coupling sheets: a success, whose cells
-   are printed, and a refusal, whose sentence and place are printed. Valid as C++
-   too. */
+/* A controller's day: the sheet of motors against levers times that of levers
+   against bars, each range of the product held against the play that a bar may
+   have, and what is refused printed with its sentence and place. Valid as C++ too. */
 #include <stdio.h>
 #include <string.h>
 
 #include "coupling.h"
 #include "coupling_sentences.h"
 
-#define RECORD 16
+#define PLAY 5.0f
 
-static uint32_t get(const uint8_t *bytes, int count)
+static int refused(uint32_t r)
 {
-    uint32_t value = 0;
-    while (count-- > 0)
-        value = value << 8 | bytes[count];
-    return value;
-}
-
-static void put_bound(uint8_t *bytes, float value)
-{
-    uint32_t pattern;
-    memcpy(&pattern, &value, sizeof pattern);
-    for (int i = 0; i < 4; i++)
-        bytes[i] = (uint8_t)(pattern >> 8 * i);
-}
-
-static float bound(const uint8_t *bytes)
-{
-    uint32_t pattern = get(bytes, 4);
-    float value;
-    memcpy(&value, &pattern, sizeof value);
-    return value;
-}
-
-/* A sheet of 1 by 1: the head, then the cell [lower, upper] with a wear class. */
-static void put_sheet(uint8_t sheet[2 * RECORD], float lower, float upper, uint8_t wear)
-{
-    memset(sheet, 0, 2 * RECORD);
-    sheet[0] = 1; /* index of the first cell */
-    sheet[2] = 1; /* rows */
-    sheet[3] = 1; /* columns */
-    sheet[4] = 2; /* records */
-    put_bound(sheet + RECORD + 4, lower);
-    put_bound(sheet + RECORD + 8, upper);
-    sheet[RECORD + 12] = wear;
-}
-
-static void print_cells(const uint8_t *sheet)
-{
-    for (uint32_t i = get(sheet, 2); i != 0; i = get(sheet + RECORD * i, 2)) {
-        const uint8_t *cell = sheet + RECORD * i;
-        printf("row %u, column %u: [%.9g, %.9g]\n", cell[2], cell[3], bound(cell + 4), bound(cell + 8));
-    }
-}
-
-static void multiply_and_print(uint32_t method, const uint8_t *a, const uint8_t *b)
-{
-    uint8_t out[COUPLING_SHEET_MAX];
-    uint32_t r = coupling_multiply(method, a, 2 * RECORD, b, 2 * RECORD, out, sizeof out);
-    if (!COUPLING_REFUSED(r)) {
-        printf("%u bytes\n", r);
-        print_cells(out);
-        return;
-    }
+    if (!COUPLING_REFUSED(r))
+        return 0;
     printf("refused: %s\n", coupling_sentence(COUPLING_NUMBER(r)));
     printf("matrix %u, row %u, column %u\n", COUPLING_MATRIX(r), COUPLING_ROW(r), COUPLING_COLUMN(r));
+    return 1;
+}
+
+static void set_stops(const uint8_t *a, size_t a_len, const uint8_t *b, size_t b_len)
+{
+    uint8_t product[COUPLING_SHEET_MAX];
+    uint32_t lowers[COUPLING_CELLS_MAX], uppers[COUPLING_CELLS_MAX];
+
+    uint32_t r = coupling_multiply(1, a, a_len, b, b_len, product, sizeof product);
+    if (refused(r))
+        return;
+    r = coupling_read(product, r, lowers, COUPLING_CELLS_MAX, uppers, COUPLING_CELLS_MAX);
+    if (refused(r))
+        return;
+    for (uint32_t i = 0; i < COUPLING_READ_ROWS(r) * COUPLING_READ_COLUMNS(r); i++) {
+        float low, high;
+        memcpy(&low, &lowers[i], sizeof low);
+        memcpy(&high, &uppers[i], sizeof high);
+        printf("motor %u, bar %u: [%.9g, %.9g], ", i / COUPLING_READ_COLUMNS(r), i % COUPLING_READ_COLUMNS(r), low, high);
+        printf("%s\n", -PLAY <= low && high <= PLAY ? "stop set" : "too much play");
+    }
 }
 
 int main(void)
 {
-    uint8_t a[2 * RECORD], b[2 * RECORD];
-    put_sheet(a, 1, 2, 0);
-    put_sheet(b, -1, 3, 0);
-    multiply_and_print(1, a, b);
-    put_sheet(b, -1, 3, 8);
-    multiply_and_print(1, a, b);
+    const uint32_t half = 0x3F000000, one = 0x3F800000, two = 0x40000000, three = 0x40400000, minus_one = 0xBF800000;
+    const uint32_t motor_lowers[] = {one, half}, motor_uppers[] = {two, half};                       /* 1 by 2 */
+    const uint32_t lever_lowers[] = {minus_one, two, 0, one}, lever_uppers[] = {three, two, 0, one}; /* 2 by 2 */
+    const uint32_t spoiled_uppers[] = {three, COUPLING_LARGEST, 0, one};
+    uint8_t a[COUPLING_SHEET_MAX], b[COUPLING_SHEET_MAX], spoiled[COUPLING_SHEET_MAX];
+
+    uint32_t a_len = coupling_write(1, 2, motor_lowers, 2, motor_uppers, 2, a, sizeof a);
+    uint32_t b_len = coupling_write(2, 2, lever_lowers, 4, lever_uppers, 4, b, sizeof b);
+    uint32_t spoiled_len = coupling_write(2, 2, lever_lowers, 4, spoiled_uppers, 4, spoiled, sizeof spoiled);
+    if (refused(a_len) || refused(b_len) || refused(spoiled_len))
+        return 1;
+    set_stops(a, a_len, b, b_len);
+    set_stops(a, a_len, spoiled, spoiled_len);
     return 0;
 }

@@ -1,4 +1,4 @@
-//! Tests of the Rust wrapper of the sheet job, not proved: a success by each method, each refusal, and the codes.
+//! Tests of the sheet job in the Rust wrapper, not proved: a success by each method, each refusal, and the codes.
 use coupling::{multiply, Method, Refusal, SHEET_MAX};
 
 const METHODS: [Method; 4] = [Method::Classical, Method::Three, Method::Four, Method::Seven];

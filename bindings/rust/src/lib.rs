@@ -1,38 +1,31 @@
-//! Safe Rust wrapper of the sheet job `coupling_multiply`; not proved. `include/coupling.h` has the job's contract.
+//! Safe Rust wrapper of the coupling library: the sheet job, sheets, products of interval matrices, and single operations in
+//! rounded binary32. Not proved; what the library itself promises is, and `include/coupling.h` has the contract of each call.
+//!
+//! A binary32 number is passed as its pattern, a `u32` with the bits of the float (`f32::to_bits`, `f32::from_bits`). A pattern
+//! with exponent field 255, an infinity or no number, is refused. A refusal leaves what is lent as it was, but for number 5 of
+//! [`product`]; what lies beyond the cells or bytes that a call writes stays as it was.
 #![warn(missing_docs)]
 
+mod calls;
+mod intervals;
+mod matrices;
+mod operations;
 mod refusal;
 
+pub use intervals::{to_bounds, to_midrad};
+pub use matrices::{multiply, product, read, write, Matrix, Method, Work};
+pub use operations::{add_down, add_near, add_up, midpoint_down, midpoint_near, midpoint_up};
+pub use operations::{mul_down, mul_near, mul_up, sub_down, sub_near, sub_up};
 pub use refusal::Refusal;
+
+/// Rows or columns of the largest matrix.
+pub const SIZE_MAX: usize = 32;
+
+/// Cells of the largest matrix.
+pub const CELLS_MAX: usize = 1_024;
 
 /// Bytes of the longest sheet; an out buffer of this length is never too short.
 pub const SHEET_MAX: usize = 16_400;
 
-/// How to multiply.
-#[derive(Clone, Copy, Debug, PartialEq, Eq)]
-pub enum Method {
-    /// Method 1: sums of the least and the greatest corner products.
-    Classical = 1,
-    /// Method 3: midpoints rounded to nearest, and a bound on the error.
-    Three = 3,
-    /// Method 4: midpoints and radii.
-    Four = 4,
-    /// Method 7: midpoints and radii with a correction of the midpoint.
-    Seven = 7,
-}
-
-#[link(name = "coupling", kind = "static")]
-extern "C" {
-    fn coupling_multiply(method: u32, a: *const u8, a_len: usize, b: *const u8, b_len: usize, out: *mut u8, out_len: usize) -> u32;
-}
-
-/// Multiplies sheet `a` by sheet `b` and writes the product's sheet to the front of `out`: the length written, or the first
-/// refusal, which leaves `out` as it was. What lies behind the length written stays as it was.
-pub fn multiply(method: Method, a: &[u8], b: &[u8], out: &mut [u8]) -> Result<usize, Refusal> {
-    // SAFETY: slices are never null and valid for their lengths, `out` is borrowed alone, and no pointer is kept.
-    let code = unsafe { coupling_multiply(method as u32, a.as_ptr(), a.len(), b.as_ptr(), b.len(), out.as_mut_ptr(), out.len()) };
-    match Refusal::from_code(code) {
-        Some(refusal) => Err(refusal),
-        None => Ok(code as usize),
-    }
-}
+/// The pattern of the largest number.
+pub const LARGEST: u32 = 0x7F7F_FFFF;

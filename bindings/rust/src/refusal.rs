@@ -1,4 +1,4 @@
-//! A refusal of the sheet job: its number, what it names, and its sentence.
+//! A refusal: its number, what it names, and its sentence.
 use std::error::Error;
 use std::fmt;
 
@@ -7,7 +7,7 @@ use std::fmt;
 pub struct Refusal {
     /// 1 to 11.
     pub number: u32,
-    /// 1 is A, 2 is B, 3 is the product, 0 is none of them.
+    /// 1 is A, 2 is B, 3 is the result, 0 is none of them.
     pub matrix: u32,
     /// From 0; the place of a cell for numbers 3, 4, 5 and 10, otherwise 0.
     pub row: u32,
@@ -16,14 +16,19 @@ pub struct Refusal {
 }
 
 impl Refusal {
-    /// The refusal that a number returned to C stands for; `None` where that number is a length.
+    /// The refusal that a number returned to C stands for; `None` where that number is no refusal.
     pub fn from_code(code: u32) -> Option<Refusal> {
-        (code >= 1_000_000).then(|| Refusal {
+        (code >= 1_000_000).then_some(Refusal {
             number: code / 1_000_000,
             matrix: code / 10_000 % 100,
             row: code / 100 % 100,
             column: code % 100,
         })
+    }
+
+    /// What was returned to C, or the refusal that it stands for.
+    pub(crate) fn unless(code: u32) -> Result<u32, Refusal> {
+        Refusal::from_code(code).map_or(Ok(code), Err)
     }
 
     /// The number that is returned to C.

@@ -1,0 +1,21 @@
+//! The two conversions of an interval: bounds to midpoint and radius, and back.
+use crate::calls::{coupling_to_bounds, coupling_to_midrad};
+use crate::Refusal;
+
+/// From bounds to midpoint and radius: the midpoint rounded up, and the distance from it to the lower bound rounded up. Refusal 3
+/// or 4; it is never refused for overflow.
+pub fn to_midrad(lower: u32, upper: u32) -> Result<(u32, u32), Refusal> {
+    let (mut mid, mut rad) = (0, 0);
+    // SAFETY: both words are locals, and no pointer is kept.
+    let code = unsafe { coupling_to_midrad(lower, upper, &mut mid, &mut rad) };
+    Refusal::unless(code).map(|_| (mid, rad))
+}
+
+/// From midpoint and radius to bounds: `mid - rad` rounded down, `mid + rad` rounded up. Refusal 3, 4 (the radius is below zero)
+/// or 5.
+pub fn to_bounds(mid: u32, rad: u32) -> Result<(u32, u32), Refusal> {
+    let (mut lower, mut upper) = (0, 0);
+    // SAFETY: both words are locals, and no pointer is kept.
+    let code = unsafe { coupling_to_bounds(mid, rad, &mut lower, &mut upper) };
+    Refusal::unless(code).map(|_| (lower, upper))
+}

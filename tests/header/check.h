@@ -1,0 +1,43 @@
+/* Tests of the C functions, not proved: what the files share. */
+#ifndef CHECK_H
+#define CHECK_H
+
+#include <stddef.h>
+#include <stdint.h>
+
+#include "coupling.h"
+
+#define HALF 0x3F000000u
+#define ONE 0x3F800000u
+#define TWO 0x40000000u
+#define THREE 0x40400000u
+#define FOUR 0x40800000u
+#define MINUS 0x80000000u /* the sign bit: MINUS | ONE is -1 */
+
+#define GUARD_BYTE 0xA5
+#define GUARD 0xA5A5A5A5u /* a word of such bytes */
+
+#define COUNT(array) (sizeof(array) / sizeof *(array))
+
+/* Ends the program with status 1, and prints the line, where it does not hold. */
+#define CHECK(holds) check(holds, #holds, __FILE__, __LINE__)
+void check(int holds, const char *text, const char *file, int line);
+
+/* The code of a refusal. */
+uint32_t refusal(uint32_t number, uint32_t matrix, uint32_t row, uint32_t column);
+
+/* Whether these words are all GUARD. */
+int untouched(const uint32_t *words, size_t count);
+
+/* A sheet of 2 by 2 with cells (0, 0) and (1, 1), both [-1, 1]. */
+#define LENGTH 48
+void put_sheet(uint8_t *sheet);
+
+void test_job(void);
+void test_sheets(void);
+void test_product(void);
+void test_operations(void);
+void test_conversions(void);
+void test_surroundings(void);
+
+#endif

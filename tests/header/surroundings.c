@@ -1,0 +1,106 @@
+/* Tests of the C functions, not proved: every function called in two threads at
+   the same time and in each rounding mode gives the same, and changes neither the
+   mode nor the exception flags. */
+#include "check.h"
+
+#include <fenv.h>
+#include <pthread.h>
+#include <string.h>
+
+#include "../sheets/sheet.h"
+
+#define CELLS COUPLING_CELLS_MAX
+#define SIZE COUPLING_SIZE_MAX
+
+static uint8_t full[COUPLING_SHEET_MAX];
+static uint32_t low[CELLS], high[CELLS]; /* what the full sheet is read as */
+
+/* All that one round of calls returns and writes. */
+struct answers {
+    uint32_t read, write, multiply[4], product[4], operations[12], to_midrad, to_bounds, words[4];
+    uint8_t sheet[COUPLING_SHEET_MAX], out[4][COUPLING_SHEET_MAX];
+    uint32_t lowers[CELLS], uppers[CELLS], lent[4][6][CELLS];
+};
+
+static void multiply_all(struct answers *x)
+{
+    const uint32_t methods[] = {1, 3, 4, 7};
+    for (int i = 0; i < 4; i++) {
+        uint32_t(*lent)[CELLS] = x->lent[i];
+        x->multiply[i] = coupling_multiply(methods[i], full, sizeof full, full, sizeof full, x->out[i], sizeof x->out[i]);
+        x->product[i] = coupling_product(methods[i], SIZE, SIZE, SIZE, SIZE, low, CELLS, high, CELLS, low, CELLS, high, CELLS,
+                                         lent[0], CELLS, lent[1], CELLS, lent[2], CELLS, lent[3], CELLS, lent[4], CELLS, lent[5], CELLS);
+    }
+}
+
+static void call_all(struct answers *x)
+{
+    const uint32_t a = ONE + 1, b = (MINUS | THREE) + 5; /* no result is exact */
+    const uint32_t operations[] = {
+        coupling_add_down(a, b), coupling_add_up(a, b), coupling_add_near(a, b),
+        coupling_sub_down(a, b), coupling_sub_up(a, b), coupling_sub_near(a, b),
+        coupling_mul_down(a, b), coupling_mul_up(a, b), coupling_mul_near(a, b),
+        coupling_midpoint_down(a, b), coupling_midpoint_up(a, b), coupling_midpoint_near(a, b),
+    };
+    memcpy(x->operations, operations, sizeof operations);
+    x->read = coupling_read(full, sizeof full, x->lowers, CELLS, x->uppers, CELLS);
+    x->write = coupling_write(SIZE, SIZE, low, CELLS, high, CELLS, x->sheet, sizeof x->sheet);
+    x->to_midrad = coupling_to_midrad(b, a, &x->words[0], &x->words[1]);
+    x->to_bounds = coupling_to_bounds(b, a, &x->words[2], &x->words[3]);
+    multiply_all(x);
+}
+
+/* First in one thread and the mode to nearest: nothing is refused. */
+static struct answers first, other[2];
+
+static void call_first(void)
+{
+    put_full(full);
+    CHECK(coupling_read(full, sizeof full, low, CELLS, high, CELLS) == 100 * SIZE + SIZE);
+    call_all(&first);
+    CHECK(first.read == 100 * SIZE + SIZE && first.write == sizeof full && first.to_midrad == 0 && first.to_bounds == 0);
+    for (int i = 0; i < 4; i++)
+        CHECK(first.multiply[i] == sizeof full && first.product[i] == 0);
+    for (int i = 0; i < 12; i++)
+        CHECK(!COUPLING_OPERATION_REFUSED(first.operations[i]));
+}
+
+static void *run_calls(void *argument)
+{
+    for (int i = 0; i < 10; i++)
+        call_all((struct answers *)argument);
+    return NULL;
+}
+
+static void test_threads(void)
+{
+    pthread_t threads[2];
+    for (int i = 0; i < 2; i++)
+        CHECK(pthread_create(&threads[i], NULL, run_calls, &other[i]) == 0);
+    for (int i = 0; i < 2; i++)
+        CHECK(pthread_join(threads[i], NULL) == 0);
+    for (int i = 0; i < 2; i++)
+        CHECK(memcmp(&other[i], &first, sizeof first) == 0);
+}
+
+static void test_environment(void)
+{
+    const int modes[] = {FE_TONEAREST, FE_DOWNWARD, FE_UPWARD, FE_TOWARDZERO}, flags[] = {0, FE_INEXACT | FE_INVALID};
+    for (int i = 0; i < 8; i++) {
+        memset(&other[0], 0, sizeof other[0]);
+        fesetround(modes[i % 4]);
+        feclearexcept(FE_ALL_EXCEPT);
+        feraiseexcept(flags[i / 4]);
+        call_all(&other[0]);
+        CHECK(fegetround() == modes[i % 4] && fetestexcept(FE_ALL_EXCEPT) == flags[i / 4]);
+        CHECK(memcmp(&other[0], &first, sizeof first) == 0);
+    }
+    fesetround(FE_TONEAREST);
+}
+
+void test_surroundings(void)
+{
+    call_first();
+    test_threads();
+    test_environment();
+}
