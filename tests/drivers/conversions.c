@@ -22,7 +22,7 @@ static struct outcome outcomes[] = {
     {.number = 0, .met_by = 3}, {.number = 3, .met_by = 3}, {.number = 4, .met_by = 3}, {.number = 5, .met_by = 2},
 };
 
-static struct table table = {.columns = columns, .least = 100, .outcomes = outcomes, .count = 4};
+static struct table table = {.columns = columns, .by = "function", .least = 100, .outcomes = outcomes, .count = 4};
 
 typedef uint32_t conversion(uint32_t a, uint32_t b, uint32_t *first, uint32_t *second);
 typedef struct refusal oracle_conversion(uint32_t a, uint32_t b, uint32_t *first, uint32_t *second);

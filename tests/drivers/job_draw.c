@@ -13,7 +13,7 @@ static uint32_t draw_method(void)
 
 static size_t draw_factor(uint8_t *sheet, int rows, int columns, bool moderate)
 {
-    if (one_in(6))
+    if (one_in(4))
         return draw_sheet(sheet);
     return draw_valid_sheet(sheet, (uint32_t)rows, (uint32_t)columns, moderate);
 }

@@ -9,20 +9,16 @@
 #include "job_draw.h"
 #include "run.h"
 
-/* A refusal of sheet A, and the same of sheet B. */
-#define OF_BOTH(n, at_cell) {.number = n, .matrix = 1, .met_by = METHODS, .placed = at_cell}, \
-                            {.number = n, .matrix = 2, .met_by = METHODS, .placed = at_cell}
-
 static struct outcome outcomes[] = {
     {.number = 0, .met_by = METHODS}, {.number = 9, .met_by = OTHER_METHOD},
-    OF_BOTH(6, false), OF_BOTH(1, false), OF_BOTH(7, false), OF_BOTH(8, false),
-    OF_BOTH(10, true), OF_BOTH(3, true), OF_BOTH(4, true), OF_BOTH(5, true),
+    SHEET_REFUSALS(1, METHODS), SHEET_REFUSALS(2, METHODS),
     {.number = 5, .matrix = 3, .met_by = METHODS, .placed = true},
     {.number = 11, .matrix = 3, .met_by = METHODS},
 };
 
 static struct table table = {
-    .columns = method_columns, .least = 5, .least_places = 10, .outcomes = outcomes, .count = sizeof outcomes / sizeof outcomes[0],
+    .columns = method_columns, .by = "method", .least = 5, .least_places = 10,
+    .outcomes = outcomes, .count = sizeof outcomes / sizeof outcomes[0],
 };
 
 static struct job library, oracle;

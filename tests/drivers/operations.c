@@ -36,7 +36,7 @@ static struct outcome outcomes[] = {
     {.number = 0, .met_by = 0xFFF}, {.number = 3, .met_by = 0xFFF}, {.number = 5, .met_by = 0x1FF},
 };
 
-static struct table table = {.columns = columns, .outcomes = outcomes, .count = 3};
+static struct table table = {.columns = columns, .by = "operation", .outcomes = outcomes, .count = 3};
 
 /* What a line asks; false if it has another form. */
 static bool parse(const char *line, int *operation, int *direction, uint32_t *a, uint32_t *b)

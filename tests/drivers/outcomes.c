@@ -105,8 +105,9 @@ void print_summary(const struct table *table)
         if (o->placed && places_of(o) < places)
             places = places_of(o);
     }
-    printf("%d refusals, each met by %lu calls or more", refusals, calls);
+    printf("; %d refusals, each met %lu times or more", refusals, calls);
+    if (table->by != NULL)
+        printf(" by each %s", table->by);
     if (places < PLACES * PLACES)
         printf(", those of a cell at %d places or more", places);
-    printf("\n");
 }

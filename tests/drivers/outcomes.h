@@ -21,6 +21,7 @@ struct outcome {
 
 struct table {
     const char *const *columns;         /* their names; NULL ends them */
+    const char *by;                     /* what a column stands for, or NULL */
     unsigned long least;                /* calls of each column that can meet an outcome */
     int least_places;                   /* at which a refusal of a cell must have been met */
     struct outcome *outcomes;
@@ -36,12 +37,19 @@ void print_table(const struct table *table);
 /* Whether every outcome was met often enough; if not, says which was not. */
 bool met_enough(const struct table *table);
 
-/* One line: how many refusals there are, and how often each was met at least. */
+/* The rest of a line: how many refusals there are, and how often each was met. */
 void print_summary(const struct table *table);
 
-/* The column of a method in a table of products or jobs. */
+/* Columns by method, for products and jobs. */
 extern const char *const method_columns[];
 enum { METHODS = 0xF, OTHER_METHOD = 0x10 };
 int method_column(uint32_t method);
+
+/* The outcomes of a job or of the printed product that a sheet is refused with. */
+#define SHEET_REFUSALS(m, columns) \
+    {.number = 6, .matrix = m, .met_by = columns}, {.number = 1, .matrix = m, .met_by = columns}, \
+    {.number = 7, .matrix = m, .met_by = columns}, {.number = 8, .matrix = m, .met_by = columns}, \
+    {.number = 10, .matrix = m, .met_by = columns, .placed = true}, {.number = 3, .matrix = m, .met_by = columns, .placed = true}, \
+    {.number = 4, .matrix = m, .met_by = columns, .placed = true}, {.number = 5, .matrix = m, .met_by = columns, .placed = true}
 
 #endif

@@ -8,30 +8,25 @@
    Status 1 if a text differs, or if a refusal was met too seldom. */
 #include <inttypes.h>
 #include <stdio.h>
-#include <stdlib.h>
 #include <string.h>
 
+#include "child.h"
 #include "draw.h"
 #include "job_draw.h"
-#include "child.h"
 #include "run.h"
 
-/* A refusal of sheet A, and the same of sheet B. */
-#define OF_BOTH(n, at_cell) {.number = n, .matrix = 1, .met_by = REFUSED, .placed = at_cell}, \
-                            {.number = n, .matrix = 2, .met_by = REFUSED, .placed = at_cell}
-
 static const char *const columns[] = {"product 1", "product 3", "product 4", "product 7", "refused", NULL};
-enum { PRODUCTS = 0xF, REFUSED = 0x10, REFUSED_COLUMN = 4 };
+enum { PRODUCTS = 0xF, REFUSED_COLUMN = 4, REFUSED = 1 << REFUSED_COLUMN };
 
 static struct outcome outcomes[] = {
     {.number = 0, .met_by = PRODUCTS}, {.number = 9, .met_by = REFUSED},
-    OF_BOTH(6, false), OF_BOTH(1, false), OF_BOTH(7, false), OF_BOTH(8, false),
-    OF_BOTH(10, true), OF_BOTH(3, true), OF_BOTH(4, true), OF_BOTH(5, true),
+    SHEET_REFUSALS(1, REFUSED), SHEET_REFUSALS(2, REFUSED),
     {.number = 5, .matrix = 3, .met_by = REFUSED, .placed = true},
 };
 
 static struct table table = {
-    .columns = columns, .least = 1, .least_places = 1, .outcomes = outcomes, .count = sizeof outcomes / sizeof outcomes[0],
+    .columns = columns, .least = 1, .least_places = 1,
+    .outcomes = outcomes, .count = sizeof outcomes / sizeof outcomes[0],
 };
 
 static uint8_t input[1 + 2 * BYTES];
@@ -45,6 +40,7 @@ static bool same_text(const char *whose, const char *text, size_t length, size_t
     return same;
 }
 
+/* What the independent implementation prints for the input; its length. */
 static size_t expect(size_t length)
 {
     size_t text = oracle_print(input, length, expected, TEXT_ROOM - 1);
@@ -52,13 +48,15 @@ static size_t expect(size_t length)
     return text;
 }
 
+/* Counts the expected text. */
 static void count_text(void)
 {
     struct refusal r = {0, 0, 0, 0};
     uint32_t method = 0;
     if (sscanf(expected, "product %" SCNu32, &method) == 1)
         count_outcome(&table, method_column(method), 0);
-    else if (sscanf(expected, "refused %" SCNu32 " %" SCNu32 " %" SCNu32 " %" SCNu32, &r.number, &r.matrix, &r.row, &r.column) == 4)
+    else if (sscanf(expected, "refused %" SCNu32 " %" SCNu32 " %" SCNu32 " %" SCNu32,
+                    &r.number, &r.matrix, &r.row, &r.column) == 4)
         count_outcome(&table, REFUSED_COLUMN, code_of(r));
 }
 
@@ -84,7 +82,7 @@ static int compare_random(const char *program, struct run run)
     return end_run("inputs", &table);
 }
 
-/* The .out beside an .in */
+/* NAME.out beside NAME.in. */
 static size_t read_out(const char *path, char *text)
 {
     char name[4096];

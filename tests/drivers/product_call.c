@@ -4,7 +4,6 @@
 
 #include <string.h>
 
-#include "coupling.h"
 #include "run.h"
 
 static const char *const names[SLICES] = {

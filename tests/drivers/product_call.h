@@ -2,12 +2,11 @@
 #ifndef PRODUCT_CALL_H
 #define PRODUCT_CALL_H
 
+#include "coupling.h"
 #include "lent.h"
 
 /* Bounds of A and B, midpoints and radii of both, bounds of the result. */
 enum slice { AL, AU, BL, BU, MA, RA, MB, RB, CL, CU, SLICES };
-
-#define MAX_SIZE 32
 
 struct call {
     uint32_t method;

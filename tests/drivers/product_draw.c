@@ -18,8 +18,8 @@ struct matrix {
 
 static void draw_sizes(size_t *m, size_t *k, size_t *n)
 {
-    int least = one_in(150) ? MAX_SIZE : 1;
-    int most = least == MAX_SIZE || one_in(20) ? MAX_SIZE : 6;
+    int least = one_in(150) ? COUPLING_SIZE_MAX : 1;
+    int most = least == COUPLING_SIZE_MAX || one_in(20) ? COUPLING_SIZE_MAX : 6;
     *m = (size_t)from_to(least, most);
     *k = (size_t)from_to(least, most);
     *n = (size_t)from_to(least, most);
@@ -96,7 +96,7 @@ static void spoil_size(struct call *call)
 {
     static const size_t wrong[] = {0, 33, 34, 64, (size_t)1 << 32, ((size_t)1 << 32) + 1, (size_t)1 << 63, SIZE_MAX};
     size_t *const sizes[] = {&call->a_rows, &call->a_columns, &call->b_rows, &call->b_columns};
-    size_t size = one_in(3) ? (size_t)from_to(1, MAX_SIZE) : wrong[from_to(0, 7)];
+    size_t size = one_in(3) ? (size_t)from_to(1, COUPLING_SIZE_MAX) : wrong[from_to(0, 7)];
     int which = from_to(0, 3);
     *sizes[which] = size;
     if (one_in(4))

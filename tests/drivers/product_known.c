@@ -88,7 +88,7 @@ static void check_constant_needed(void)
 /* All cells [1, 1]: size 32 is accepted, 33 is refused with 1. */
 static void check_largest(uint32_t method)
 {
-    prepare(&call, method, MAX_SIZE, MAX_SIZE, MAX_SIZE);
+    prepare(&call, method, COUPLING_SIZE_MAX, COUPLING_SIZE_MAX, COUPLING_SIZE_MAX);
     for (int s = AL; s <= BU; s++)
         for (size_t c = 0; c < cells_of(&call, (enum slice)s); c++)
             *cell(&call, (enum slice)s, c) = ONE;

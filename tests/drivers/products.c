@@ -26,7 +26,8 @@ static struct outcome outcomes[] = {
 };
 
 static struct table table = {
-    .columns = method_columns, .least = 5, .least_places = 30, .outcomes = outcomes, .count = sizeof outcomes / sizeof outcomes[0],
+    .columns = method_columns, .by = "method", .least = 5, .least_places = 30,
+    .outcomes = outcomes, .count = sizeof outcomes / sizeof outcomes[0],
 };
 
 static struct call call;

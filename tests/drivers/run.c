@@ -7,7 +7,7 @@
 #include <string.h>
 
 static uint64_t calls, differences;
-static bool part;   /* of a run: what it meets is not held to be enough */
+static bool part;   /* of a run, of which no table is made */
 
 uint64_t number_of(const char *word)
 {
@@ -52,9 +52,12 @@ void end_call(uint64_t index, bool same)
 
 int end_run(const char *name, const struct table *table)
 {
-    print_table(table);
+    if (!part)
+        print_table(table);
     bool enough = part || met_enough(table);
-    printf("%" PRIu64 " %s, %" PRIu64 " differences; ", calls, name, differences);
-    print_summary(table);
+    printf("%" PRIu64 " %s, %" PRIu64 " differences", calls, name, differences);
+    if (!part)
+        print_summary(table);
+    printf("\n");
     return differences == 0 && enough ? 0 : 1;
 }

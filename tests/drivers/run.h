@@ -27,7 +27,8 @@ void end_call(uint64_t index, bool same);
 bool all_the_same(void);    /* so far */
 
 /* Prints the table, what was met too seldom, and as the last line how many calls
-   there were and what they met. The status of the program: 0 or 1. */
+   there were and what they met; the calls alone where FIRST was given. The status
+   of the program: 0 or 1. */
 int end_run(const char *calls, const struct table *table);
 
 #endif

@@ -1,4 +1,4 @@
-/* Test of the stack that the sheet job needs, not proved: calls it by each
+/* Driver, not proved: the stack that the sheet job needs. Calls it by each
    method on a thread whose stack was painted before, and counts the bytes from
    the caller's frame down to the lowest one that is painted no more. Prints the
    count by each method; fails if one is above COUPLING_STACK, or if the job
@@ -9,8 +9,8 @@
 #include <string.h>
 #include <sys/mman.h>
 
-#include "records.h"
 #include "coupling.h"
+#include "records.h"
 
 #define STACK ((size_t)1 << 20)
 #define PAINT 0xA5
