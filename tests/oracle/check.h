@@ -5,6 +5,7 @@
 #include <stdbool.h>
 
 #include "oracle.h"
+#include "records.h"
 
 #define CHECK(condition) check((condition), #condition, __FILE__, __LINE__)
 
@@ -26,11 +27,6 @@ bool is(struct refusal refusal, uint32_t number, uint32_t matrix,
         uint32_t row, uint32_t column);
 void fill(uint32_t *cells, size_t count, uint32_t value);
 bool all_are(const uint32_t *cells, size_t count, uint32_t value);
-
-/* The bytes of a sheet, put down by hand. */
-void put_head(uint8_t *s, unsigned first, unsigned rows, unsigned columns, unsigned records);
-void put_cell(uint8_t *s, unsigned index, unsigned next, unsigned row, unsigned column,
-              uint32_t lo, uint32_t hi, unsigned wear_class);
 
 void check_products(void);
 void check_product_refusals(void);

@@ -57,32 +57,17 @@ static int mode_of(enum direction direction)
     }
 }
 
-static float rounded_sum(int mode, float a, float b)
+/* One of the three that the machine has itself. */
+static float rounded_step(enum operation operation, int mode, float a, float b)
 {
     volatile float x = a, y = b, result;
     int before = fegetround();
     set_mode(mode);
-    result = x + y;
-    set_mode(before);
-    return result;
-}
-
-static float rounded_difference(int mode, float a, float b)
-{
-    volatile float x = a, y = b, result;
-    int before = fegetround();
-    set_mode(mode);
-    result = x - y;
-    set_mode(before);
-    return result;
-}
-
-static float rounded_product(int mode, float a, float b)
-{
-    volatile float x = a, y = b, result;
-    int before = fegetround();
-    set_mode(mode);
-    result = x * y;
+    switch (operation) {
+    case ADD: result = x + y; break;
+    case SUB: result = x - y; break;
+    default:  result = x * y; break;
+    }
     set_mode(before);
     return result;
 }
@@ -142,14 +127,9 @@ uint32_t oracle_operate(enum operation operation, enum direction direction,
 {
     if (!is_finite(a) || !is_finite(b))
         return 3;
-    float x = value_of(a), y = value_of(b), rounded;
+    float x = value_of(a), y = value_of(b);
     int mode = mode_of(direction);
-    switch (operation) {
-    case ADD: rounded = rounded_sum(mode, x, y); break;
-    case SUB: rounded = rounded_difference(mode, x, y); break;
-    case MUL: rounded = rounded_product(mode, x, y); break;
-    default:  rounded = rounded_midpoint(mode, x, y); break;
-    }
+    float rounded = operation == MIDPOINT ? rounded_midpoint(mode, x, y) : rounded_step(operation, mode, x, y);
     if (isinf(rounded))
         return 5;
     *result = pattern_of(rounded);

@@ -41,9 +41,16 @@ struct refusal refuse(uint32_t number, uint32_t matrix, size_t row, size_t colum
 uint32_t check_bounds(uint32_t lo, uint32_t hi);       /* 0, 3 or 4 */
 bool size_in_range(size_t size);                       /* 1 to 32 */
 
-/* methods.c */
+/* methods.c; a step that is refused sets *refused, and gives 0 */
 bool method_known(uint32_t method);
 struct entry entry_by_method(uint32_t method, const struct pair *pairs, size_t k);
+uint32_t step(bool *refused, enum operation operation, enum direction direction, uint32_t a, uint32_t b);
+uint32_t lesser(uint32_t a, uint32_t b);
+
+/* methods_midrad.c */
+struct entry three_products(const struct pair *pairs, size_t k);
+struct entry four_products(const struct pair *pairs, size_t k);
+struct entry seven_products(const struct pair *pairs, size_t k);
 
 /* job.c: reads both sheets and multiplies; matrix numbers are the job's. */
 struct refusal multiply_sheets(uint32_t method, const uint8_t *a, size_t a_len,

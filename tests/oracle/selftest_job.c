@@ -10,9 +10,9 @@ static uint8_t a[16416], b[16416], out[16401];
 static void put_cells(uint32_t a_lo, uint32_t a_hi, uint32_t b_lo, uint32_t b_hi)
 {
     put_head(a, 1, 1, 1, 2);
-    put_cell(a, 1, 0, 0, 0, a_lo, a_hi, 0);
+    put_cell(a + RECORD_BYTES, 0, 0, 0, a_lo, a_hi, 0);
     put_head(b, 1, 1, 1, 2);
-    put_cell(b, 1, 0, 0, 0, b_lo, b_hi, 0);
+    put_cell(b + RECORD_BYTES, 0, 0, 0, b_lo, b_hi, 0);
 }
 
 static uint32_t job(uint32_t method, size_t a_len, size_t b_len, size_t out_len)
@@ -49,15 +49,15 @@ static void check_job_refusals(void)
     a[16 + 12] = 8;
     CHECK(refuses(4, 32, 15, 0, 10010000));
     put_head(b, 1, 32, 32, 2);
-    put_cell(b, 1, 0, 31, 30, TWO, ONE, 0);
+    put_cell(b + RECORD_BYTES, 0, 31, 30, TWO, ONE, 0);
     CHECK(oracle_job(1, a, 0, NULL, 0, NULL, 0) == 6010000);
     put_head(a, 0, 1, 1, 1);
     CHECK(refuses(1, 16, 32, 0, 4023130));
-    put_cell(b, 1, 0, 32, 30, TWO, ONE, 0);
+    put_cell(b + RECORD_BYTES, 0, 32, 30, TWO, ONE, 0);
     CHECK(refuses(1, 16, 32, 0, 7020000));
-    put_cell(b, 1, 1, 31, 31, ONE, TWO, 0);
+    put_cell(b + RECORD_BYTES, 1, 31, 31, ONE, TWO, 0);
     CHECK(refuses(1, 16, 32, 0, 8020000));
-    put_cell(b, 1, 0, 31, 31, ONE, INFINITY_PATTERN, 0);
+    put_cell(b + RECORD_BYTES, 0, 31, 31, ONE, INFINITY_PATTERN, 0);
     CHECK(refuses(1, 16, 32, 0, 3023131));
 }
 
@@ -67,7 +67,7 @@ void check_job(void)
     put_cells(ONE, TWO, NEGATIVE | ONE, THREE);
     CHECK(job(4, 32, 32, 32) == 32);
     put_head(expected, 1, 1, 1, 2);
-    put_cell(expected, 1, 0, 0, 0, 0xC0400000, 0x40C00000, 0);
+    put_cell(expected + RECORD_BYTES, 0, 0, 0, 0xC0400000, 0x40C00000, 0);
     CHECK(memcmp(out, expected, 32) == 0 && out[32] == SPARE);
     put_head(b, 0, 1, 32, 1);
     CHECK(job(1, 32, 16, sizeof out) == 16 && out[16] == SPARE);
@@ -107,7 +107,7 @@ static void check_print_refusals(void)
     put_cells(MAX, MAX, MAX, MAX);
     CHECK(prints('7', 32, 32, "refused 5 3 0 0\n"));
     put_head(b, 1, 1, 32, 2);
-    put_cell(b, 1, 0, 0, 31, TWO, ONE, 0);
+    put_cell(b + RECORD_BYTES, 0, 0, 31, TWO, ONE, 0);
     CHECK(prints('7', 32, 32, "refused 4 2 0 31\n"));
 }
 
@@ -123,7 +123,7 @@ void check_print(void)
     CHECK(oracle_print(input, 65, text, 14) == 36 && memcmp(text, "product 7 1 1\n", 14) == 0);
     CHECK(text[14] == SPARE);
     put_head(b, 1, 1, 2, 2);
-    put_cell(b, 1, 0, 0, 1, 1, 1, 0);
+    put_cell(b + RECORD_BYTES, 0, 0, 1, 1, 1, 0);
     CHECK(prints('1', 32, 32, "product 1 1 2\n0 0 00000000 00000000\n0 1 00000001 00000002\n"));
     check_print_refusals();
     put_head(a, 0, 1, 1, 1025);     /* the two longest sheets, and one byte more */

@@ -3,10 +3,11 @@
 
 #define ROOM 1025   /* one more than the cells of any matrix */
 
+static const uint32_t methods[4] = {1, 3, 4, 7};
+
 /* Lent memory of one call, with a length for each slice. */
-static uint32_t a_lo[ROOM], a_hi[ROOM], b_lo[ROOM], b_hi[ROOM];
+static uint32_t a_lo[ROOM], a_hi[ROOM], b_lo[ROOM], b_hi[ROOM], c_lo[ROOM], c_hi[ROOM];
 static uint32_t m_a[ROOM], r_a[ROOM], m_b[ROOM], r_b[ROOM];
-static uint32_t c_lo[ROOM], c_hi[ROOM];
 static size_t lengths[10];
 
 /* A and B all [1, 1], everything else as found, all lengths at their most. */
@@ -41,25 +42,22 @@ static bool result_untouched(size_t from)
 }
 
 /* [lo_a, hi_a] times [lo_b, hi_b], 1 by 1, gives [lo, hi]. */
-static bool gives(uint32_t method, uint32_t lo_a, uint32_t hi_a,
-                  uint32_t lo_b, uint32_t hi_b, uint32_t lo, uint32_t hi)
+static bool gives(uint32_t method, uint32_t lo_a, uint32_t hi_a, uint32_t lo_b, uint32_t hi_b, uint32_t lo, uint32_t hi)
 {
     reset();
     a_lo[0] = lo_a;
     a_hi[0] = hi_a;
     b_lo[0] = lo_b;
     b_hi[0] = hi_b;
-    return is(multiply(method, 1, 1, 1), 0, 0, 0, 0)
-        && c_lo[0] == lo && c_hi[0] == hi && result_untouched(1)
-        && work_untouched(method == 1 ? 0 : 1);
+    return is(multiply(method, 1, 1, 1), 0, 0, 0, 0) && c_lo[0] == lo && c_hi[0] == hi
+        && result_untouched(1) && work_untouched(method == 1 ? 0 : 1);
 }
 
 void check_products(void)
 {
     const uint32_t minus_one = NEGATIVE | ONE, minus_two = NEGATIVE | TWO, six = 0x40C00000;
     CHECK(gives(4, 0, TWO, 0, TWO, minus_two, FOUR));
-    CHECK(gives(1, 0, TWO, 0, TWO, 0, FOUR));
-    CHECK(gives(7, 0, TWO, 0, TWO, 0, FOUR));
+    CHECK(gives(1, 0, TWO, 0, TWO, 0, FOUR) && gives(7, 0, TWO, 0, TWO, 0, FOUR));
     CHECK(gives(1, ONE, TWO, minus_one, THREE, minus_two, six));
     CHECK(gives(7, ONE, TWO, minus_one, THREE, minus_two, six));
     CHECK(gives(3, ONE, TWO, minus_one, THREE, 0xC0400004, 0x40C00002));
@@ -69,7 +67,6 @@ void check_products(void)
     CHECK(gives(4, NEGATIVE, 0, NEGATIVE, NEGATIVE, 0, 0));
     CHECK(gives(1, NEGATIVE | MAX, NEGATIVE | MAX, ONE, ONE, NEGATIVE | MAX, NEGATIVE | MAX));
 
-    static const uint32_t methods[4] = {1, 3, 4, 7};
     for (int i = 0; i < 4; i++) {
         reset();
         CHECK(is(multiply(methods[i], 32, 32, 32), 0, 0, 0, 0));
@@ -92,8 +89,7 @@ static void check_frame(void)
     CHECK(is(multiply(5, 0, 1, 1), 9, 0, 0, 0) && is(multiply(0, 1, 1, 1), 9, 0, 0, 0));
     CHECK(is(multiply(4, 0, 1, 0), 1, 1, 0, 0) && is(multiply(4, 1, 33, 1), 1, 1, 0, 0));
     CHECK(is(multiply(4, 1, 1, 0), 1, 2, 0, 0) && is(multiply(1, 1, 1, 33), 1, 2, 0, 0));
-    CHECK(is(oracle_check_sizes(2, 3, 2, 3), 1, 2, 0, 0));
-    CHECK(is(oracle_check_sizes(2, 3, 3, 2), 0, 0, 0, 0));
+    CHECK(is(oracle_check_sizes(2, 3, 2, 3), 1, 2, 0, 0) && is(oracle_check_sizes(2, 3, 3, 2), 0, 0, 0, 0));
     lengths[0] = ROOM;
     for (int i = 9; i >= 0; i--) {          /* this one and all after it short */
         lengths[i] = 8;
@@ -123,7 +119,6 @@ static void check_cells(void)
 /* The first refused entry by rows; results 0, work converted. */
 static void check_overflow(void)
 {
-    static const uint32_t methods[4] = {1, 3, 4, 7};
     for (int i = 0; i < 4; i++) {
         reset();                    /* A and B have 1 and MAX on the diagonal */
         a_lo[1] = a_hi[1] = a_lo[2] = a_hi[2] = NEGATIVE;
@@ -133,8 +128,7 @@ static void check_overflow(void)
         CHECK(all_are(c_lo, 4, 0) && all_are(c_hi, 4, 0) && result_untouched(4));
         CHECK(work_untouched(methods[i] == 1 ? 0 : 4));
         if (methods[i] != 1)
-            CHECK(m_a[0] == ONE && all_are(m_a + 1, 2, 0) && m_a[3] == MAX
-                  && m_b[3] == MAX && all_are(r_a, 4, 0) && all_are(r_b, 4, 0));
+            CHECK(m_a[0] == ONE && all_are(m_a + 1, 2, 0) && m_a[3] == MAX && m_b[3] == MAX && all_are(r_a, 4, 0) && all_are(r_b, 4, 0));
     }
     reset();    /* |mB| + rB overflows at B(1,1) though rA is 0: entry (0,1) */
     fill(a_lo, 4, 0x3F000000);
@@ -142,8 +136,8 @@ static void check_overflow(void)
     b_lo[3] = 0x7E800000;
     b_hi[3] = MAX;
     CHECK(is(multiply(1, 2, 2, 2), 0, 0, 0, 0));
-    CHECK(is(multiply(3, 2, 2, 2), 5, 3, 0, 1) && is(multiply(4, 2, 2, 2), 5, 3, 0, 1));
-    CHECK(is(multiply(7, 2, 2, 2), 5, 3, 0, 1));
+    for (int i = 1; i < 4; i++)
+        CHECK(is(multiply(methods[i], 2, 2, 2), 5, 3, 0, 1));
     CHECK(gives(4, ONE, ONE, MAX, MAX, MAX, MAX) && gives(7, ONE, ONE, MAX, MAX, MAX, MAX));
     CHECK(gives(1, MAX, MAX, NEGATIVE | ONE, ONE, NEGATIVE | MAX, MAX));
 }

@@ -7,33 +7,6 @@ static uint8_t s[16416];
 static uint32_t lo[1025], hi[1025];
 static size_t rows, columns;
 
-void put_head(uint8_t *sheet, unsigned first, unsigned height, unsigned width, unsigned records)
-{
-    memset(sheet, 0, 16);
-    sheet[0] = (uint8_t)first;
-    sheet[1] = (uint8_t)(first >> 8);
-    sheet[2] = (uint8_t)height;
-    sheet[3] = (uint8_t)width;
-    sheet[4] = (uint8_t)records;
-    sheet[5] = (uint8_t)(records >> 8);
-}
-
-void put_cell(uint8_t *sheet, unsigned index, unsigned next, unsigned row, unsigned column,
-              uint32_t lower, uint32_t upper, unsigned wear_class)
-{
-    uint8_t *record = sheet + 16 * index;
-    memset(record, 0, 16);
-    record[0] = (uint8_t)next;
-    record[1] = (uint8_t)(next >> 8);
-    record[2] = (uint8_t)row;
-    record[3] = (uint8_t)column;
-    for (int i = 0; i < 4; i++) {
-        record[4 + i] = (uint8_t)(lower >> 8 * i);
-        record[8 + i] = (uint8_t)(upper >> 8 * i);
-    }
-    record[12] = (uint8_t)wear_class;
-}
-
 static struct refusal read_sheet(size_t len)
 {
     fill(lo, 1025, UNTOUCHED);
@@ -53,9 +26,9 @@ static bool refuses(size_t len, uint32_t number, uint32_t row, uint32_t column)
 static void put_good_sheet(void)
 {
     put_head(s, 3, 2, 3, 4);
-    put_cell(s, 3, 1, 0, 1, ONE, TWO, 0);
-    put_cell(s, 1, 2, 1, 0, NEGATIVE, NEGATIVE, 0);
-    put_cell(s, 2, 0, 1, 2, ONE, ONE, 7);
+    put_cell(s + 3 * RECORD_BYTES, 1, 0, 1, ONE, TWO, 0);
+    put_cell(s + RECORD_BYTES, 2, 1, 0, NEGATIVE, NEGATIVE, 0);
+    put_cell(s + 2 * RECORD_BYTES, 0, 1, 2, ONE, ONE, 7);
 }
 
 void check_reading(void)
@@ -66,7 +39,7 @@ void check_reading(void)
     CHECK(lo[5] == 0x3F700000 && hi[5] == 0x3F880000);          /* 1 -+ 1/16 */
     CHECK(lo[0] == 0 && hi[0] == 0 && lo[6] == UNTOUCHED && hi[6] == UNTOUCHED);
     for (unsigned c = 1; c <= 7; c++) {
-        put_cell(s, 2, 0, 1, 2, 0, 0, c);
+        put_cell(s + 2 * RECORD_BYTES, 0, 1, 2, 0, 0, c);
         uint32_t amount = (127 + c - 11) << 23;
         CHECK(is(read_sheet(64), 0, 0, 0, 0) && lo[5] == (NEGATIVE | amount) && hi[5] == amount);
     }
@@ -76,7 +49,7 @@ void check_reading(void)
     memset(s + 16, 0xFF, 16);                       /* outside the chain */
     CHECK(is(read_sheet(32), 0, 0, 0, 0) && lo[0] == 0 && hi[0] == 0);
     put_head(s, 1, 1, 1, 2);
-    put_cell(s, 1, 0, 0, 0, NEGATIVE | (MAX - 1), MAX - 1, 1);
+    put_cell(s + RECORD_BYTES, 0, 0, 0, NEGATIVE | (MAX - 1), MAX - 1, 1);
     CHECK(is(read_sheet(32), 0, 0, 0, 0) && lo[0] == (NEGATIVE | MAX) && hi[0] == MAX);
 }
 
@@ -103,13 +76,13 @@ void check_read_refusals(void)
 {
     check_head_refusals();
     put_good_sheet();
-    put_cell(s, 2, 4, 1, 2, MAX, MAX, 1);
+    put_cell(s + 2 * RECORD_BYTES, 4, 1, 2, MAX, MAX, 1);
     CHECK(refuses(64, 5, 1, 2));
-    put_cell(s, 2, 4, 1, 2, TWO, ONE, 1);
+    put_cell(s + 2 * RECORD_BYTES, 4, 1, 2, TWO, ONE, 1);
     CHECK(refuses(64, 4, 1, 2));
-    put_cell(s, 2, 4, 1, 2, TWO, NAN_PATTERN, 7);
+    put_cell(s + 2 * RECORD_BYTES, 4, 1, 2, TWO, NAN_PATTERN, 7);
     CHECK(refuses(64, 3, 1, 2));
-    put_cell(s, 2, 4, 1, 2, TWO, NAN_PATTERN, 8);
+    put_cell(s + 2 * RECORD_BYTES, 4, 1, 2, TWO, NAN_PATTERN, 8);
     CHECK(refuses(64, 10, 1, 2));
     s[16 * 2 + 13] = 1;
     CHECK(refuses(64, 6, 0, 0));
@@ -118,11 +91,11 @@ void check_read_refusals(void)
     s[16 * 2 + 3] = 3;                              /* (0,3) */
     CHECK(refuses(64, 7, 0, 0));
     put_good_sheet();
-    put_cell(s, 2, 4, 1, 2, ONE, ONE, 0);           /* index past the count */
+    put_cell(s + 2 * RECORD_BYTES, 4, 1, 2, ONE, ONE, 0);           /* index past the count */
     CHECK(refuses(64, 7, 0, 0));
-    put_cell(s, 2, 2, 1, 2, ONE, ONE, 0);           /* a loop */
+    put_cell(s + 2 * RECORD_BYTES, 2, 1, 2, ONE, ONE, 0);           /* a loop */
     CHECK(refuses(64, 8, 0, 0));
-    put_cell(s, 2, 0, 1, 0, ONE, ONE, 0);           /* an equal place */
+    put_cell(s + 2 * RECORD_BYTES, 0, 1, 0, ONE, ONE, 0);           /* an equal place */
     CHECK(refuses(64, 8, 0, 0));
 }
 
@@ -154,9 +127,9 @@ void check_writing(void)
     memset(out, SPARE, sizeof out);
     CHECK(is(oracle_write(2, 2, lower, 5, upper, 5, out, sizeof out, &written), 0, 0, 0, 0));
     put_head(expected, 1, 2, 2, 4);
-    put_cell(expected, 1, 2, 0, 1, NEGATIVE | ONE, 0, 0);
-    put_cell(expected, 2, 3, 1, 0, 0, TWO, 0);
-    put_cell(expected, 3, 0, 1, 1, 1, 1, 0);
+    put_cell(expected + RECORD_BYTES, 2, 0, 1, NEGATIVE | ONE, 0, 0);
+    put_cell(expected + 2 * RECORD_BYTES, 3, 1, 0, 0, TWO, 0);
+    put_cell(expected + 3 * RECORD_BYTES, 0, 1, 1, 1, 1, 0);
     CHECK(written == 64 && memcmp(out, expected, 64) == 0 && out[64] == SPARE);
     memcpy(s, out, 64);
     CHECK(is(read_sheet(64), 0, 0, 0, 0) && lo[1] == (NEGATIVE | ONE) && hi[1] == 0);

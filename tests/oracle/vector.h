@@ -10,6 +10,8 @@
 
 #define OPERATION_LETTERS "+-xm"
 #define DIRECTION_LETTERS "dun"
+#define VECTOR_LENGTH 30    /* line feed included */
+#define RESULT_AT 21        /* where the result starts */
 
 /* Works the operation out and prints its line to standard output. */
 void print_vector(enum operation operation, enum direction direction,

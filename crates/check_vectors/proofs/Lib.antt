@@ -1,3 +1,0 @@
-pub mod Digits
-pub mod Lines
-pub mod Counting

@@ -1,0 +1,106 @@
+/* Driver, not proved: the library's twelve operations beside test vectors from
+   standard input, lines of the form that vector.h describes.
+
+     operations [LEAST]
+
+   Prints the first vector that differs, if one does, with the library's answer, and
+   as the last line how many vectors there were, how many differ, and which refusals
+   were met. A line of another form differs, and so does one that is cut off. Status
+   1 if one differs, or if a refusal was met by an operation fewer than LEAST times. */
+#include <inttypes.h>
+#include <stdio.h>
+#include <stdlib.h>
+#include <string.h>
+
+#include "coupling.h"
+#include "run.h"
+#include "vector.h"
+
+typedef uint32_t operation_call(uint32_t a, uint32_t b);
+
+/* In the order of OPERATION_LETTERS and DIRECTION_LETTERS. */
+static operation_call *const calls[4][3] = {
+    {coupling_add_down, coupling_add_up, coupling_add_near},
+    {coupling_sub_down, coupling_sub_up, coupling_sub_near},
+    {coupling_mul_down, coupling_mul_up, coupling_mul_near},
+    {coupling_midpoint_down, coupling_midpoint_up, coupling_midpoint_near},
+};
+
+static const char *const columns[] = {
+    "add_down", "add_up", "add_near", "sub_down", "sub_up", "sub_near",
+    "mul_down", "mul_up", "mul_near", "midpoint_down", "midpoint_up", "midpoint_near", NULL,
+};
+
+/* A midpoint always has a number. */
+static struct outcome outcomes[] = {
+    {.number = 0, .met_by = 0xFFF}, {.number = 3, .met_by = 0xFFF}, {.number = 5, .met_by = 0x1FF},
+};
+
+static struct table table = {.columns = columns, .by = "operation", .outcomes = outcomes, .count = 3};
+
+/* What a line asks; false if it has another form. */
+static bool parse(const char *line, int *operation, int *direction, uint32_t *a, uint32_t *b)
+{
+    static const char capitals[] = "0123456789ABCDEF";
+    if (strlen(line) != VECTOR_LENGTH || line[VECTOR_LENGTH - 1] != '\n' || line[2] != ' ' || line[11] != ' ' || line[20] != ' ')
+        return false;
+    const char *x = strchr(OPERATION_LETTERS, line[0]), *y = strchr(DIRECTION_LETTERS, line[1]);
+    if (x == NULL || y == NULL || strspn(line + 3, capitals) != 8 || strspn(line + 12, capitals) != 8)
+        return false;
+    *operation = (int)(x - OPERATION_LETTERS);
+    *direction = (int)(y - DIRECTION_LETTERS);
+    *a = (uint32_t)strtoul(line + 3, NULL, 16);
+    *b = (uint32_t)strtoul(line + 12, NULL, 16);
+    return true;
+}
+
+/* The end of the line by the library's answer. */
+static void result_text(uint32_t answer, char *text)
+{
+    if (answer == COUPLING_INFINITY + COUPLING_NOT_FINITE || answer == COUPLING_INFINITY + COUPLING_OVERFLOW)
+        sprintf(text, "refuse %" PRIu32 "\n", COUPLING_OPERATION_NUMBER(answer));
+    else
+        sprintf(text, "%08" PRIX32 "\n", answer);
+}
+
+/* Whether the line has the library's answer, to the byte. */
+static bool holds(const char *line)
+{
+    int operation, direction;
+    uint32_t a, b;
+    char text[16];
+    if (!parse(line, &operation, &direction, &a, &b)) {
+        if (all_the_same())
+            printf("vector %.*s is malformed\n", (int)strcspn(line, "\n"), line);
+        return false;
+    }
+    uint32_t answer = calls[operation][direction](a, b);
+    uint32_t number = COUPLING_OPERATION_REFUSED(answer) ? COUPLING_OPERATION_NUMBER(answer) : 0;
+    count_outcome(&table, 3 * operation + direction, 1000000 * number);
+    result_text(answer, text);
+    bool same = strcmp(line + RESULT_AT, text) == 0;
+    if (!same && all_the_same())
+        printf("vector %.*s library %s", VECTOR_LENGTH - 1, line, text);
+    return same;
+}
+
+/* A line with its line feed. Of one that is too long the rest is passed over, and
+   the line has none. */
+static bool next_line(char *line, int room)
+{
+    if (fgets(line, room, stdin) == NULL)
+        return false;
+    if (strchr(line, '\n') == NULL)
+        for (int c = getchar(); c != '\n' && c != EOF;)
+            c = getchar();
+    return true;
+}
+
+int main(int argc, char **argv)
+{
+    char line[2 * VECTOR_LENGTH];
+    table.least = argc > 1 ? number_of(argv[1]) : 0;
+    for (uint64_t index = 0; next_line(line, sizeof line); index++)
+        end_call(index, holds(line));
+    return end_run("vectors", &table);
+}

@@ -1,0 +1,113 @@
+/* Drivers, not proved: a table of what the calls of a run met. */
+#include "outcomes.h"
+
+#include <stdio.h>
+
+const char *const method_columns[] = {"method 1", "method 3", "method 4", "method 7", "other", NULL};
+
+int method_column(uint32_t method)
+{
+    static const uint32_t known[] = {1, 3, 4, 7};
+    int column = 0;
+    while (column < 4 && known[column] != method)
+        column++;
+    return column;
+}
+
+void count_outcome(struct table *table, int column, uint32_t code)
+{
+    uint32_t row = code / 100 % 100, at = code % 100;
+    for (size_t i = 0; i < table->count; i++) {
+        struct outcome *o = &table->outcomes[i];
+        bool fits = code / 10000 == 100 * o->number + o->matrix && (o->met_by >> column & 1) != 0;
+        if (fits && row < (o->placed ? PLACES : 1) && at < (o->placed ? PLACES : 1)) {
+            o->calls[column]++;
+            o->at[row][at] = true;
+            return;
+        }
+    }
+    table->strange++;
+}
+
+static int places_of(const struct outcome *o)
+{
+    int places = 0;
+    for (int row = 0; row < PLACES; row++)
+        for (int column = 0; column < PLACES; column++)
+            places += o->at[row][column];
+    return places;
+}
+
+/* Of the columns that can meet it, the calls of the one with the fewest. */
+static unsigned long fewest_calls(const struct outcome *o)
+{
+    unsigned long fewest = (unsigned long)-1;
+    for (int column = 0; column < COLUMNS; column++)
+        if ((o->met_by >> column & 1) != 0 && o->calls[column] < fewest)
+            fewest = o->calls[column];
+    return fewest;
+}
+
+static void print_outcome(const struct table *table, const struct outcome *o)
+{
+    if (o->number == 0)
+        printf("   none      -");
+    else
+        printf("%7u %6u", o->number, o->matrix);
+    for (int column = 0; table->columns[column] != NULL; column++)
+        if ((o->met_by >> column & 1) != 0)
+            printf(" %13lu", o->calls[column]);
+        else
+            printf(" %13s", "-");
+    if (o->placed)
+        printf(" %7d\n", places_of(o));
+    else
+        printf(" %7s\n", "-");
+}
+
+void print_table(const struct table *table)
+{
+    printf("refusal matrix");
+    for (int column = 0; table->columns[column] != NULL; column++)
+        printf(" %13s", table->columns[column]);
+    printf("  places\n");
+    for (size_t i = 0; i < table->count; i++)
+        print_outcome(table, &table->outcomes[i]);
+}
+
+bool met_enough(const struct table *table)
+{
+    bool enough = table->strange == 0;
+    if (table->strange != 0)
+        printf("%lu calls have an outcome that the table has not\n", table->strange);
+    for (size_t i = 0; i < table->count; i++) {
+        const struct outcome *o = &table->outcomes[i];
+        if (fewest_calls(o) >= table->least && (!o->placed || places_of(o) >= table->least_places))
+            continue;
+        printf("met too seldom, or at too few places:\n");
+        print_outcome(table, o);
+        enough = false;
+    }
+    return enough;
+}
+
+void print_summary(const struct table *table)
+{
+    unsigned long calls = (unsigned long)-1;
+    int refusals = 0, places = PLACES * PLACES;
+    for (size_t i = 0; i < table->count; i++) {
+        const struct outcome *o = &table->outcomes[i];
+        if (o->number == 0)
+            continue;
+        refusals++;
+        if (fewest_calls(o) < calls)
+            calls = fewest_calls(o);
+        if (o->placed && places_of(o) < places)
+            places = places_of(o);
+    }
+    printf("; %d refusals, each met %lu times or more", refusals, calls);
+    if (table->by != NULL)
+        printf(" by each %s", table->by);
+    if (places < PLACES * PLACES)
+        printf(", those of a cell at %d places or more", places);
+}

@@ -1,9 +1,0 @@
-/* Comparison of products, not proved: products with a known result. */
-#ifndef NAMED_H
-#define NAMED_H
-
-/* Asks the library and the independent implementation; returns how many gave
-   another result than the known one, and says which, or how many gave it. */
-int check_named(void);
-
-#endif

@@ -1,0 +1,61 @@
+#!/usr/bin/env python3
+"""Stored inputs of the program print_product: writes them to FOLDER/NAME.in.
+
+    printed.py FOLDER
+"""
+import pathlib
+import sys
+
+from sheets import FULL, GOOD, INFINITY, MAX, NEGATIVE, ONE, TWO, cell, head, patched
+
+# 1 by 1: [1, 2] and [-1, 3]
+A = head(1, 1, 1, 2) + cell(0, 0, 0, ONE, TWO)
+B = head(1, 1, 1, 2) + cell(0, 0, 0, ONE | NEGATIVE, 0x40400000)
+# 1 by 1, [0, 0], in 16,400 bytes: 1,024 records outside the chain
+LONG = head(0, 1, 1, 1025) + bytes(16384)
+# 3 by 2: wide, worn and point cells, one of them negative; its second row has no cell
+THREE = head(1, 3, 2, 4) + cell(2, 0, 0, ONE, TWO) + cell(3, 0, 1, TWO | NEGATIVE, ONE, 7) + cell(0, 2, 0, 0x3DCCCCCD, 0x3DCCCCCD)
+
+
+def one(**changes):
+    """B, its cell changed."""
+    fields = dict(link=0, row=0, column=0, lower=ONE, upper=TWO)
+    fields.update(changes)
+    return head(1, 1, 1, 2) + cell(**fields)
+
+
+CASES = {
+    "example": b"4" + A + B,
+    "method-1": b"1" + THREE + GOOD, "method-3": b"3" + THREE + GOOD, "method-4": b"4" + THREE + GOOD, "method-7": b"7" + THREE + GOOD,
+    "zeros": b"1" + head(0, 2, 3, 1) + head(0, 3, 1, 1), "outside-the-chain": b"1" + head(0, 1, 1, 2) + b"\xFF" * 16 + B,
+    "size-32": b"7" + FULL + FULL, "column-by-row": b"3" + head(0, 32, 1, 1) + head(0, 1, 32, 1),
+    # 9: the digit
+    "nothing": b"", "method-0": b"0" + A + B, "method-2": b"2" + A + B, "method-5": b"5" + A + B, "method-9": b"9" + A + B,
+    "no-digit": A + B, "line-feed": b"\n4" + A + B, "letter": b"a" + A + B, "byte-255": b"\xFF" + A + B, "9-before-6": b"8",
+    # where A ends
+    "digit-alone": b"4", "one-byte": b"4\0", "five-bytes": b"4" + A[:5], "six-bytes": b"4" + A[:6], "head-alone": b"4" + A[:16], "A-cut-short": b"4" + A[:-1],
+    "count-0": b"4" + patched(A, 4, [0]) + B, "count-too-low": b"4" + patched(A, 4, [1]) + B, "count-too-high": b"4" + patched(A, 4, [3]) + B,
+    "count-past-the-end": b"4" + patched(A, 4, [255, 255]) + B,
+    # where B begins and ends
+    "no-B": b"4" + A, "B-one-byte": b"4" + A + B[:1], "B-cut-short": b"4" + A + B[:-1], "B-longer": b"4" + A + B + b"\0", "line-feed-behind-B": b"4" + A + B + b"\n",
+    "A-before-B": b"4" + one(lower=TWO, upper=ONE),
+    # the longest sheets, and longer ones
+    "B-of-16400": b"1" + LONG + LONG, "B-of-16401": b"1" + LONG + LONG + b"\0", "B-of-16402": b"1" + LONG + LONG + b"\0\0",
+    "A-of-16416": b"1" + patched(LONG, 4, [2, 4]) + bytes(16) + LONG, "B-of-16416": b"1" + LONG + patched(LONG, 4, [2, 4]) + bytes(16),
+    # 1 and 3 to 10
+    "rows-0": b"1" + patched(A, 2, [0]) + B, "columns-33": b"1" + A + patched(B, 3, [33]), "mismatch": b"1" + GOOD + A,
+    "not-finite-in-A": b"1" + one(upper=INFINITY) + B, "not-finite-in-B": b"3" + A + one(lower=INFINITY | NEGATIVE),
+    "crossed-in-A": b"4" + one(lower=TWO, upper=ONE) + B, "crossed-in-B": b"7" + A + one(lower=TWO, upper=ONE),
+    "overflow-in-A": b"1" + one(upper=MAX, wear=1) + B, "overflow-in-B": b"1" + A + one(lower=MAX | NEGATIVE, wear=7),
+    "overflow-1": b"1" + one(lower=MAX, upper=MAX) + one(lower=TWO, upper=TWO), "overflow-3": b"3" + THREE + head(1, 2, 12, 2) + cell(0, 0, 10, MAX, MAX),
+    "overflow-4": b"4" + THREE + head(1, 2, 12, 2) + cell(0, 1, 11, MAX, MAX), "overflow-7": b"7" + one(lower=MAX, upper=MAX) + one(lower=TWO, upper=TWO),
+    "overflow-in-row-2": b"4" + THREE[:48] + cell(0, 2, 0, MAX, MAX) + head(1, 2, 1, 2) + cell(0, 0, 0, TWO, TWO),
+    "layout-in-A": b"1" + patched(A, 6, [1]) + B, "layout-in-B": b"1" + A + one(spare=b"\1\0\0"),
+    "index-in-A": b"1" + patched(A, 0, [2]) + B, "index-in-B": b"1" + A + one(row=1), "unordered-in-A": b"1" + one(link=1) + B, "unordered-in-B": b"1" + A + one(link=1),
+    "class-in-A": b"1" + one(wear=8) + B, "class-in-B": b"1" + A + one(wear=255), "class-at-1-2": b"1" + patched(GOOD, 44, [8]) + B,
+}
+
+if __name__ == "__main__":
+    folder = pathlib.Path(sys.argv[1])
+    for name, data in CASES.items():
+        (folder / (name + ".in")).write_bytes(data)
