@@ -17,7 +17,7 @@ run: $(samples) ## multiply the two sample sheets by method 1 and print the prod
 	@cat target/samples/product
 	@tools/sheet table <target/samples/product
 
-target/samples/%.sheet: samples/%.txt tools/sheet tools/binary32.py tools/sheet_bytes.py tools/sheet_text.py
+target/samples/%.sheet: samples/%.txt $(wildcard tools/*)
 	@mkdir -p $(@D)
 	@tools/sheet pack $< >$@
 
