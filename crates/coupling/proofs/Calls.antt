@@ -2,7 +2,6 @@
 use mathlib.Core.Path.{_≡_, ap, subst, _∙_}
 use mathlib.Core.List.{List}
 use Prim.Native.Nat.{ℕ, _≤_}
-use native.Mathlib.Omega.{arith}
 use Rattle.refusals.specs.declared.Refusal.{Refusal}
 use Rattle.refusals.specs.Refusal.{codeOf}
 use Rattle.refusals.specs.Answer.{Answer, gives, refuses, coded}
@@ -12,7 +11,6 @@ use Rattle.sheets.specs.Reading.{readOf, sliceAfter}
 use Rattle.sheets.specs.Writing.{writeOf, outAfter}
 use Rattle.sheets.specs.Trip.{TripOf}
 use Rattle.sheets.proofs.Answers.{done-tells}
-use Rattle.sheets.proofs.Rooms.{bytes-tell}
 use Rattle.matrices.specs.Checks.{Given}
 use Rattle.matrices.specs.Product.{Left}
 use Rattle.matrices.specs.Demand.{Keeps}
@@ -29,14 +27,9 @@ out-is rows columns lo up d d′ o x e f = f ∙ ap (λ y. outAfter rows columns
 pub trip-is : (rows columns : ℕ) (lo up d : List ℕ) (o x : Answer ℕ) → o ≡ x → TripOf rows columns lo up o d → TripOf rows columns lo up x d
 trip-is rows columns lo up d o x e t = subst (λ y. TripOf rows columns lo up y d) e t
 
--- sizes and lengths are small
+-- sizes are small
 pub sizes-small : (s : List ℕ) (l u r c : ℕ) → readOf s l u ≡ gives (r, c) → Fitting r c l u
 sizes-small s l u r c e = done-tells s l u r c e .sized
-
-pub length-small : (rows columns : ℕ) (lo up : List ℕ) (room n : ℕ) → writeOf rows columns lo up room ≡ gives n → n ≤ 16400
-length-small rows columns lo up room n e =
-    let g = bytes-tell rows columns lo up room n e in
-    omega (arith, g .bytes, g .few, g .counted)
 
 -- a product's answer as one number
 pub answered : {g : Given} {ma ra mb rb lo up : List ℕ} {o : Answer (Unit {0})} {r : ℕ} {ma′ ra′ mb′ rb′ lo′ up′ : List ℕ} → Left g ma ra mb rb lo up o ma′ ra′ mb′ rb′ lo′ up′

@@ -2,7 +2,6 @@
 use mathlib.Core.Path.{_≡_, refl, sym, ap, _∙_}
 use mathlib.Core.List.{List}
 use Prim.Native.Nat.{ℕ, _≤_}
-use native.Mathlib.Omega.{arith}
 use Rattle.refusals.specs.declared.Refusal.{Refusal}
 use Rattle.refusals.specs.Refusal.{named}
 use Rattle.refusals.specs.Answer.{Answer, gives, refuses, done, naming}
@@ -14,7 +13,7 @@ use Rattle.sheets.specs.declared.Written.the-variants as W
 use Rattle.sheets.specs.Layout.{rowsOf, columnsOf}
 use Rattle.sheets.specs.Reading.{shape}
 use Rattle.sheets.specs.Writing.{written, writeOf, outAfter}
-use Rattle.sheets.proofs.Rooms.{bytes-tell}
+use Rattle.sheets.proofs.Rooms.{length-small}
 use Rattle.matrices.specs.Product.{productOf}
 use Rattle.matrices.specs.Demand.{Keeps}
 use Rattle.job.specs.Job.{array, operands, sheetsRead, sheetsProductOf, Sheets, resultLowers, resultUppers, jobOf, outOf}
@@ -87,5 +86,4 @@ pub job-small : (method : ℕ) (a b : List ℕ) (room n : ℕ) → gives n ≡ j
 unfolding jobOf
 job-small method a b room n e =
     let t = then-tells (sheetsProductOf method a b 1024 1024) (last method a b room) n (sym e) in
-    let g = bytes-tell (rowsOf a) (columnsOf b) (resultLowers method a b) (resultUppers method a b) room n (naming-tells 3 _ n (t .1)) in
-    omega (arith, g .bytes, g .few, g .counted)
+    length-small (rowsOf a) (columnsOf b) (resultLowers method a b) (resultUppers method a b) room n (naming-tells 3 _ n (t .1))

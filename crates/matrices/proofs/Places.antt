@@ -1,7 +1,6 @@
 -- Rows and columns as places: a row and a column below the sizes make a place below their product, and a place has them back.
 use mathlib.Core.Path.{_≡_, ap₂}
 use Prim.Native.Nat.{ℕ, _+_, _*_, _/_, _%_, _≤_, _<_}
-use native.Mathlib.Nat.{mul-le-mul}
 use lib.Arith.{digits-div, digits-mod, digits-lt}
 use Rattle.enclosure.specs.Methods.{Method}
 use Rattle.matrices.specs.Matrix.{Matrix}
@@ -9,9 +8,6 @@ use Rattle.matrices.specs.Entries.{entryOf, entryAt}
 
 pub below : (i m j n : ℕ) → i < m → j < n → i * n + j < m * n
 below i m j n h k = digits-lt h k
-
-pub small : (i j : ℕ) → i ≤ 32 → j ≤ 32 → i * j ≤ 1024
-small i j h k = mul-le-mul h k
 
 -- ---- the entry at the place of row i and column j
 pub position-row : (i j n c : ℕ) → c ≡ i * n + j → j < n → c / n ≡ i

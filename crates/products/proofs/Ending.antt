@@ -21,7 +21,8 @@ use Rattle.unpacked.specs.Number.{worth, Runs}
 use Rattle.products.specs.Running.{Ended, BothNumbers, refusedSums}
 use Rattle.products.specs.MidRad.{Sized}
 use Rattle.products.specs.Derived.{MidRad}
-use Rattle.matrices.proofs.Places.{below, small}
+use Rattle.refusals.proofs.SizeLaws.{small}
+use Rattle.matrices.proofs.Places.{below}
 use Rattle.products.proofs.Carrying.{holds-runs, holds-none, mirrored-is, negate-none}
 use Rattle.products.proofs.Or.{or-first, or-second, or-cases}
 use Rattle.products.proofs.CentredSteps.{OneNone}

@@ -73,6 +73,12 @@ bytes-tell rows columns lo up room n e =
       roomy = r .1;
     }
 
+-- no sheet is longer than the longest
+pub length-small : (rows columns : ℕ) (lo up : List ℕ) (room n : ℕ) → writeOf rows columns lo up room ≡ gives n → n ≤ 16400
+length-small rows columns lo up room n e =
+    let g = bytes-tell rows columns lo up room n e in
+    omega (arith, g .bytes, g .few, g .counted)
+
 -- where the code answers w
 module _ (rows columns : ℕ) (lo up : List ℕ) (room : ℕ) (w : Written) (e : written w ≡ writeOf rows columns lo up room) where
   pub answered : (v : Written) → w ≡ v → written v ≡ writeOf rows columns lo up room

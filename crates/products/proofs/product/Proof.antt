@@ -10,7 +10,7 @@ use Rattle.matrices.specs.Checks.{Given, given, checkOf}
 use Rattle.products.proofs.Accepted.{inner, sizes, a-convertible, b-convertible, a-converted, b-converted, chosen-by-mid-rad, ready}
 use Rattle.matrices.proofs.Keeping.{left-keeps}
 use Rattle.products.proofs.Leaving.{reached, left-refused, left-classical, left-converted}
-use Rattle.matrices.proofs.Places.{small}
+use Rattle.refusals.proofs.SizeLaws.{small}
 use Rattle.products.proofs.product.Statement.{statement}
 use Rattle.products.proofs.product.Tie as tie
 

@@ -4,7 +4,8 @@ use native.Mathlib.Omega.{arith}
 use Rattle.refusals.specs.Answer.{coded}
 use Rattle.refusals.proofs.Answers.{said}
 use Rattle.sheets.specs.Writing.{written}
-use Rattle.coupling.proofs.Calls.{out-is, trip-is, length-small}
+use Rattle.sheets.proofs.Rooms.{length-small}
+use Rattle.coupling.proofs.Calls.{out-is, trip-is}
 use borrow.Author.Needs.{needs}
 use Rattle.coupling.proofs.cells.coupling_write.Statement.{statement}
 use Rattle.coupling.proofs.cells.coupling_write.Tie as tie

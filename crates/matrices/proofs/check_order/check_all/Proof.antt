@@ -4,7 +4,7 @@ use native.Mathlib.Omega.{arith}
 use Rattle.refusals.specs.Answer.{outcome, then}
 use Rattle.refusals.proofs.Answers.{outcome-done, outcome-refused}
 use Rattle.matrices.specs.Checks.{Given, given, checkShapes, checkSlices}
-use Rattle.matrices.proofs.Places.{small}
+use Rattle.refusals.proofs.SizeLaws.{small}
 use Rattle.matrices.proofs.CheckLaws.{all-1, all-2, all-3}
 use Rattle.matrices.proofs.CheckTells.{Sized, shapes-tell, slices-tell, a-covered, b-covered}
 use borrow.Author.Needs.{needs}

@@ -7,7 +7,7 @@ use borrow.Author.Needs.{needs}
 use Rattle.refusals.specs.Refusal.{ofCell}
 use Rattle.refusals.specs.Answer.{refuses}
 use Rattle.matrices.specs.Matrix.{Matrix}
-use Rattle.matrices.proofs.Places.{small}
+use Rattle.refusals.proofs.SizeLaws.{small}
 use Rattle.matrices.proofs.CheckLaws.{Passed, passed-none, passed-more, cells-here, cells-done}
 use Rattle.matrices.proofs.checks.check_cells.Statement.{statement}
 use Rattle.matrices.proofs.checks.check_cells.Tie as tie

@@ -1,7 +1,7 @@
 -- `products::converted::by_four` meets its contract: the list that is lent holds what the entries' function asks for.
 use borrow.Author.Needs.{needs}
 use Rattle.products.proofs.Derivations.{outers-derived}
-use Rattle.matrices.proofs.Places.{small}
+use Rattle.refusals.proofs.SizeLaws.{small}
 use Rattle.products.proofs.converted.by_four.Statement.{statement}
 use Rattle.products.proofs.converted.by_four.Tie as tie
 

@@ -1,7 +1,7 @@
 -- `products::converted::by_seven` meets its contract: the three lists that are lent hold what the entries' function asks for.
 use borrow.Author.Needs.{needs}
 use Rattle.products.proofs.Derivations.{outers-derived, parts-derived}
-use Rattle.matrices.proofs.Places.{small}
+use Rattle.refusals.proofs.SizeLaws.{small}
 use Rattle.products.proofs.converted.by_seven.Statement.{statement}
 use Rattle.products.proofs.converted.by_seven.Tie as tie
 

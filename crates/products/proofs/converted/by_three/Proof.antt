@@ -1,7 +1,7 @@
 -- `products::converted::by_three` meets its contract: the two lists that are lent hold what the entries' function asks for.
 use borrow.Author.Needs.{needs}
 use Rattle.products.proofs.Derivations.{outers-derived, raiseds-derived}
-use Rattle.matrices.proofs.Places.{small}
+use Rattle.refusals.proofs.SizeLaws.{small}
 use Rattle.products.proofs.converted.by_three.Statement.{statement}
 use Rattle.products.proofs.converted.by_three.Tie as tie
 
