@@ -10,7 +10,7 @@
 #include <string.h>
 
 #include "../tests/oracle/oracle.h"
-#include "../tests/sheets/sheet.h"
+#include "../tests/oracle/records.h"
 #include "coupling.h"
 #include "matrices.h"
 #include "table.h"

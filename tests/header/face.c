@@ -8,7 +8,7 @@
 #include <stdlib.h>
 #include <string.h>
 
-#include "../sheets/sheet.h"
+#include "../oracle/records.h"
 #include "coupling_sentences.h"
 
 void check(int holds, const char *text, const char *file, int line)

@@ -4,7 +4,7 @@
 
 #include <string.h>
 
-#include "../sheets/sheet.h"
+#include "../oracle/records.h"
 
 /* The job with guards around an out of this length: what it writes stays inside
    the length returned, and nothing is written on a refusal. */

@@ -4,7 +4,7 @@
 
 #include <string.h>
 
-#include "../sheets/sheet.h"
+#include "../oracle/records.h"
 
 #define ROOM 12 /* 8 words, between two guards on each side */
 

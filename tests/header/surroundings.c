@@ -7,7 +7,7 @@
 #include <pthread.h>
 #include <string.h>
 
-#include "../sheets/sheet.h"
+#include "../oracle/records.h"
 
 #define CELLS COUPLING_CELLS_MAX
 #define SIZE COUPLING_SIZE_MAX

@@ -91,7 +91,7 @@ def is_refused(data):
 def test_printed():
     """What was printed is read as it stands, and refused wherever it is cut off, as on a full disk. Hands back the short ones."""
     printed, cuts = [], 0
-    for path in sorted(glob.glob(os.path.join(ROOT, "tests", "print_product", "cases", "*.out"))):
+    for path in sorted(glob.glob(os.path.join(ROOT, "tests", "stored", "printed", "*.out"))):
         with open(path, "rb") as file:
             printed.append(file.read())
         assert text_of(read_product(printed[-1])).encode() == printed[-1], path

@@ -1,7 +1,8 @@
 // The numbers of binary32 on 32-bit patterns: each operation takes the exact value of its operands and rounds it once.
 // Minus zero is read as zero, and a zero result is the pattern 0. Whole numbers alone are used, no machine floats.
 ghost use mathlib.Core.Path.{_≡_};
-ghost use Rattle.binary32.specs.Operations.{addDown, addUp, addNear, subDown, subUp, subNear, mulDown, mulUp, mulNear, midpointDown, midpointUp, midpointNear, rounded, checkedOf};
+ghost use Rattle.binary32.specs.Operations.{addDown, addUp, addNear, subDown, subUp, subNear, mulDown, mulUp, mulNear};
+ghost use Rattle.binary32.specs.Operations.{midpointDown, midpointUp, midpointNear, rounded, checkedOf};
 
 mod exact;
 pub mod finite;

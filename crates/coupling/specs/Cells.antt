@@ -2,9 +2,8 @@
 use mathlib.Core.Path.{_≡_}
 use mathlib.Core.List.{List}
 use Prim.Native.Nat.{ℕ, _+_, _*_}
-use lib.ListN.{length}
 use Rattle.refusals.specs.Answer.{coded}
-use Rattle.matrices.specs.Checks.{Given, given}
+use Rattle.matrices.specs.Checks.{Given, called}
 use Rattle.matrices.specs.Product.{productOf, Left}
 use Rattle.matrices.specs.Demand.{Keeps}
 
@@ -21,4 +20,4 @@ pub record Answered (g : Given) (ma ra mb rb lo up : List ℕ) (r : ℕ) (ma′ 
 -- the same of a call's own arguments
 abbrev pub Called : (method ar ac br bc : ℕ) (al au bl bu ma ra mb rb lo up : List ℕ) (r : ℕ) (ma′ ra′ mb′ rb′ lo′ up′ : List ℕ) → Type 0
 Called method ar ac br bc al au bl bu ma ra mb rb lo up =
-    Answered (given method ar ac br bc al au bl bu (length ma) (length ra) (length mb) (length rb) (length lo) (length up)) ma ra mb rb lo up
+    Answered (called method ar ac br bc al au bl bu ma ra mb rb lo up) ma ra mb rb lo up

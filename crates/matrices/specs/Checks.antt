@@ -10,7 +10,7 @@ use Rattle.refusals.specs.Refusal.{ofMatrix, ofCell}
 use Rattle.refusals.specs.Answer.{Answer, refuses, done, unless, then}
 use Rattle.refusals.specs.Sizes.{checkSize, checkLengths}
 use Rattle.matrices.specs.Lists.{first}
-use Rattle.matrices.specs.Matrix.{Matrix, faultAt}
+use Rattle.matrices.specs.Matrix.{Matrix, ofBounds, faultAt}
 
 -- what a product is handed: the method's number, the sizes, the two matrices, and how long the lent slices are
 pub record Given : Type 0 where
@@ -36,8 +36,8 @@ given method ar ac br bc al au bl bu ma ra mb rb lo up =
       a-columns = ac;
       b-rows = br;
       b-columns = bc;
-      A = record { lowers = al; uppers = au };
-      B = record { lowers = bl; uppers = bu };
+      A = ofBounds al au;
+      B = ofBounds bl bu;
       a-mids = ma;
       a-rads = ra;
       b-mids = mb;
@@ -45,6 +45,11 @@ given method ar ac br bc al au bl bu ma ra mb rb lo up =
       lowers = lo;
       uppers = up;
     }
+
+-- the same with the lent slices themselves
+abbrev pub called : (method ar ac br bc : ℕ) (al au bl bu ma ra mb rb lo up : List ℕ) → Given
+called method ar ac br bc al au bl bu ma ra mb rb lo up =
+    given method ar ac br bc al au bl bu (length ma) (length ra) (length mb) (length rb) (length lo) (length up)
 
 -- ---- 9: the method is 1, 3, 4 or 7
 unfoldable pub methodOf : ℕ → Option Method

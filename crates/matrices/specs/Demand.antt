@@ -9,7 +9,7 @@ use Rattle.enclosure.specs.Methods.{Range}
 use Rattle.refusals.specs.Answer.{done}
 use Rattle.binary32.specs.Number.{valueOf}
 use Rattle.matrices.specs.Matrix.{cellAt}
-use Rattle.matrices.specs.Checks.{Given, chosen}
+use Rattle.matrices.specs.Checks.{Given, called, chosen}
 use Rattle.matrices.specs.Product.{productOf}
 
 -- A's row i and B's column j, as handed in
@@ -26,3 +26,7 @@ rangeAt g lo up i j = record { lower = valueOf (getD lo (i * g .b-columns + j) 0
 -- of a product that is not refused
 unfoldable pub Keeps : Given → (lo up : List ℕ) → Type 0
 Keeps g lo up = productOf g ≡ done → (i j : ℕ) → i < g .a-rows → j < g .b-columns → Kept (chosen (g .method)) (g .a-columns) (rowOf g i) (columnOf g j) (rangeAt g lo up i j)
+
+-- the same of the arguments of a call
+abbrev pub KeepsCalled : (method ar ac br bc : ℕ) (al au bl bu ma ra mb rb lo up lo′ up′ : List ℕ) → Type 0
+KeepsCalled method ar ac br bc al au bl bu ma ra mb rb lo up = Keeps (called method ar ac br bc al au bl bu ma ra mb rb lo up)

@@ -14,6 +14,9 @@ pub record Matrix : Type 0 where
   pub lowers : List ℕ
   pub uppers : List ℕ
 
+abbrev pub ofBounds : List ℕ → List ℕ → Matrix
+ofBounds lowers uppers = record { lowers = lowers; uppers = uppers }
+
 module _ (X : Matrix) where
   abbrev pub lowerAt : ℕ → ℕ
   lowerAt c = getD (X .lowers) c 0

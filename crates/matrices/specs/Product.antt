@@ -12,7 +12,7 @@ use Rattle.intervals.specs.Slices.{zeros}
 use Rattle.matrices.specs.Lists.{front}
 use Rattle.matrices.specs.Matrix.{midAt, radAt}
 use Rattle.matrices.specs.Entries.{entryAt, stopOf, lowerOf, upperOf}
-use Rattle.matrices.specs.Checks.{Given, chosen, checkOf}
+use Rattle.matrices.specs.Checks.{Given, called, chosen, checkOf}
 
 -- the entries by place
 abbrev pub entries : Given → ℕ → Option Range
@@ -48,3 +48,7 @@ pub record Left (g : Given) (ma ra mb rb lo up : List ℕ) (r : Answer (Unit {0}
   pub b-rads : rb′ ≡ workAfter g (g .b-rows * g .b-columns) (radAt (g .B)) rb
   pub lowers : lo′ ≡ resultAfter g lowerOf lo
   pub uppers : up′ ≡ resultAfter g upperOf up
+
+-- the same of the arguments of a call
+abbrev pub Leaves : (method ar ac br bc : ℕ) (al au bl bu ma ra mb rb lo up : List ℕ) (r : Answer (Unit {0})) (ma′ ra′ mb′ rb′ lo′ up′ : List ℕ) → Type 0
+Leaves method ar ac br bc al au bl bu ma ra mb rb lo up = Left (called method ar ac br bc al au bl bu ma ra mb rb lo up) ma ra mb rb lo up

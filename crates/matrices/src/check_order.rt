@@ -1,7 +1,7 @@
 // All that a product checks before it works anything out, in 01's order: 9, 1, 2, A's cells by rows, then B's.
 ghost use mathlib.Core.Path.{_≡_};
 ghost use Rattle.refusals.specs.Answer.{outcome};
-ghost use Rattle.matrices.specs.Matrix.{Matrix};
+ghost use Rattle.matrices.specs.Matrix.{ofBounds};
 ghost use Rattle.matrices.specs.Checks.{Covered, given, checkOperands, checkLent, checkBoth, checkOf};
 use crate::checks::check_cells;
 use crate::checks::check_sizes;
@@ -11,7 +11,7 @@ use refusals::sizes::check_lengths;
 
 // 2: A's slices, then B's.
 fn check_operands(a: usize, b: usize, al: &[u32], au: &[u32], bl: &[u32], bu: &[u32]) -> Outcome
-    ensures { λ r. ⌜ outcome r ≡ checkOperands a b (record { lowers = now (al .entry); uppers = now (au .entry) }) (record { lowers = now (bl .entry); uppers = now (bu .entry) }) ⌝ }
+    ensures { λ r. ⌜ outcome r ≡ checkOperands a b (ofBounds (now (al .entry)) (now (au .entry))) (ofBounds (now (bl .entry)) (now (bu .entry))) ⌝ }
 {
     let second = check_lengths(2, b, bl.len(), bu.len());
     check_lengths(1, a, al.len(), au.len()).then(second)
@@ -48,7 +48,8 @@ fn check_both(
     bu: &[u32],
 ) -> Outcome
     requires { ⌜ Covered «a_rows» «a_columns» (now al) (now au) × Covered «b_rows» «b_columns» (now bl) (now bu) ⌝ }
-    ensures { λ r. ⌜ outcome r ≡ checkBoth «a_rows» «a_columns» «b_rows» «b_columns» (record { lowers = now (al .entry); uppers = now (au .entry) }) (record { lowers = now (bl .entry); uppers = now (bu .entry) }) ⌝ }
+    ensures { λ r. ⌜ outcome r ≡ checkBoth «a_rows» «a_columns» «b_rows» «b_columns»
+        (ofBounds (now (al .entry)) (now (au .entry))) (ofBounds (now (bl .entry)) (now (bu .entry))) ⌝ }
 {
     match check_cells(1, a_rows, a_columns, al, au) {
         Outcome::Done => check_cells(2, b_rows, b_columns, bl, bu),
@@ -69,7 +70,9 @@ pub fn check_all(
     bu: &[u32],
     lent: Lent,
 ) -> Outcome
-    ensures { λ r. ⌜ outcome r ≡ checkOf (given method «a_rows» «a_columns» «b_rows» «b_columns» (now (al .entry)) (now (au .entry)) (now (bl .entry)) (now (bu .entry)) (lent .ma) (lent .ra) (lent .mb) (lent .rb) (lent .lo) (lent .up)) ⌝ }
+    ensures { λ r. ⌜ outcome r ≡ checkOf (given method «a_rows» «a_columns» «b_rows» «b_columns»
+        (now (al .entry)) (now (au .entry)) (now (bl .entry)) (now (bu .entry))
+        (lent .ma) (lent .ra) (lent .mb) (lent .rb) (lent .lo) (lent .up)) ⌝ }
 {
     let sizes = check_sizes(a_rows, a_columns, b_rows, b_columns);
     match check_method(method).then(sizes) {

@@ -3,7 +3,7 @@ ghost use mathlib.Core.Path.{_≡_};
 ghost use lib.Dec.{eqb};
 ghost use Rattle.refusals.specs.Answer.{outcome, unless};
 ghost use Rattle.refusals.specs.Refusal.{ofMatrix};
-ghost use Rattle.matrices.specs.Matrix.{Matrix};
+ghost use Rattle.matrices.specs.Matrix.{ofBounds};
 ghost use Rattle.matrices.specs.Checks.{Covered, checkSizes, checkCells};
 use intervals::check;
 use refusals::Outcome;
@@ -38,7 +38,7 @@ pub fn check_cells(
     uppers: &[u32],
 ) -> Outcome
     requires { ⌜ Covered rows columns (now lowers) (now uppers) ⌝ }
-    ensures { λ r. ⌜ outcome r ≡ checkCells matrix rows columns (record { lowers = now (lowers .entry); uppers = now (uppers .entry) }) ⌝ }
+    ensures { λ r. ⌜ outcome r ≡ checkCells matrix rows columns (ofBounds (now (lowers .entry)) (now (uppers .entry))) ⌝ }
 {
     let cells = rows * columns;
     let mut c = 0;

@@ -45,7 +45,8 @@ fn cell_lines(
     lowers: &[u32],
     uppers: &[u32],
 ) -> usize
-    requires { ⌜ (0 < columns) × (columns ≤ 32) × (count ≤ 32 * columns) × (count ≤ length (now lowers)) × (count ≤ length (now uppers)) × (start + 24 * count ≤ length (now out)) ⌝ }
+    requires { ⌜ (0 < columns) × (columns ≤ 32) × (count ≤ 32 * columns)
+        × (count ≤ length (now lowers)) × (count ≤ length (now uppers)) × (start + 24 * count ≤ length (now out)) ⌝ }
     ensures { λ r. ⌜ Put start (cellLines columns (now (lowers .entry)) (now (uppers .entry)) count) (now (out .entry)) r (now (out .exit)) ⌝ }
 {
     let mut at = start;
@@ -66,7 +67,8 @@ pub fn product_text(
     lowers: &[u32],
     uppers: &[u32],
 ) -> usize
-    requires { ⌜ (method < 10) × (rows ≤ 32) × (0 < columns) × (columns ≤ 32) × (rows * columns ≤ length (now lowers)) × (rows * columns ≤ length (now uppers)) × (24592 ≤ length (now out)) ⌝ }
+    requires { ⌜ (method < 10) × (rows ≤ 32) × (0 < columns) × (columns ≤ 32)
+        × (rows * columns ≤ length (now lowers)) × (rows * columns ≤ length (now uppers)) × (24592 ≤ length (now out)) ⌝ }
     ensures { λ r. ⌜ Put 0 (productText method rows columns (now (lowers .entry)) (now (uppers .entry))) (now (out .entry)) r (now (out .exit)) ⌝ }
 {
     let at = product_line(out, method, rows, columns);

@@ -3,15 +3,16 @@ ghost use mathlib.Core.Path.{_≡_};
 ghost use Prim.Native.Nat.{_≤_};
 ghost use lib.ListN.{length};
 ghost use Rattle.matrices.specs.Lists.{front};
-ghost use Rattle.matrices.specs.Matrix.{Matrix, AllFine, midAt, radAt};
+ghost use Rattle.matrices.specs.Matrix.{ofBounds, AllFine, midAt, radAt};
 use intervals::Converted;
 use intervals::to_midrad;
 
 // The midpoints and radii of the first count cells.
 pub fn convert(count: usize, lowers: &[u32], uppers: &[u32], mids: &mut [u32], rads: &mut [u32])
-    requires { ⌜ (count ≤ length (now lowers)) × (count ≤ length (now uppers)) × (count ≤ length (now mids)) × (count ≤ length (now rads)) × AllFine (record { lowers = now lowers; uppers = now uppers }) count ⌝ }
-    ensures { λ _. ⌜ now (mids .exit) ≡ front count (midAt (record { lowers = now (lowers .entry); uppers = now (uppers .entry) })) (now (mids .entry)) ⌝ }
-    ensures { λ _. ⌜ now (rads .exit) ≡ front count (radAt (record { lowers = now (lowers .entry); uppers = now (uppers .entry) })) (now (rads .entry)) ⌝ }
+    requires { ⌜ (count ≤ length (now lowers)) × (count ≤ length (now uppers))
+        × (count ≤ length (now mids)) × (count ≤ length (now rads)) × AllFine (ofBounds (now lowers) (now uppers)) count ⌝ }
+    ensures { λ _. ⌜ now (mids .exit) ≡ front count (midAt (ofBounds (now (lowers .entry)) (now (uppers .entry)))) (now (mids .entry)) ⌝ }
+    ensures { λ _. ⌜ now (rads .exit) ≡ front count (radAt (ofBounds (now (lowers .entry)) (now (uppers .entry)))) (now (rads .entry)) ⌝ }
 {
     let mut c = 0;
     while c < count {

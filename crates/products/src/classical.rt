@@ -5,7 +5,7 @@ ghost use Prim.Native.Nat.{_+_};
 ghost use lib.Dec.{ltb};
 ghost use Rattle.enclosure.specs.Methods.{classical};
 ghost use Rattle.binary32.specs.Order.{magnitudeOf};
-ghost use Rattle.matrices.specs.Matrix.{Matrix};
+ghost use Rattle.matrices.specs.Matrix.{ofBounds};
 ghost use Rattle.matrices.specs.Entries.{entryAt};
 ghost use Rattle.products.specs.Written.{Sizes, Written};
 use crate::apart::Apart;
@@ -32,8 +32,9 @@ pub fn entries(
     lo: &mut [u32],
     up: &mut [u32],
 ) -> Place
-    requires { ⌜ Sizes m k n (record { lowers = now al; uppers = now au }) (record { lowers = now bl; uppers = now bu }) (length (now lo)) (length (now up)) ⌝ }
-    ensures { λ r. ⌜ Written (entryAt classical k n (record { lowers = now (al .entry); uppers = now (au .entry) }) (record { lowers = now (bl .entry); uppers = now (bu .entry) })) m n (now (lo .entry)) (now (up .entry)) r (now (lo .exit)) (now (up .exit)) ⌝ }
+    requires { ⌜ Sizes m k n (ofBounds (now al) (now au)) (ofBounds (now bl) (now bu)) (length (now lo)) (length (now up)) ⌝ }
+    ensures { λ r. ⌜ Written (entryAt classical k n (ofBounds (now (al .entry)) (now (au .entry))) (ofBounds (now (bl .entry)) (now (bu .entry))))
+        m n (now (lo .entry)) (now (up .entry)) r (now (lo .exit)) (now (up .exit)) ⌝ }
 {
     let mut row = [Apart::zero(); LARGEST_SIZE];
     let mut place = Place::Nowhere;

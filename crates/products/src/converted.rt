@@ -27,7 +27,8 @@ fn by_three(
     up: &mut [u32],
 ) -> Place
     requires { ⌜ Sized m k n (now ma) (now ra) (now mb) (now rb) (length (now lo)) (length (now up)) ⌝ }
-    ensures { λ r. ⌜ Written (entryFrom three k n (now (ma .entry)) (now (ra .entry)) (now (mb .entry)) (now (rb .entry))) m n (now (lo .entry)) (now (up .entry)) r (now (lo .exit)) (now (up .exit)) ⌝ }
+    ensures { λ r. ⌜ Written (entryFrom three k n (now (ma .entry)) (now (ra .entry)) (now (mb .entry)) (now (rb .entry)))
+        m n (now (lo .entry)) (now (up .entry)) r (now (lo .exit)) (now (up .exit)) ⌝ }
 {
     let mut vb = [0u32; MOST_CELLS];
     let mut wb = [0u32; MOST_CELLS];
@@ -48,7 +49,8 @@ fn by_four(
     up: &mut [u32],
 ) -> Place
     requires { ⌜ Sized m k n (now ma) (now ra) (now mb) (now rb) (length (now lo)) (length (now up)) ⌝ }
-    ensures { λ r. ⌜ Written (entryFrom four k n (now (ma .entry)) (now (ra .entry)) (now (mb .entry)) (now (rb .entry))) m n (now (lo .entry)) (now (up .entry)) r (now (lo .exit)) (now (up .exit)) ⌝ }
+    ensures { λ r. ⌜ Written (entryFrom four k n (now (ma .entry)) (now (ra .entry)) (now (mb .entry)) (now (rb .entry)))
+        m n (now (lo .entry)) (now (up .entry)) r (now (lo .exit)) (now (up .exit)) ⌝ }
 {
     let mut wb = [0u32; MOST_CELLS];
     derive_all(Kind::Outer, k * n, mb, rb, &mut wb);
@@ -67,7 +69,8 @@ fn by_seven(
     up: &mut [u32],
 ) -> Place
     requires { ⌜ Sized m k n (now ma) (now ra) (now mb) (now rb) (length (now lo)) (length (now up)) ⌝ }
-    ensures { λ r. ⌜ Written (entryFrom seven k n (now (ma .entry)) (now (ra .entry)) (now (mb .entry)) (now (rb .entry))) m n (now (lo .entry)) (now (up .entry)) r (now (lo .exit)) (now (up .exit)) ⌝ }
+    ensures { λ r. ⌜ Written (entryFrom seven k n (now (ma .entry)) (now (ra .entry)) (now (mb .entry)) (now (rb .entry)))
+        m n (now (lo .entry)) (now (up .entry)) r (now (lo .exit)) (now (up .exit)) ⌝ }
 {
     let mut pa = [0u32; MOST_CELLS];
     let mut wb = [0u32; MOST_CELLS];
@@ -91,8 +94,10 @@ pub fn entries(
     lo: &mut [u32],
     up: &mut [u32],
 ) -> Place
-    requires { ⌜ ((method ≡ 3) ⊎ ((method ≡ 4) ⊎ (method ≡ 7))) × Sized m k n (now ma) (now ra) (now mb) (now rb) (length (now lo)) (length (now up)) ⌝ }
-    ensures { λ r. ⌜ Written (entryFrom (chosen method) k n (now (ma .entry)) (now (ra .entry)) (now (mb .entry)) (now (rb .entry))) m n (now (lo .entry)) (now (up .entry)) r (now (lo .exit)) (now (up .exit)) ⌝ }
+    requires { ⌜ ((method ≡ 3) ⊎ ((method ≡ 4) ⊎ (method ≡ 7)))
+        × Sized m k n (now ma) (now ra) (now mb) (now rb) (length (now lo)) (length (now up)) ⌝ }
+    ensures { λ r. ⌜ Written (entryFrom (chosen method) k n (now (ma .entry)) (now (ra .entry)) (now (mb .entry)) (now (rb .entry)))
+        m n (now (lo .entry)) (now (up .entry)) r (now (lo .exit)) (now (up .exit)) ⌝ }
 {
     match method {
         3 => by_three(m, k, n, ma, ra, mb, rb, lo, up),

@@ -2,10 +2,9 @@
 ghost use Prim.Native.Nat.{_≤_};
 ghost use lib.ListN.{length};
 ghost use Rattle.refusals.specs.Answer.{outcome};
-ghost use Rattle.matrices.specs.Checks.{given};
-ghost use Rattle.matrices.specs.Product.{Left};
+ghost use Rattle.matrices.specs.Product.{Leaves};
 ghost use Rattle.products.specs.Written.{InReach, Finished};
-ghost use Rattle.matrices.specs.Demand.{Keeps};
+ghost use Rattle.matrices.specs.Demand.{KeepsCalled};
 use cells::convert;
 use intervals::slices::clear;
 use matrices::check_order::Lent;
@@ -71,8 +70,14 @@ pub fn product(
     lo: &mut [u32],
     up: &mut [u32],
 ) -> Outcome
-    ensures left { λ r. ⌜ Left (given method «a_rows» «a_columns» «b_rows» «b_columns» (now (al .entry)) (now (au .entry)) (now (bl .entry)) (now (bu .entry)) (length (now (ma .entry))) (length (now (ra .entry))) (length (now (mb .entry))) (length (now (rb .entry))) (length (now (lo .entry))) (length (now (up .entry)))) (now (ma .entry)) (now (ra .entry)) (now (mb .entry)) (now (rb .entry)) (now (lo .entry)) (now (up .entry)) (outcome r) (now (ma .exit)) (now (ra .exit)) (now (mb .exit)) (now (rb .exit)) (now (lo .exit)) (now (up .exit)) ⌝ }
-    ensures keeps { λ r. ⌜ Keeps (given method «a_rows» «a_columns» «b_rows» «b_columns» (now (al .entry)) (now (au .entry)) (now (bl .entry)) (now (bu .entry)) (length (now (ma .entry))) (length (now (ra .entry))) (length (now (mb .entry))) (length (now (rb .entry))) (length (now (lo .entry))) (length (now (up .entry)))) (now (lo .exit)) (now (up .exit)) ⌝ }
+    ensures left { λ r. ⌜ Leaves method «a_rows» «a_columns» «b_rows» «b_columns»
+        (now (al .entry)) (now (au .entry)) (now (bl .entry)) (now (bu .entry))
+        (now (ma .entry)) (now (ra .entry)) (now (mb .entry)) (now (rb .entry)) (now (lo .entry)) (now (up .entry)) (outcome r)
+        (now (ma .exit)) (now (ra .exit)) (now (mb .exit)) (now (rb .exit)) (now (lo .exit)) (now (up .exit)) ⌝ }
+    ensures keeps { λ r. ⌜ KeepsCalled method «a_rows» «a_columns» «b_rows» «b_columns»
+        (now (al .entry)) (now (au .entry)) (now (bl .entry)) (now (bu .entry))
+        (now (ma .entry)) (now (ra .entry)) (now (mb .entry)) (now (rb .entry)) (now (lo .entry)) (now (up .entry))
+        (now (lo .exit)) (now (up .exit)) ⌝ }
 {
     let lent = Lent {
         ma: ma.len(),

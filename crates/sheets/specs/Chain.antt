@@ -69,5 +69,9 @@ walk s rows columns (suc turns) index least =
     cond (eqb index 0) (stopped done)
     (onward (visitOf s rows columns index least) (λ c. walk s rows columns turns (c .next) (c .position + 1)))
 
+-- the whole walk of a matrix with so many rows and columns
+abbrev pub walkAll : List ℕ → ℕ → ℕ → ℕ → Walk
+walkAll s rows columns first = walk s rows columns (rows * columns + 1) first 0
+
 unfoldable pub chainOf : List ℕ → Walk
-chainOf s = walk s (rowsOf s) (columnsOf s) (rowsOf s * columnsOf s + 1) (firstOf s) 0
+chainOf s = walkAll s (rowsOf s) (columnsOf s) (firstOf s)

@@ -4,7 +4,7 @@ ghost use Prim.Native.Nat.{_+_, _*_, _≤_};
 ghost use lib.ListN.{length};
 ghost use Rattle.refusals.specs.Answer.{done, outcome, then};
 ghost use Rattle.sheets.specs.Layout.{countOf};
-ghost use Rattle.sheets.specs.Chain.{judgeOf, walk};
+ghost use Rattle.sheets.specs.Chain.{judgeOf, walkAll};
 use crate::layout::Record;
 use crate::layout::record_at;
 use intervals::check;
@@ -63,7 +63,7 @@ fn judge(rows: usize, columns: usize, least: usize, r: Record) -> Outcome
 // Whether the chain passes, from its first index on.
 pub fn follow(s: &[u8], rows: usize, columns: usize, first: usize) -> Outcome
     requires { ⌜ (rows ≤ 32) × (columns ≤ 32) × (16 * countOf (now s) ≡ length (now s)) ⌝ }
-    ensures { λ v. ⌜ outcome v ≡ walk (now (s .entry)) rows columns (rows * columns + 1) first 0 .verdict ⌝ }
+    ensures { λ v. ⌜ outcome v ≡ walkAll (now (s .entry)) rows columns first .verdict ⌝ }
 {
     let mut index = first;
     let mut least = 0;

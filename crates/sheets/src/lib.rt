@@ -117,7 +117,8 @@ pub fn put(rows: usize, columns: usize, lowers: &[u32], uppers: &[u32], out: &mu
     }
 }
 
-// The same, and hands back the written front part of out itself: it starts where out does, and is empty on a refusal. What is left in the rest of out is `put`'s to say.
+// The same, and hands back the written front part of out itself: it starts where out does, and is empty on a refusal.
+// What is left in the rest of out is `put`'s to say.
 pub fn write<'a, 'b>(
     rows: usize,
     columns: usize,
@@ -126,7 +127,8 @@ pub fn write<'a, 'b>(
     out: &'a mut [u8],
 ) -> &'a mut [u8]
     ensures start { λ r. ⌜ r .ptr ≡ out .entry .ptr ⌝ }
-    ensures part { λ r. ⌜ now r ≡ frontOf rows columns (now (lowers .entry)) (now (uppers .entry)) (writeOf rows columns (now (lowers .entry)) (now (uppers .entry)) (length (now (out .entry)))) ⌝ }
+    ensures part { λ r. ⌜ now r ≡ frontOf rows columns (now (lowers .entry)) (now (uppers .entry))
+        (writeOf rows columns (now (lowers .entry)) (now (uppers .entry)) (length (now (out .entry)))) ⌝ }
 {
     match put(rows, columns, lowers, uppers, out) {
         Written::Bytes(n) => &mut out[..n],

@@ -7,7 +7,7 @@ ghost use Rattle.intervals.specs.Conversion.{faultOf};
 ghost use Rattle.sheets.specs.Layout.{countOf};
 ghost use Rattle.sheets.specs.Wear.{amountOf};
 ghost use Rattle.sheets.specs.Cell.{widenedOf};
-ghost use Rattle.sheets.specs.Chain.{stepped, cellFrom, walk};
+ghost use Rattle.sheets.specs.Chain.{stepped, cellFrom, walkAll};
 ghost use Rattle.sheets.specs.Reading.{putIn, cellLower, cellUpper};
 use crate::chain::Cell;
 use crate::chain::Step;
@@ -47,8 +47,11 @@ pub fn fill(
     lowers: &mut [u32],
     uppers: &mut [u32],
 )
-    requires { ⌜ (rows ≤ 32) × (columns ≤ 32) × (16 * countOf (now s) ≡ length (now s)) × (rows * columns ≤ length (now lowers)) × (rows * columns ≤ length (now uppers)) × (walk (now s) rows columns (rows * columns + 1) first 0 .verdict ≡ done) ⌝ }
-    ensures { λ _. ⌜ (now (lowers .exit) ≡ putIn cellLower (now (lowers .entry)) (walk (now (s .entry)) rows columns (rows * columns + 1) first 0 .cells)) × (now (uppers .exit) ≡ putIn cellUpper (now (uppers .entry)) (walk (now (s .entry)) rows columns (rows * columns + 1) first 0 .cells)) ⌝ }
+    requires { ⌜ (rows ≤ 32) × (columns ≤ 32) × (16 * countOf (now s) ≡ length (now s))
+        × (rows * columns ≤ length (now lowers)) × (rows * columns ≤ length (now uppers))
+        × (walkAll (now s) rows columns first .verdict ≡ done) ⌝ }
+    ensures { λ _. ⌜ (now (lowers .exit) ≡ putIn cellLower (now (lowers .entry)) (walkAll (now (s .entry)) rows columns first .cells))
+        × (now (uppers .exit) ≡ putIn cellUpper (now (uppers .entry)) (walkAll (now (s .entry)) rows columns first .cells)) ⌝ }
 {
     let mut index = first;
     let mut least = 0;

@@ -73,7 +73,8 @@ fn put_cell(
     upper: u32,
 ) -> usize
     requires { ⌜ (16 * (k + 1) + 16 * tally (handedOf lower upper) ≤ length (now out)) × (k ≤ 1023) × (row < 256) × (column < 256) ⌝ }
-    ensures { λ r. ⌜ (r ≡ k + tally (handedOf lower upper)) × (now (out .exit) ≡ over (16 * (k + 1)) (cellBytes (nextOf total (k + 1)) row column (handedOf lower upper)) (now (out .entry))) ⌝ }
+    ensures { λ r. ⌜ (r ≡ k + tally (handedOf lower upper))
+        × (now (out .exit) ≡ over (16 * (k + 1)) (cellBytes (nextOf total (k + 1)) row column (handedOf lower upper)) (now (out .entry))) ⌝ }
 {
     match handed(lower, upper) {
         HandedIn::Cell(a, b) => {
@@ -94,8 +95,10 @@ pub fn put_cells(
     lowers: &[u32],
     uppers: &[u32],
 )
-    requires { ⌜ (0 < columns) × (columns ≤ 32) × (cells ≤ 32 * columns) × (cells ≤ length (now lowers)) × (cells ≤ length (now uppers)) × (total ≡ countTo (now lowers) (now uppers) cells) × (16 * (total + 1) ≤ length (now out)) ⌝ }
-    ensures { λ _. ⌜ now (out .exit) ≡ take 16 (now (out .entry)) ++ recordsTo columns total (now (lowers .entry)) (now (uppers .entry)) cells ++ drop (16 * (total + 1)) (now (out .entry)) ⌝ }
+    requires { ⌜ (0 < columns) × (columns ≤ 32) × (cells ≤ 32 * columns) × (cells ≤ length (now lowers)) × (cells ≤ length (now uppers))
+        × (total ≡ countTo (now lowers) (now uppers) cells) × (16 * (total + 1) ≤ length (now out)) ⌝ }
+    ensures { λ _. ⌜ now (out .exit) ≡ take 16 (now (out .entry))
+        ++ recordsTo columns total (now (lowers .entry)) (now (uppers .entry)) cells ++ drop (16 * (total + 1)) (now (out .entry)) ⌝ }
 {
     let mut k = 0;
     let mut p = 0;
