@@ -5,7 +5,7 @@
 
 PREFIX ?= /usr/local
 archive := target/staticlib/libcoupling.a
-prove := .ci/prove 'Proving what is not proved yet: about 5 minutes on two cores if that is everything.' check print_product
+prove := .ci/prove 'Proving what is not proved yet: about 4 minutes on two cores if that is everything.' check print_product
 samples := target/samples/motor_to_lever.sheet target/samples/lever_to_bar.sheet
 
 help: ## list the commands
@@ -22,12 +22,7 @@ target/samples/%.sheet: samples/%.txt $(wildcard tools/*)
 	@tools/sheet pack $< >$@
 
 test: ## all tests, from nothing: ends in 'N passed, 0 failed'
-	@rt fmt --check
-	@$(prove)
-	@.ci/prove 'Building the archive for C, which proves its crate once more: about 40 s.' staticlib coupling
-	@tests/run
-	@echo 'Proving every crate from nothing, then trying the must-fail edits: about 25 minutes on two cores.'
-	@rt ci
+	@.ci/run
 
 check: ## prove what changed since the last check
 	@rt check
@@ -45,8 +40,8 @@ uninstall: ## remove what install put under PREFIX
 	@rm -f $(DESTDIR)$(PREFIX)/include/coupling.h $(DESTDIR)$(PREFIX)/include/coupling_sentences.h
 	@rm -f $(DESTDIR)$(PREFIX)/lib/libcoupling.a $(DESTDIR)$(PREFIX)/lib/pkgconfig/coupling.pc
 
-target/staticlib/lib%.a: $(wildcard crates/*/src/*.rt)
-	@rt staticlib $*
+$(archive): $(wildcard crates/*/src/*.rt)
+	@.ci/prove 'Proving the library before it is built: about 4 minutes on two cores if nothing is proved yet.' staticlib coupling
 
 fmt: ## format the Rattle sources
 	@rt fmt

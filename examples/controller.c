@@ -1,57 +1,42 @@
-/* A controller's day: the sheet of motors against levers times that of levers
-   against bars, each range of the product held against the play that a bar may
-   have, and what is refused printed with its sentence and place. Valid as C++ too. */
+/* A controller's day: two coupling sheets are multiplied, and each range of the product is held against the gap between the carriages.
+   A refusal is told with its place. Usage: controller A.sheet B.sheet. Valid as C++ too. */
 #include <stdio.h>
 #include <string.h>
-
 #include "coupling.h"
 #include "coupling_sentences.h"
 
-#define PLAY 5.0f
+#define GAP 2.0f /* millimetres that a bar may move to either side */
 
-static int refused(uint32_t r)
+/* One byte more than the longest sheet, so that a longer file is refused. No bytes, where there is no such file, are refused too. */
+typedef struct { uint8_t bytes[COUPLING_SHEET_MAX + 1]; size_t length; } sheet;
+
+static void load(sheet *s, const char *name)
 {
-    if (!COUPLING_REFUSED(r))
-        return 0;
-    printf("refused: %s\n", coupling_sentence(COUPLING_NUMBER(r)));
-    printf("matrix %u, row %u, column %u\n", COUPLING_MATRIX(r), COUPLING_ROW(r), COUPLING_COLUMN(r));
-    return 1;
+    FILE *file = fopen(name, "rb");
+    s->length = file ? fread(s->bytes, 1, sizeof s->bytes, file) : 0;
+    if (file) fclose(file);
 }
 
-static void set_stops(const uint8_t *a, size_t a_len, const uint8_t *b, size_t b_len)
+int main(int argc, char **argv)
 {
-    uint8_t product[COUPLING_SHEET_MAX];
-    uint32_t lowers[COUPLING_CELLS_MAX], uppers[COUPLING_CELLS_MAX];
-
-    uint32_t r = coupling_multiply(1, a, a_len, b, b_len, product, sizeof product);
-    if (refused(r))
-        return;
-    r = coupling_read(product, r, lowers, COUPLING_CELLS_MAX, uppers, COUPLING_CELLS_MAX);
-    if (refused(r))
-        return;
-    for (uint32_t i = 0; i < COUPLING_READ_ROWS(r) * COUPLING_READ_COLUMNS(r); i++) {
+    static sheet a, b, product;
+    static uint32_t lowers[COUPLING_CELLS_MAX], uppers[COUPLING_CELLS_MAX];
+    load(&a, argc > 1 ? argv[1] : "");
+    load(&b, argc > 2 ? argv[2] : "");
+    uint32_t r = coupling_multiply(1, a.bytes, a.length, b.bytes, b.length, product.bytes, COUPLING_SHEET_MAX);
+    if (!COUPLING_REFUSED(r))
+        r = coupling_read(product.bytes, r, lowers, COUPLING_CELLS_MAX, uppers, COUPLING_CELLS_MAX);
+    if (COUPLING_REFUSED(r)) {
+        printf("refused: %s; ", coupling_sentence(COUPLING_NUMBER(r)));
+        printf("matrix %u, row %u, column %u\n", COUPLING_MATRIX(r), COUPLING_ROW(r), COUPLING_COLUMN(r));
+        return 1;
+    }
+    for (uint32_t i = 0, columns = COUPLING_READ_COLUMNS(r); i < COUPLING_READ_ROWS(r) * columns; i++) {
         float low, high;
         memcpy(&low, &lowers[i], sizeof low);
         memcpy(&high, &uppers[i], sizeof high);
-        printf("motor %u, bar %u: [%.9g, %.9g], ", i / COUPLING_READ_COLUMNS(r), i % COUPLING_READ_COLUMNS(r), low, high);
-        printf("%s\n", -PLAY <= low && high <= PLAY ? "stop set" : "too much play");
+        const char *found = -GAP <= low && high <= GAP ? "stop set" : "would foul a carriage";
+        printf("motor %u, bar %u: [%.9g, %.9g], %s\n", i / columns, i % columns, low, high, found);
     }
-}
-
-int main(void)
-{
-    const uint32_t half = 0x3F000000, one = 0x3F800000, two = 0x40000000, three = 0x40400000, minus_one = 0xBF800000;
-    const uint32_t motor_lowers[] = {one, half}, motor_uppers[] = {two, half};                       /* 1 by 2 */
-    const uint32_t lever_lowers[] = {minus_one, two, 0, one}, lever_uppers[] = {three, two, 0, one}; /* 2 by 2 */
-    const uint32_t spoiled_uppers[] = {three, COUPLING_LARGEST, 0, one};
-    uint8_t a[COUPLING_SHEET_MAX], b[COUPLING_SHEET_MAX], spoiled[COUPLING_SHEET_MAX];
-
-    uint32_t a_len = coupling_write(1, 2, motor_lowers, 2, motor_uppers, 2, a, sizeof a);
-    uint32_t b_len = coupling_write(2, 2, lever_lowers, 4, lever_uppers, 4, b, sizeof b);
-    uint32_t spoiled_len = coupling_write(2, 2, lever_lowers, 4, spoiled_uppers, 4, spoiled, sizeof spoiled);
-    if (refused(a_len) || refused(b_len) || refused(spoiled_len))
-        return 1;
-    set_stops(a, a_len, b, b_len);
-    set_stops(a, a_len, spoiled, spoiled_len);
     return 0;
 }

@@ -35,7 +35,7 @@
 
    Stack: on x86-64 a call of coupling_multiply took at most 54,072 bytes below
    its caller's frame, measured on 32 by 32 by 32 products by each method
-   (tests/stack); the other calls take less. COUPLING_STACK bytes are enough for
+   (tests/drivers/stack.c); the other calls take less. COUPLING_STACK bytes are enough for
    each call. */
 #ifndef COUPLING_H
 #define COUPLING_H
