@@ -20,8 +20,9 @@ use Rattle.unpacked.specs.declared.Number.{Number}
 use Rattle.unpacked.specs.Number.{worth, Below, Holds, Runs, IsNumber, zeroNumber}
 use Rattle.products.specs.Running.{plusDown}
 use Rattle.unpacked.proofs.Packing.{exp-high}
+use Rattle.unpacked.proofs.Limits.{number-holds}
 
-true-false : {A : Type 0} → true ≡ false → A
+pub true-false : {A : Type 0} → true ≡ false → A
 true-false e = absurd (subst (λ x. cond x (Unit {0}) ⊥) e tt)
 
 -- ---- a partial result that is a number, or none
@@ -31,6 +32,9 @@ holds-runs (some v) x h t = record {
   number = record { normal = h .part .normal; within = subst (λ w. natAbs w ≤ MAX binary32) (sym (h .is .0)) (h .is .1) };
 }
 holds-runs none x h t = true-false (sym (lt-ltb 653 (x .exp) (omega (arith, h .is .1))) ∙ t)
+
+pub runs-holds : {m : Option ℤ} {x : Number} → Runs m x → Holds m x
+runs-holds {x = x} r = subst (λ t. Holds t x) (sym (r .is)) (number-holds (r .number))
 
 pub holds-none : (m : Option ℤ) (x : Number) → Holds m x → ltb 653 (x .exp) ≡ true → m ≡ none
 holds-none none x h t = refl
@@ -92,7 +96,7 @@ unfolding bind down
 mirror-plus v none = refl
 mirror-plus v (some u) = ap (λ w. negate (up binary32 1 w)) (sym (neg-sum v u))
 
-negate² : (a : Option ℤ) → negate (negate a) ≡ a
+pub negate² : (a : Option ℤ) → negate (negate a) ≡ a
 negate² (some v) = ap some (negℤ-negℤ v)
 negate² none = refl
 

@@ -19,13 +19,13 @@ use Rattle.unpacked.specs.declared.Number.{Number}
 use Rattle.products.specs.declared.sums.Sums.{Sums}
 use Rattle.unpacked.specs.Number.{worth, Runs}
 use Rattle.products.specs.Running.{Ended, BothNumbers, refusedSums}
+use Rattle.products.specs.Centred.{OneNone}
 use Rattle.products.specs.MidRad.{Sized}
 use Rattle.products.specs.Derived.{MidRad}
 use Rattle.refusals.proofs.SizeLaws.{small}
 use Rattle.matrices.proofs.Places.{below}
 use Rattle.products.proofs.Carrying.{holds-runs, holds-none, mirrored-is, negate-none}
 use Rattle.products.proofs.Or.{or-first, or-second, or-cases}
-use Rattle.products.proofs.CentredSteps.{OneNone}
 
 -- ---- where a centre or the radius is none
 pub ends-none : (R L H : Option ℤ) → OneNone L H R → ends (of binary32) R L H ≡ none
@@ -101,7 +101,6 @@ pub record Places (k n i j l : ℕ) (ma ra mb rb : List ℕ) (size : ℕ) : Type
   pub first : i * k + l < size
   pub small-first : i * k + l < 1024
   pub mid-first : i * k + l < length ma
-  pub rad-first : i * k + l < length ra
   pub second : l * n + j < k * n
   pub small-second : l * n + j < 1024
   pub mid-second : l * n + j < length mb
@@ -116,14 +115,12 @@ places m k n i j l ma ra mb rb lo up S p q r =
     let c : m * k ≤ 1024 = small m k (S .rows) (S .inner) in
     let d : k * n ≤ 1024 = small k n (S .inner) (S .columns) in
     let e = S .a .mids in
-    let f = S .a .rads in
     let g = S .b .mids in
     let h = S .b .rads in
     record {
       first = a;
       small-first = omega arith;
       mid-first = omega arith;
-      rad-first = omega arith;
       second = b;
       small-second = omega arith;
       mid-second = omega arith;

@@ -18,10 +18,10 @@ pub mod MidRads
 pub mod Radii
 pub mod MidRadSteps
 pub mod CentredSteps
+pub mod Continuing
 pub mod Ending
 pub mod FourEntry
 pub mod SevenEntry
-pub mod SevenZeros
 pub mod NearestSteps
 pub mod ThreeSteps
 -- the entries and what a product leaves

@@ -3,7 +3,7 @@ use mathlib.Core.Path.{_≡_, sym, ap, ap₂, _∙_}
 use mathlib.Core.Bool.{true, false}
 use mathlib.Core.List.{List}
 use mathlib.Core.Option.{Option, none, some}
-use Prim.Native.Nat.{ℕ, _+_, _*_, _/_, _%_, _≤_, _<_}
+use Prim.Native.Nat.{ℕ, _+_, _*_, _/_, _%_, _<_}
 use native.Mathlib.Omega.{arith}
 use lib.Dec.{ltb}
 use borrow.Author.Tests.{lt-ltb, le-ltb}
@@ -12,9 +12,8 @@ use Rattle.enclosure.specs.Arithmetic.{of}
 use Rattle.enclosure.specs.Methods.{Method, Range, entry}
 use Rattle.binary32.specs.Number.{patternOf}
 use Rattle.products.specs.declared.sums.Place.the-variants.{Nowhere, At}
-use Rattle.matrices.specs.Matrix.{Matrix}
 use Rattle.products.specs.MidRad.{midRadAt, entryFrom}
-use Rattle.matrices.specs.Entries.{entryOf, entryAt, refused, lowerOf, upperOf, stopOf}
+use Rattle.matrices.specs.Entries.{refused, lowerOf, upperOf, stopOf}
 use Rattle.products.specs.Written.{Written}
 use Rattle.matrices.proofs.Fronts.{Filled, filled-is}
 use Rattle.matrices.proofs.Places.{position-row, position-column}

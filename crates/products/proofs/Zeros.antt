@@ -18,7 +18,7 @@ use Rattle.rounding.proofs.NearestLaws.{near-exact}
 use Rattle.rounding.proofs.Sign.{num-zero, num-neg}
 use Rattle.enclosure.specs.Arithmetic.{of}
 use Rattle.enclosure.specs.Cell.{Cell}
-use Rattle.enclosure.specs.Methods.{midTerm, innerTerm, outerTerm, raisedTerm}
+use Rattle.enclosure.specs.Methods.{midTerm, innerTerm, raisedTerm}
 use Rattle.enclosure.specs.Sums.{sum}
 use Rattle.binary32.specs.Number.{valueOf, Finite, held}
 use Rattle.binary32.specs.Operations.{Way}
@@ -27,7 +27,7 @@ use Rattle.unpacked.specs.declared.Number.{Number}
 use Rattle.products.specs.declared.centred.Centred.{Centred}
 use Rattle.unpacked.specs.Number.{worth, Runs}
 use Rattle.products.specs.Centred.{addsOf, CentredSum}
-use Rattle.products.specs.Derived.{outerOf, raisedOf, factorOf}
+use Rattle.products.specs.Derived.{raisedOf, factorOf}
 use Rattle.unpacked.proofs.Packing.{num-of}
 use Rattle.products.proofs.Carrying.{sum-next, mirrored-is}
 use Rattle.products.proofs.Or.{or-first, or-second}
@@ -73,7 +73,6 @@ centred-same f g h a b c l s e d q S =
       lower = down-same f a l e (s .lower) (S .lower);
       upper = up-same g b l d (s .opposed) (S .upper);
       radius = up-same h c l q (s .radius) (S .radius);
-      below = S .below;
     }
 
 -- ---- what the tests for zero tell
@@ -115,11 +114,6 @@ module _ (a b : Cell) where
   pub inner-zero : a .mid ≡ pos 0 → innerTerm (of binary32) a b ≡ some (pos 0)
   unfolding innerTerm
   inner-zero z = ap (up binary32 (2 ^ 149)) (zero-left (b .rad) (ap abs z)) ∙ up-zero
-
-  -- where the first radius is zero, and w holds |mB| + rB
-  pub outer-zero : (w : ℕ) → a .rad ≡ pos 0 → Finite w → held w ≡ outerOf (b .mid) (b .rad) → outerTerm (of binary32) a b ≡ some (pos 0)
-  unfolding outerTerm
-  outer-zero w z f h = times-zero w _ (a .rad) z f h
 
   -- where the first midpoint is zero, and v holds rB′
   pub raised-zero : (k v : ℕ) → a .mid ≡ pos 0 → Finite v → held v ≡ raisedOf (factorOf k) (b .mid) (b .rad) → raisedTerm (of binary32) k a b ≡ some (pos 0)

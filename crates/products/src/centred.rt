@@ -4,7 +4,9 @@ ghost use mathlib.Core.Path.{_≡_};
 ghost use lib.Dec.{ltb};
 ghost use Rattle.binary32.specs.Number.{Finite};
 ghost use Rattle.binary32.specs.Order.{magnitudeOf};
-ghost use Rattle.products.specs.Centred.{AllNumbers, Added, refusedCentred, zeroCentred, addsOf};
+ghost use Rattle.unpacked.specs.Number.{Below};
+ghost use Rattle.unpacked.specs.Exact.{Formed, RoundedDown, RoundedUp};
+ghost use Rattle.products.specs.Centred.{growth, shrinkage, AllNumbers, Added, SizeDown, refusedCentred, zeroCentred, addsOf};
 use crate::number::absolute;
 use crate::pattern::unpack;
 use crate::plus::plus_down;
@@ -14,6 +16,7 @@ use crate::rounded::rounded_up;
 use crate::times::times;
 use binary32::order::magnitude;
 use unpacked::Number;
+use unpacked::Product;
 use unpacked::is_none;
 use unpacked::zero;
 
@@ -41,6 +44,17 @@ pub fn adds(u: u32, w: u32) -> bool
     0x7F80_0000 <= w % 0x8000_0000
 }
 
+// |p| rounded down: p rounded down, or the opposite of p rounded up where p is negative.
+fn size_down(p: Product, below: Number, above: Number) -> Number
+    requires { ⌜ Formed p × RoundedDown p below × RoundedUp p above ⌝ }
+    ensures { λ r. ⌜ SizeDown p r ⌝ }
+{
+    if p.sig < 0 {
+        return above;
+    }
+    below
+}
+
 impl Centred {
     pub fn new() -> Self
         ensures { λ r. ⌜ r ≡ zeroCentred ⌝ }
@@ -54,8 +68,8 @@ impl Centred {
 
     // Method 4: x × y more in both centres, |x| × |v| in the radius.
     pub fn step_four(self, x: u32, y: u32, v: u32) -> Centred
-        requires { ⌜ AllNumbers self × Finite x ⌝ }
-        ensures { λ r. ⌜ Added self x y x v r ⌝ }
+        requires { ⌜ AllNumbers self × Below (self .radius) × Finite x ⌝ }
+        ensures { λ r. ⌜ Added self x y (growth x v) r ⌝ }
     {
         let f = unpack(x);
         let w = magnitude(v);
@@ -70,8 +84,8 @@ impl Centred {
 
     // Method 7, with the midpoints: the same.
     pub fn step_seven(self, x: u32, y: u32, v: u32) -> Centred
-        requires { ⌜ AllNumbers self × Finite x ⌝ }
-        ensures { λ r. ⌜ Added self x y x v r ⌝ }
+        requires { ⌜ AllNumbers self × Below (self .radius) × Finite x ⌝ }
+        ensures { λ r. ⌜ Added self x y (growth x v) r ⌝ }
     {
         let f = unpack(x);
         let w = magnitude(v);
@@ -84,19 +98,18 @@ impl Centred {
         }
     }
 
-    // Method 7, with the parts: x × y more in both centres, |u| × |v| in the radius.
-    pub fn step_parts(self, x: u32, y: u32, u: u32, v: u32) -> Centred
+    // Method 7, with the parts: x × y more in both centres, |x| × |y| less in the radius.
+    pub fn step_parts(self, x: u32, y: u32) -> Centred
         requires { ⌜ AllNumbers self ⌝ }
-        ensures { λ r. ⌜ Added self x y u v r ⌝ }
+        ensures { λ r. ⌜ Added self x y (shrinkage x y) r ⌝ }
     {
-        let t = magnitude(u);
-        let w = magnitude(v);
         let p = times(unpack(x), unpack(y));
-        let q = times(unpack(t), unpack(w));
+        let below = rounded_down(p);
+        let above = rounded_up(p);
         Centred {
-            radius: plus_negative(self.radius, rounded_up(q)),
-            lower: plus_down(self.lower, rounded_down(p)),
-            opposed: plus_down(self.opposed, rounded_up(p)),
+            lower: plus_down(self.lower, below),
+            opposed: plus_down(self.opposed, above),
+            radius: plus_down(self.radius, size_down(p, below, above)),
         }
     }
 

@@ -6,9 +6,8 @@ ghost use Rattle.products.specs.Derived.{Derived, outerOf};
 ghost use Rattle.products.specs.MidRad.{Sized, entryFrom};
 ghost use Rattle.products.specs.Written.{Written};
 use crate::centred::Centred;
-use crate::centred::adds;
 use crate::centred::is_nonzero;
-use crate::radius::outer_four;
+use crate::radius::outer;
 use crate::sums::Place;
 use crate::sums::ends;
 use unpacked::is_none;
@@ -46,17 +45,10 @@ pub fn entries(
                     }
                 }
             }
-            let mut radius = s.radius;
-            for l in 0..k {
-                let u = ra[i * k + l];
-                let w = wb[l * n + j];
-                if adds(u, w) {
-                    radius = outer_four(radius, u, w);
-                    if is_none(radius) {
-                        place = Place::At(i, j);
-                        break 'search;
-                    }
-                }
+            let radius = outer(s.radius, k, n, i, j, ra, wb);
+            if is_none(radius) {
+                place = Place::At(i, j);
+                break 'search;
             }
             let e = ends(s.lower, s.opposed, radius);
             if e.refused() {

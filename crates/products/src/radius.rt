@@ -1,17 +1,18 @@
-// A radius with a product more or less. It is kept with the other sign, so that what is rounded up is rounded down. Each loop has its own function, which the compiler puts into it.
+// The radius of methods 3, 4 and 7, continued with rA × (|mB| + rB). It is kept with the other sign, so that what is rounded up is rounded down.
 ghost use Rattle.unpacked.specs.Number.{IsNumber, Below};
-ghost use Rattle.products.specs.Centred.{Grown, Shrunk};
+ghost use Rattle.products.specs.Centred.{Grown};
+ghost use Rattle.products.specs.Continued.{Reaches, Continued};
+use crate::centred::adds;
 use crate::pattern::unpack;
-use crate::plus::plus_down;
 use crate::plus::plus_negative;
-use crate::rounded::rounded_down;
 use crate::rounded::rounded_up;
 use crate::times::times;
 use binary32::order::magnitude;
 use unpacked::Number;
+use unpacked::is_none;
 
-// Method 3: |u| × |v| more.
-pub fn outer_three(radius: Number, u: u32, v: u32) -> Number
+// |u| × |v| more.
+fn grown(radius: Number, u: u32, v: u32) -> Number
     requires { ⌜ IsNumber radius × Below radius ⌝ }
     ensures { λ r. ⌜ Grown radius u v r ⌝ }
 {
@@ -20,22 +21,29 @@ pub fn outer_three(radius: Number, u: u32, v: u32) -> Number
     plus_negative(radius, rounded_up(times(unpack(a), unpack(b))))
 }
 
-// Method 4: the same.
-pub fn outer_four(radius: Number, u: u32, v: u32) -> Number
-    requires { ⌜ IsNumber radius × Below radius ⌝ }
-    ensures { λ r. ⌜ Grown radius u v r ⌝ }
+// |u| × |w| more for each pattern u in row i of ra, which has k columns, and its w in column j of wb, which has n. The loop ends at the first overflow, and the result is then none.
+pub fn outer(
+    radius: Number,
+    k: usize,
+    n: usize,
+    i: usize,
+    j: usize,
+    ra: &[u32],
+    wb: &[u32],
+) -> Number
+    requires { ⌜ IsNumber radius × Below radius × Reaches (record { k = k; n = n; i = i; j = j; row = now ra; column = now wb }) ⌝ }
+    ensures { λ r. ⌜ Continued (record { k = k; n = n; i = i; j = j; row = now (ra .entry); column = now (wb .entry) }) radius r ⌝ }
 {
-    let a = magnitude(u);
-    let b = magnitude(v);
-    plus_negative(radius, rounded_up(times(unpack(a), unpack(b))))
-}
-
-// Method 7: |u| × |v| less.
-pub fn shared_seven(radius: Number, u: u32, v: u32) -> Number
-    requires { ⌜ IsNumber radius ⌝ }
-    ensures { λ r. ⌜ Shrunk radius u v r ⌝ }
-{
-    let a = magnitude(u);
-    let b = magnitude(v);
-    plus_down(radius, rounded_down(times(unpack(a), unpack(b))))
+    let mut r = radius;
+    for l in 0..k {
+        let u = ra[i * k + l];
+        let w = wb[l * n + j];
+        if adds(u, w) {
+            r = grown(r, u, w);
+            if is_none(r) {
+                return r;
+            }
+        }
+    }
+    r
 }

@@ -1,17 +1,52 @@
-// Method 7: the entries by rows, as by method 4, the centre continued with the parts' products and the radius with less than they make up, until the first that is refused.
+// Method 7: the entries by rows, the sums of method 4 continued with the parts: their products more in both centres, their magnitudes' products less in the radius; until the first that is refused.
 ghost use lib.ListN.{length};
 ghost use Prim.Native.Nat.{_*_};
 ghost use Rattle.enclosure.specs.Methods.{seven};
+ghost use Rattle.products.specs.Centred.{AllNumbers};
+ghost use Rattle.products.specs.Continued.{Reaches, Numbers, PartsAdded};
 ghost use Rattle.products.specs.Derived.{Derived, outerOf, partOf};
 ghost use Rattle.products.specs.MidRad.{Sized, entryFrom};
 ghost use Rattle.products.specs.Written.{Written};
 use crate::centred::Centred;
-use crate::centred::adds;
 use crate::centred::is_nonzero;
-use crate::radius::shared_seven;
+use crate::radius::outer;
 use crate::sums::Place;
 use crate::sums::ends;
+use unpacked::Number;
 use unpacked::is_none;
+
+// The sums after a step with each x in row i of pa, which has k columns, and its y in column j of pb, which has n.
+// The loop ends at the first overflow, and the result is then refused.
+fn parts(
+    lower: Number,
+    opposed: Number,
+    radius: Number,
+    k: usize,
+    n: usize,
+    i: usize,
+    j: usize,
+    pa: &[u32],
+    pb: &[u32],
+) -> Centred
+    requires { ⌜ AllNumbers (record { lower = lower; opposed = opposed; radius = radius }) × Reaches (record { k = k; n = n; i = i; j = j; row = now pa; column = now pb }) × Numbers (record { k = k; n = n; i = i; j = j; row = now pa; column = now pb }) ⌝ }
+    ensures { λ r. ⌜ PartsAdded (record { k = k; n = n; i = i; j = j; row = now (pa .entry); column = now (pb .entry) }) (record { lower = lower; opposed = opposed; radius = radius }) r ⌝ }
+{
+    let mut s = Centred {
+        lower: lower,
+        opposed: opposed,
+        radius: radius,
+    };
+    for l in 0..k {
+        let x = pa[i * k + l];
+        if is_nonzero(x) {
+            s = s.step_parts(x, pb[l * n + j]);
+            if s.refused() {
+                return s;
+            }
+        }
+    }
+    s
+}
 
 // From midpoints and radii; pa and pb have the parts of A's and B's cells, wb |m| + r of B's.
 pub fn entries(
@@ -48,31 +83,17 @@ pub fn entries(
                     }
                 }
             }
-            for l in 0..k {
-                let a = i * k + l;
-                let b = l * n + j;
-                let u = ra[a];
-                let w = wb[b];
-                if adds(u, w) {
-                    s = s.step_parts(pa[a], pb[b], u, w);
-                    if s.refused() {
-                        place = Place::At(i, j);
-                        break 'search;
-                    }
-                }
+            let radius = outer(s.radius, k, n, i, j, ra, wb);
+            if is_none(radius) {
+                place = Place::At(i, j);
+                break 'search;
             }
-            let mut radius = s.radius;
-            for l in 0..k {
-                let u = pa[i * k + l];
-                if is_nonzero(u) {
-                    radius = shared_seven(radius, u, pb[l * n + j]);
-                    if is_none(radius) {
-                        place = Place::At(i, j);
-                        break 'search;
-                    }
-                }
+            let t = parts(s.lower, s.opposed, radius, k, n, i, j, pa, pb);
+            if t.refused() {
+                place = Place::At(i, j);
+                break 'search;
             }
-            let e = ends(s.lower, s.opposed, radius);
+            let e = ends(t.lower, t.opposed, t.radius);
             if e.refused() {
                 place = Place::At(i, j);
                 break 'search;

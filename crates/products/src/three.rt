@@ -9,7 +9,7 @@ use crate::centred::adds;
 use crate::nearest::Nearest;
 use crate::number::opposite;
 use crate::plus::plus_negative;
-use crate::radius::outer_three;
+use crate::radius::outer;
 use crate::sums::Place;
 use crate::sums::ends;
 use unpacked::is_none;
@@ -49,21 +49,15 @@ pub fn entries(
                     }
                 }
             }
-            let mut radius = plus_negative(s.radius, minus_tiny());
-            if is_none(radius) {
+            let inner = plus_negative(s.radius, minus_tiny());
+            if is_none(inner) {
                 place = Place::At(i, j);
                 break 'search;
             }
-            for l in 0..k {
-                let u = ra[i * k + l];
-                let w = wb[l * n + j];
-                if adds(u, w) {
-                    radius = outer_three(radius, u, w);
-                    if is_none(radius) {
-                        place = Place::At(i, j);
-                        break 'search;
-                    }
-                }
+            let radius = outer(inner, k, n, i, j, ra, wb);
+            if is_none(radius) {
+                place = Place::At(i, j);
+                break 'search;
             }
             let e = ends(s.centre, opposite(s.centre), radius);
             if e.refused() {

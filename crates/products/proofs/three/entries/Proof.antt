@@ -1,4 +1,4 @@
--- `products::three::entries` meets its contract. The loops over pairs keep the entry's sums so far, the outer ones the entries written and
+-- `products::three::entries` meets its contract. The loop over pairs keeps the entry's sums so far, the outer ones the entries written and
 -- that none of them was refused. A refused sum leaves all loops with the place of its entry.
 mod Loops
 mod Reads
@@ -15,34 +15,33 @@ use Rattle.matrices.proofs.Fronts.{filled-none, filled-from}
 use Rattle.products.proofs.Writing.{stop-none}
 use Rattle.products.proofs.three.entries.Statement.{statement}
 use Rattle.products.proofs.three.entries.Tie as tie
-use Rattle.products.proofs.three.entries.Proof.Loops.{Inv-loop2, μ-loop2, Inv-loop3, μ-loop3, Inv-loop, μ-loop, Inv-search, μ-search}
+use Rattle.products.proofs.three.entries.Proof.Loops.{Inv-loop2, μ-loop2, Inv-loop, μ-loop, Inv-search, μ-search}
 use Rattle.products.proofs.three.entries.Proof.Reads.{mul-b, add-b, mul-x, add-x, mul-x-2, shared-slice-read-x, mul-v, shared-slice-read-v, mul-step, shared-slice-read-step}
-use Rattle.products.proofs.three.entries.Proof.Reads.{mul-u, add-u, mul-u-2, shared-slice-read-u, mul-w, add-w, mul-w-2, shared-slice-read-w}
 use Rattle.products.proofs.three.entries.Proof.Turns.{loop2-holds, adds-requires, step-requires, refused-requires, add-l, loop2-less, loop2-again, minus-tiny-requires}
-use Rattle.products.proofs.three.entries.Proof.Turns.{plus-negative-requires, is-none-requires, loop3-holds, adds-requires-2, outer-three-requires, is-none-requires-2, add-l-2, loop3-less, loop3-again}
-use Rattle.products.proofs.three.entries.Proof.Ends.{opposite-requires, ends-requires, refused-requires-2, lower-requires, mul-lo, slice-write-lo, upper-requires, mul-up}
+use Rattle.products.proofs.three.entries.Proof.Turns.{plus-negative-requires, is-none-requires}
+use Rattle.products.proofs.three.entries.Proof.Ends.{outer-requires, is-none-requires-2, opposite-requires, ends-requires, refused-requires-2, lower-requires, mul-lo, slice-write-lo, upper-requires, mul-up}
 use Rattle.products.proofs.three.entries.Proof.Ends.{slice-write-up, add-at, add-j, loop-less, loop-again}
 use Rattle.products.proofs.three.entries.Proof.Outs.{same-length, same-length-2, returns, same-length-3, same-length-4, returns-2, same-length-5, same-length-6, returns-3}
 use Rattle.products.proofs.three.entries.Proof.Outs.{same-length-7, same-length-8, returns-4, same-length-9, same-length-10, returns-5}
 
-search-holds : tie.Need-search-holds Inv-loop2 μ-loop2 Inv-loop3 μ-loop3 Inv-loop μ-loop Inv-search μ-search
+search-holds : tie.Need-search-holds Inv-loop2 μ-loop2 Inv-loop μ-loop Inv-search μ-search
 search-holds c = (omega arith, sym (zero-mul _), refl, stop-none _, filled-none _ _, filled-none _ _)
 
-loop-holds : tie.Need-loop-holds Inv-loop2 μ-loop2 Inv-loop3 μ-loop3 Inv-loop μ-loop Inv-search μ-search
+loop-holds : tie.Need-loop-holds Inv-loop2 μ-loop2 Inv-loop μ-loop Inv-search μ-search
 loop-holds c =
     let inv = c .before .search .inv in
     (omega arith, omega arith, inv .2, inv .3, record { long = refl; head = inv .4 .head; rest = refl }, record { long = refl; head = inv .5 .head; rest = refl })
 
-new-requires : tie.Need-new-requires Inv-loop2 μ-loop2 Inv-loop3 μ-loop3 Inv-loop μ-loop Inv-search μ-search
+new-requires : tie.Need-new-requires Inv-loop2 μ-loop2 Inv-loop μ-loop Inv-search μ-search
 new-requires c κs = search needs
 
-add-i : tie.Need-add-i Inv-loop2 μ-loop2 Inv-loop3 μ-loop3 Inv-loop μ-loop Inv-search μ-search
+add-i : tie.Need-add-i Inv-loop2 μ-loop2 Inv-loop μ-loop Inv-search μ-search
 add-i c = omega arith
 
-search-less : tie.Need-search-less Inv-loop2 μ-loop2 Inv-loop3 μ-loop3 Inv-loop μ-loop Inv-search μ-search
+search-less : tie.Need-search-less Inv-loop2 μ-loop2 Inv-loop μ-loop Inv-search μ-search
 search-less c = omega arith
 
-search-again : tie.Need-search-again Inv-loop2 μ-loop2 Inv-loop3 μ-loop3 Inv-loop μ-loop Inv-search μ-search
+search-again : tie.Need-search-again Inv-loop2 μ-loop2 Inv-loop μ-loop Inv-search μ-search
 search-again c =
     let s = c .before .before .before .search in
     let d = c .before .before .before .before .before .before .before .before .before .before .before .before .args in
@@ -56,8 +55,6 @@ entries-spec =
     (tie.spec
     Inv-loop2
     μ-loop2
-    Inv-loop3
-    μ-loop3
     Inv-loop
     μ-loop
     Inv-search
@@ -85,21 +82,8 @@ entries-spec =
     minus-tiny-requires
     plus-negative-requires
     is-none-requires
-    loop3-holds
-    mul-u
-    add-u
-    mul-u-2
-    shared-slice-read-u
-    mul-w
-    add-w
-    mul-w-2
-    shared-slice-read-w
-    adds-requires-2
-    outer-three-requires
+    outer-requires
     is-none-requires-2
-    add-l-2
-    loop3-less
-    loop3-again
     opposite-requires
     ends-requires
     refused-requires-2

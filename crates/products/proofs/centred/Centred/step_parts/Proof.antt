@@ -1,52 +1,23 @@
--- `Centred::step_parts` meets its contract: the products of what is read from the patterns are exact, and each sum takes its rounded product.
+-- `Centred::step_parts` meets its contract: the product of what is read from the patterns is exact, and each sum takes it, rounded.
 use borrow.Author.Needs.{needs}
 use Rattle.rounding.specs.Rounding.{down, up, negate}
 use Rattle.binary32.specs.Operations.{mul, with₂}
-use Rattle.binary32.specs.Order.{magnitudeOf}
-use Rattle.unpacked.specs.Number.{Holds}
 use Rattle.unpacked.specs.Exact.{Exactly}
 use Rattle.unpacked.proofs.Multiplying.{exactly-of}
 use Rattle.unpacked.proofs.RoundedProducts.{exactly-formed, down-exactly, up-exactly}
-use Rattle.products.proofs.Radii.{by-sizes, term-below}
+use Rattle.products.proofs.Continuing.{size-exactly}
 use Rattle.products.proofs.centred.Centred.step_parts.Statement.{statement}
 use Rattle.products.proofs.centred.Centred.step_parts.Tie as tie
 
--- the two products
-module _ (c : tie.After-times2) where
-  abbrev t : tie.After-times
-  t = c .before .before .before
-
-  abbrev m : tie.After-magnitude2
-  m = t .before .before .before
-
+module _ (c : tie.After-times) where
   abbrev s : tie.Start
-  s = m .before .before
+  s = c .before .before .before
 
-  first : Exactly (s .args .x) (s .args .y) (t .times .result)
-  first =
-      let y = t .before in
+  exact : Exactly (s .args .x) (s .args .y) (c .times .result)
+  exact =
+      let y = c .before in
       let x = y .before in
-      exactly-of _ _ (x .unpack .result) (y .unpack2 .result) (t .times .result) (x .unpack .ensures) (y .unpack2 .ensures) (t .times .ensures)
-
-  second : Exactly (m .before .magnitude .result) (m .magnitude2 .result) (c .times2 .result)
-  second =
-      let v = c .before in
-      let u = v .before in
-      exactly-of _ _ (u .unpack3 .result) (v .unpack4 .result) (c .times2 .result) (u .unpack3 .ensures) (v .unpack4 .ensures) (c .times2 .ensures)
-
--- what the radius gets
-grows : (c : tie.After-rounded-up) →
-    let a = s (c .before) .args in
-    Holds (negate (with₂ (mul up) (magnitudeOf (a .u)) (magnitudeOf (a .v)))) (c .rounded-up .result)
-grows c =
-    let n = m (c .before) in
-    by-sizes _ _ _ _ (c .rounded-up .result) (n .before .magnitude .ensures) (n .magnitude2 .ensures) (up-exactly (second (c .before)) (c .rounded-up .ensures))
-
-magnitude-requires : tie.Need-magnitude-requires
-magnitude-requires c κs = search needs
-
-magnitude-requires-2 : tie.Need-magnitude-requires-2
-magnitude-requires-2 c κs = search needs
+      exactly-of _ _ (x .unpack .result) (y .unpack2 .result) (c .times .result) (x .unpack .ensures) (y .unpack2 .ensures) (c .times .ensures)
 
 unpack-requires : tie.Need-unpack-requires
 unpack-requires c κs = search needs
@@ -57,67 +28,57 @@ unpack-requires-2 c κs = search needs
 times-requires : tie.Need-times-requires
 times-requires c κs = search needs
 
-unpack-requires-3 : tie.Need-unpack-requires-3
-unpack-requires-3 c κs = search needs
-
-unpack-requires-4 : tie.Need-unpack-requires-4
-unpack-requires-4 c κs = search needs
-
-times-requires-2 : tie.Need-times-requires-2
-times-requires-2 c κs = record { first = c .before .unpack3 .ensures .part; second = c .unpack4 .ensures .part }
+rounded-down-requires : tie.Need-rounded-down-requires
+rounded-down-requires c κs = exactly-formed (exact c)
 
 rounded-up-requires : tie.Need-rounded-up-requires
-rounded-up-requires c κs = exactly-formed (second c)
-
-plus-negative-requires : tie.Need-plus-negative-requires
-plus-negative-requires c κs =
-    let p = s (c .before) .pre in
-    (p .radius, grows c .part, p .below, term-below _ _ (c .rounded-up .result) (grows c))
-
-rounded-down-requires : tie.Need-rounded-down-requires
-rounded-down-requires c κs = exactly-formed (first (c .before .before))
+rounded-up-requires c κs = exactly-formed (exact (c .before))
 
 plus-down-requires : tie.Need-plus-down-requires
 plus-down-requires c κs =
-    let q = c .before .before .before in
-    (s q .pre .lower, down-exactly (first q) (c .rounded-down .ensures) .part)
-
-rounded-up-requires-2 : tie.Need-rounded-up-requires-2
-rounded-up-requires-2 c κs = exactly-formed (first (c .before .before .before .before))
+    let q = c .before .before in
+    (s q .pre .lower, down-exactly (exact q) (c .before .rounded-down .ensures) .part)
 
 plus-down-requires-2 : tie.Need-plus-down-requires-2
 plus-down-requires-2 c κs =
+    let q = c .before .before .before in
+    (s q .pre .opposed, up-exactly (exact q) (c .before .rounded-up .ensures) .part)
+
+size-down-requires : tie.Need-size-down-requires
+size-down-requires c κs =
+    let u = c .before .before in
+    (exactly-formed (exact (u .before .before)), u .before .rounded-down .ensures, u .rounded-up .ensures)
+
+plus-down-requires-3 : tie.Need-plus-down-requires-3
+plus-down-requires-3 c κs =
     let q = c .before .before .before .before .before in
-    (s q .pre .opposed, up-exactly (first q) (c .rounded-up2 .ensures) .part)
+    (s q .pre .radius, size-exactly _ _ _ _ (exact q) (c .size-down .ensures) .part)
 
 returns : tie.Need-returns
 returns c =
-    let d = c .before .before in
-    let n = d .before .before in
-    let q = n .before .before in
+    let z = c .before in
+    let o = z .before in
+    let l = o .before in
+    let u = l .before in
+    let q = u .before .before in
     let a = s q .args in
     record {
-      lower = d .plus-down .ensures (with₂ (mul down) (a .x) (a .y)) (down-exactly (first q) (d .before .rounded-down .ensures));
-      opposed = c .plus-down2 .ensures (negate (with₂ (mul up) (a .x) (a .y))) (up-exactly (first q) (c .before .rounded-up2 .ensures));
-      radius = n .plus-negative .ensures _ (grows (n .before));
+      lower = l .plus-down .ensures (with₂ (mul down) (a .x) (a .y)) (down-exactly (exact q) (u .before .rounded-down .ensures));
+      opposed = o .plus-down2 .ensures (negate (with₂ (mul up) (a .x) (a .y))) (up-exactly (exact q) (u .rounded-up .ensures));
+      radius = c .plus-down3 .ensures _ (size-exactly _ _ _ _ (exact q) (z .size-down .ensures));
     }
 
 pub step-parts-spec : {M : Type 1} → statement M
 step-parts-spec =
     tie.close
     (tie.spec
-    magnitude-requires
-    magnitude-requires-2
     unpack-requires
     unpack-requires-2
     times-requires
-    unpack-requires-3
-    unpack-requires-4
-    times-requires-2
-    rounded-up-requires
-    plus-negative-requires
     rounded-down-requires
+    rounded-up-requires
     plus-down-requires
-    rounded-up-requires-2
     plus-down-requires-2
+    size-down-requires
+    plus-down-requires-3
     returns)

@@ -19,7 +19,7 @@ sized : (c : tie.After-absolute) →
     Unpacked (magnitudeOf (x .before .args .x)) (c .absolute .result)
 sized c =
     let x = c .before .before .before .before in
-    absolute-unpacked (x .before .args .x) (x .unpack .result) (c .absolute .result) (x .before .pre .1) (x .unpack .ensures) (c .absolute .ensures)
+    absolute-unpacked (x .before .args .x) (x .unpack .result) (c .absolute .result) (x .before .pre .2) (x .unpack .ensures) (c .absolute .ensures)
 
 -- the two products
 module _ (c : tie.After-times2) where
@@ -77,8 +77,8 @@ rounded-up-requires c κs = exactly-formed (second c)
 
 plus-negative-requires : tie.Need-plus-negative-requires
 plus-negative-requires c κs =
-    let p = s (c .before) .pre .0 in
-    (p .radius, grows c .part, p .below, term-below _ _ (c .rounded-up .result) (grows c))
+    let p = s (c .before) .pre in
+    (p .0 .radius, grows c .part, p .1, term-below _ _ (c .rounded-up .result) (grows c))
 
 rounded-down-requires : tie.Need-rounded-down-requires
 rounded-down-requires c κs = exactly-formed (first (c .before .before))

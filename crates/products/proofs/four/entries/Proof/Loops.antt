@@ -1,14 +1,11 @@
 -- The loops of `products::four::entries`: their invariants, short names for what was passed, and the places that a turn reads and writes.
 use mathlib.Core.Path.{_≡_, _∙_}
-use mathlib.Core.List.{List}
 use mathlib.Core.Option.{Option}
 use Prim.Native.Nat.{ℕ, _+_, _-_, _*_, _≤_, _<_}
 use native.Mathlib.Omega.{arith}
-use lib.IntN.{negℤ}
 use lib.ListN.{length}
 use Rattle.enclosure.specs.Methods.{Range, four}
 use Rattle.products.specs.declared.sums.Place.the-variants.{Nowhere}
-use Rattle.unpacked.specs.Number.{worth}
 use Rattle.matrices.specs.Entries.{stopOf}
 use Rattle.products.specs.MidRad.{entryFrom}
 use Rattle.matrices.proofs.Fronts.{Filled}
@@ -16,7 +13,7 @@ use Rattle.refusals.proofs.SizeLaws.{small}
 use Rattle.matrices.proofs.Places.{below}
 use Rattle.products.proofs.Writing.{lowersOf, uppersOf}
 use Rattle.products.proofs.Ending.{places}
-use Rattle.products.proofs.FourEntry.{Spot, Read, MiddleSum, OuterSum}
+use Rattle.products.proofs.FourEntry.{Spot, Read, MiddleSum}
 use Rattle.products.proofs.four.entries.Tie as tie
 
 abbrev pub Inv-loop2 : tie.InvT-loop2
@@ -25,13 +22,6 @@ Inv-loop2 m k n ma ra mb rb wb lo up place₀ at i j s₀ l₀ place s l =
 
 abbrev pub μ-loop2 : tie.MeasureT-loop2
 μ-loop2 m k n ma ra mb rb wb lo up place₀ at i j s₀ l₀ place s l = k - l
-
-abbrev pub Inv-loop3 : tie.InvT-loop3
-Inv-loop3 m k n ma ra mb rb wb lo up place₀ at i j s radius₀ l₀ place radius l =
-    (l ≤ k) × (place ≡ Nowhere) × OuterSum (record { k = k; n = n; ma = ma; ra = ra; mb = mb; rb = rb; i = i; j = j }) (negℤ (worth (s .radius))) l radius
-
-abbrev pub μ-loop3 : tie.MeasureT-loop3
-μ-loop3 m k n ma ra mb rb wb lo up place₀ at i j s radius₀ l₀ place radius l = k - l
 
 abbrev pub Inv-loop : tie.InvT-loop
 Inv-loop m k n ma ra mb rb wb lo₀ up₀ place₀ at₀ i j₀ lo up place at j =
@@ -50,20 +40,17 @@ abbrev pub μ-search : tie.MeasureT-search
 μ-search m k n ma ra mb rb wb lo₀ up₀ place₀ at₀ i₀ lo up place at i = m - i
 
 -- ---- a turn of each loop, the outer loop's head, and the start
-abbrev pub In3 : Type 0
-In3 = tie.In-loop3 Inv-loop2 μ-loop2 Inv-loop3 μ-loop3 Inv-loop μ-loop Inv-search μ-search
-
 abbrev pub In2 : Type 0
-In2 = tie.In-loop2 Inv-loop2 μ-loop2 Inv-loop3 μ-loop3 Inv-loop μ-loop Inv-search μ-search
+In2 = tie.In-loop2 Inv-loop2 μ-loop2 Inv-loop μ-loop Inv-search μ-search
 
 abbrev pub In1 : Type 0
-In1 = tie.In-loop Inv-loop2 μ-loop2 Inv-loop3 μ-loop3 Inv-loop μ-loop Inv-search μ-search
+In1 = tie.In-loop Inv-loop2 μ-loop2 Inv-loop μ-loop Inv-search μ-search
 
 abbrev pub Head : Type 0
-Head = tie.At-search Inv-loop2 μ-loop2 Inv-loop3 μ-loop3 Inv-loop μ-loop Inv-search μ-search
+Head = tie.At-search Inv-loop2 μ-loop2 Inv-loop μ-loop Inv-search μ-search
 
 abbrev pub Begin : Type 0
-Begin = tie.Start Inv-loop2 μ-loop2 Inv-loop3 μ-loop3 Inv-loop μ-loop Inv-search μ-search
+Begin = tie.Start Inv-loop2 μ-loop2 Inv-loop μ-loop Inv-search μ-search
 
 abbrev pub begin : Head → Begin
 begin s = s .before .before .before .before .before .before .before .before
@@ -81,9 +68,6 @@ K s = begin s .args .k
 abbrev pub N : Head → ℕ
 N s = begin s .args .n
 
-abbrev pub WB : Head → List ℕ
-WB s = begin s .args .wb .now
-
 pub sizes : (s : Head) → (M s ≤ 32) × (K s ≤ 32) × (N s ≤ 32)
 sizes s = (begin s .pre .0 .rows, begin s .pre .0 .inner, begin s .pre .0 .columns)
 
@@ -97,18 +81,8 @@ spot h =
     record { k = a .k; n = a .n; ma = a .ma .now; ra = a .ra .now; mb = a .mb .now; rb = a .rb .now; i = head h .search .i; j = h .before .loop .j }
 
 -- what pair l of it reads
-pair : (h : In1) (l : ℕ) → l < K (head h) → Read (spot h) l (M (head h) * K (head h))
+pub pair : (h : In1) (l : ℕ) → l < K (head h) → Read (spot h) l (M (head h) * K (head h))
 pair h l m = places (M (head h)) (K (head h)) (N (head h)) _ _ l _ _ _ _ _ _ (begin (head h) .pre .0) (h .before .before .search-test .taken) (h .loop-test .taken) m
-
-abbrev pub Within : In1 → ℕ → Type 0
-Within h l = (spot h .i * K (head h) + l < 1024) × (l * N (head h) + spot h .j < 1024) × (l * N (head h) + spot h .j < length (WB (head h)))
-
-bounds : (h : In1) (l : ℕ) → l < K (head h) → Within h l
-bounds h l m =
-    let p = pair h l m in
-    let q = p .second in
-    let r = begin (head h) .pre .1 .long in
-    (p .small-first, p .small-second, omega arith)
 
 -- the same of the pair that an inner turn is at
 abbrev pub of₂ : In2 → In1
@@ -117,17 +91,11 @@ of₂ c = c .before .before .before
 pub pair₂ : (c : In2) → Read (spot (of₂ c)) (c .before .loop2 .l) (M (head (of₂ c)) * K (head (of₂ c)))
 pair₂ c = pair (of₂ c) _ (c .loop2-test .taken)
 
-pub bounds₂ : (c : In2) → Within (of₂ c) (c .before .loop2 .l)
-bounds₂ c = bounds (of₂ c) _ (c .loop2-test .taken)
-
-abbrev pub of₃ : In3 → In1
-of₃ c = c .before .before .before .before .before .before
-
-pub pair₃ : (c : In3) → Read (spot (of₃ c)) (c .before .loop3 .l) (M (head (of₃ c)) * K (head (of₃ c)))
-pair₃ c = pair (of₃ c) _ (c .loop3-test .taken)
-
-pub bounds₃ : (c : In3) → Within (of₃ c) (c .before .loop3 .l)
-bounds₃ c = bounds (of₃ c) _ (c .loop3-test .taken)
+pub bounds₂ : (c : In2) →
+    let p = spot (of₂ c) in
+    let l = c .before .loop2 .l in
+    (p .i * p .k + l < 1024) × (l * p .n + p .j < 1024)
+bounds₂ c = (pair₂ c .small-first, pair₂ c .small-second)
 
 -- a turn leaves the results as long as they were
 pub kept : (h : In1) → (length (h .before .loop .lo) ≡ length (begin (head h) .args .lo .now)) × (length (h .before .loop .up) ≡ length (begin (head h) .args .up .now))

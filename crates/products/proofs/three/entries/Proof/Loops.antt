@@ -3,11 +3,9 @@ use mathlib.Core.Path.{_≡_, _∙_}
 use mathlib.Core.Option.{none}
 use Prim.Native.Nat.{ℕ, _+_, _-_, _*_, _≤_, _<_}
 use native.Mathlib.Omega.{arith}
-use lib.IntN.{negℤ}
 use lib.ListN.{length}
 use Rattle.enclosure.specs.Methods.{three}
 use Rattle.products.specs.declared.sums.Place.the-variants.{Nowhere, At}
-use Rattle.unpacked.specs.Number.{worth}
 use Rattle.products.specs.MidRad.{entryFrom}
 use Rattle.matrices.specs.Entries.{stopOf}
 use Rattle.products.specs.Written.{Written}
@@ -16,7 +14,7 @@ use Rattle.refusals.proofs.SizeLaws.{small}
 use Rattle.matrices.proofs.Places.{below}
 use Rattle.products.proofs.Writing.{lowersOf, uppersOf, written-at}
 use Rattle.products.proofs.Ending.{places}
-use Rattle.products.proofs.FourEntry.{Spot, Read, entryBy, OuterSum}
+use Rattle.products.proofs.FourEntry.{Spot, Read, entryBy}
 use Rattle.products.proofs.ThreeSteps.{FirstSum}
 use Rattle.products.proofs.three.entries.Tie as tie
 
@@ -26,13 +24,6 @@ Inv-loop2 m k n ma ra mb rb vb wb lo up place₀ at i j s₀ l₀ place s l =
 
 abbrev pub μ-loop2 : tie.MeasureT-loop2
 μ-loop2 m k n ma ra mb rb vb wb lo up place₀ at i j s₀ l₀ place s l = k - l
-
-abbrev pub Inv-loop3 : tie.InvT-loop3
-Inv-loop3 m k n ma ra mb rb vb wb lo up place₀ at i j s radius₀ l₀ place radius l =
-    (l ≤ k) × (place ≡ Nowhere) × OuterSum (record { k = k; n = n; ma = ma; ra = ra; mb = mb; rb = rb; i = i; j = j }) (negℤ (worth radius₀)) l radius
-
-abbrev pub μ-loop3 : tie.MeasureT-loop3
-μ-loop3 m k n ma ra mb rb vb wb lo up place₀ at i j s radius₀ l₀ place radius l = k - l
 
 abbrev pub Inv-loop : tie.InvT-loop
 Inv-loop m k n ma ra mb rb vb wb lo₀ up₀ place₀ at₀ i j₀ lo up place at j =
@@ -51,23 +42,17 @@ abbrev pub μ-search : tie.MeasureT-search
 μ-search m k n ma ra mb rb vb wb lo₀ up₀ place₀ at₀ i₀ lo up place at i = m - i
 
 -- ---- a turn of each loop, the outer loop's head, and the start
-abbrev pub In3 : Type 0
-In3 = tie.In-loop3 Inv-loop2 μ-loop2 Inv-loop3 μ-loop3 Inv-loop μ-loop Inv-search μ-search
-
 abbrev pub In2 : Type 0
-In2 = tie.In-loop2 Inv-loop2 μ-loop2 Inv-loop3 μ-loop3 Inv-loop μ-loop Inv-search μ-search
+In2 = tie.In-loop2 Inv-loop2 μ-loop2 Inv-loop μ-loop Inv-search μ-search
 
 abbrev pub In1 : Type 0
-In1 = tie.In-loop Inv-loop2 μ-loop2 Inv-loop3 μ-loop3 Inv-loop μ-loop Inv-search μ-search
+In1 = tie.In-loop Inv-loop2 μ-loop2 Inv-loop μ-loop Inv-search μ-search
 
 abbrev pub Head : Type 0
-Head = tie.At-search Inv-loop2 μ-loop2 Inv-loop3 μ-loop3 Inv-loop μ-loop Inv-search μ-search
+Head = tie.At-search Inv-loop2 μ-loop2 Inv-loop μ-loop Inv-search μ-search
 
 abbrev pub Begin : Type 0
-Begin = tie.Start Inv-loop2 μ-loop2 Inv-loop3 μ-loop3 Inv-loop μ-loop Inv-search μ-search
-
-abbrev pub one3 : In3 → In1
-one3 c = c .before .before .before .before .before .before .before .before .before
+Begin = tie.Start Inv-loop2 μ-loop2 Inv-loop μ-loop Inv-search μ-search
 
 abbrev pub one2 : In2 → In1
 one2 c = c .before .before .before
@@ -99,15 +84,14 @@ abbrev pub Bounds : In1 → ℕ → Type 0
 Bounds h l =
     let a = start h .args in
     let q = l * spot h .n + spot h .j in
-    (spot h .i * spot h .k + l < 1024) × (q < 1024) × (q < length (a .vb .now)) × (q < length (a .wb .now))
+    (spot h .i * spot h .k + l < 1024) × (q < 1024) × (q < length (a .vb .now))
 
 pub bounds : (h : In1) (l : ℕ) → l < spot h .k → Bounds h l
 bounds h l m =
     let p = pair h l m in
     let q = p .second in
     let v = start h .pre .1 .long in
-    let w = start h .pre .2 .long in
-    (p .small-first, p .small-second, omega arith, omega arith)
+    (p .small-first, p .small-second, omega arith)
 
 -- it leaves the results as long as they were
 pub kept : (h : In1) → (length (h .before .loop .lo) ≡ length (start h .args .lo .now)) × (length (h .before .loop .up) ≡ length (start h .args .up .now))

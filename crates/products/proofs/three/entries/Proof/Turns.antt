@@ -1,41 +1,37 @@
--- The turns of the two loops over pairs of `products::three::entries`: what they call, what the sums are then, and that the invariants go on.
+-- The turns of the loop over pairs of `products::three::entries`: what they call, what the sums are then, and that the invariants go on; then the radius with 2^-125.
 use mathlib.Core.Path.{_≡_, sym, _∙_, subst}
 use mathlib.Core.Logic.{⊎-elim}
 use Prim.Native.Nat.{_+_, _*_}
 use native.Mathlib.Omega.{arith}
 use borrow.Author.Needs.{needs}
-use lib.IntN.{negℤ}
 use lib.ListN.{getD}
 use Rattle.binary32.specs.Number.{valueOf, held}
-use Rattle.unpacked.specs.Number.{worth}
-use Rattle.products.specs.Derived.{outerOf, raisedOf, factorOf}
+use Rattle.products.specs.Derived.{raisedOf, factorOf}
 use Rattle.products.proofs.NearestSteps.{tiny-holds, tiny-below}
-use Rattle.products.proofs.FourEntry.{b-mid, b-rad, OuterSum, OuterNext, outer-start, outer-number, outer-next, outer-more, outer-skip}
-use Rattle.products.proofs.ThreeSteps.{FirstSum, FirstNext, first-start, first-numbers, first-next, first-more, first-skip, TinyNext, TinySum, tiny-next, tiny-sum, tiny-number}
+use Rattle.products.proofs.FourEntry.{b-mid, b-rad}
+use Rattle.products.proofs.ThreeSteps.{FirstSum, FirstNext, first-start, first-numbers, first-next, first-more, first-skip, TinyNext, TinySum, tiny-next, tiny-sum}
 use Rattle.products.proofs.three.entries.Tie as tie
-use Rattle.products.proofs.three.entries.Proof.Loops.{Inv-loop2, μ-loop2, Inv-loop3, μ-loop3, Inv-loop, μ-loop, Inv-search, μ-search, In1, In2, In3, one2, one3, start, spot}
-use Rattle.products.proofs.three.entries.Proof.Reads.{pair2, bounds2, pair3, bounds3}
+use Rattle.products.proofs.three.entries.Proof.Loops.{Inv-loop2, μ-loop2, Inv-loop, μ-loop, Inv-search, μ-search, In1, In2, one2, start, spot}
+use Rattle.products.proofs.three.entries.Proof.Reads.{pair2, bounds2}
 
--- ---- the first loop
-
-pub loop2-holds : tie.Need-loop2-holds Inv-loop2 μ-loop2 Inv-loop3 μ-loop3 Inv-loop μ-loop Inv-search μ-search
+pub loop2-holds : tie.Need-loop2-holds Inv-loop2 μ-loop2 Inv-loop μ-loop Inv-search μ-search
 loop2-holds c = (omega arith, c .before .before .loop .inv .2, subst (FirstSum (spot (c .before)) 0) (sym (c .new .ensures)) (first-start (spot (c .before))))
 
-pub adds-requires : tie.Need-adds-requires Inv-loop2 μ-loop2 Inv-loop3 μ-loop3 Inv-loop μ-loop Inv-search μ-search
+pub adds-requires : tie.Need-adds-requires Inv-loop2 μ-loop2 Inv-loop μ-loop Inv-search μ-search
 adds-requires c κs = search needs
 
-pub step-requires : tie.Need-step-requires Inv-loop2 μ-loop2 Inv-loop3 μ-loop3 Inv-loop μ-loop Inv-search μ-search
+pub step-requires : tie.Need-step-requires Inv-loop2 μ-loop2 Inv-loop μ-loop Inv-search μ-search
 step-requires c κs =
     let t : In2 = c .before .before .before .before .before in
     (first-numbers (spot (one2 t)) _ _ (t .before .loop2 .inv .2), pair2 t .cell-first .mid)
 
-pub refused-requires : tie.Need-refused-requires Inv-loop2 μ-loop2 Inv-loop3 μ-loop3 Inv-loop μ-loop Inv-search μ-search
+pub refused-requires : tie.Need-refused-requires Inv-loop2 μ-loop2 Inv-loop μ-loop Inv-search μ-search
 refused-requires c κs = search needs
 
-pub add-l : tie.Need-add-l Inv-loop2 μ-loop2 Inv-loop3 μ-loop3 Inv-loop μ-loop Inv-search μ-search
+pub add-l : tie.Need-add-l Inv-loop2 μ-loop2 Inv-loop μ-loop Inv-search μ-search
 add-l c = omega (arith, bounds2 (c .before .before .before .before))
 
-pub loop2-less : tie.Need-loop2-less Inv-loop2 μ-loop2 Inv-loop3 μ-loop3 Inv-loop μ-loop Inv-search μ-search
+pub loop2-less : tie.Need-loop2-less Inv-loop2 μ-loop2 Inv-loop μ-loop Inv-search μ-search
 loop2-less c = omega (arith, (c .before .before .before .before) .loop2-test .taken)
 
 -- what is read of vb holds rB'
@@ -46,7 +42,7 @@ scaled : (t : In2) →
 scaled t = start (one2 t) .pre .1 .each _ (pair2 t .second)
 
 -- the sums after a step, each a number or none
-pub first-after : (c : tie.After-step Inv-loop2 μ-loop2 Inv-loop3 μ-loop3 Inv-loop μ-loop Inv-search μ-search) →
+pub first-after : (c : tie.After-step Inv-loop2 μ-loop2 Inv-loop μ-loop Inv-search μ-search) →
     let t : In2 = c .before .before .before .before .before .before in
     FirstNext (spot (one2 t)) (t .before .loop2 .l) (c .step .result)
 first-after c =
@@ -55,7 +51,7 @@ first-after c =
     first-next (spot (one2 t)) (o .l) _ _ (o .s) (c .step .result) (pair2 t) (o .inv .2) (scaled t) (c .step .ensures)
 
 -- the sums after a turn, by a step or with a pair passed over
-first-turn : (c : tie.Joined1 Inv-loop2 μ-loop2 Inv-loop3 μ-loop3 Inv-loop μ-loop Inv-search μ-search) →
+first-turn : (c : tie.Joined1 Inv-loop2 μ-loop2 Inv-loop μ-loop Inv-search μ-search) →
     let t : In2 = c .before .before .before .before in
     FirstSum (spot (one2 t)) (t .before .loop2 .l + 1) (c .if1 .s)
 first-turn c =
@@ -67,12 +63,12 @@ first-turn c =
     (λ w. subst (FirstSum p (o .l + 1)) (sym (w .1)) (first-skip p (o .l) _ (o .s) (o .inv .2) (scaled t) (sym (c .before .adds .ensures) ∙ w .0 .left)))
     (c .if1 .came)
 
-pub loop2-again : tie.Need-loop2-again Inv-loop2 μ-loop2 Inv-loop3 μ-loop3 Inv-loop μ-loop Inv-search μ-search
+pub loop2-again : tie.Need-loop2-again Inv-loop2 μ-loop2 Inv-loop μ-loop Inv-search μ-search
 loop2-again c = (omega (arith, (c .before .before .before .before) .loop2-test .taken), (c .before .before .before .before) .before .loop2 .inv .1, first-turn c)
 
--- ---- between the loops: all pairs, and 2^-125 more
+-- ---- after the loop: all pairs, and 2^-125 more
 abbrev pub Out2 : Type 0
-Out2 = tie.After-loop2 Inv-loop2 μ-loop2 Inv-loop3 μ-loop3 Inv-loop μ-loop Inv-search μ-search
+Out2 = tie.After-loop2 Inv-loop2 μ-loop2 Inv-loop μ-loop Inv-search μ-search
 
 pub first-all : (c : Out2) → FirstSum (spot (c .before .before .before)) (spot (c .before .before .before) .k) (c .before .loop2 .s)
 first-all c =
@@ -80,84 +76,26 @@ first-all c =
     let all : c .before .loop2 .l ≡ spot h .k = omega arith in
     subst (λ l. FirstSum (spot h) l (c .before .loop2 .s)) all (c .before .loop2 .inv .2)
 
-pub tiny-after : (c : tie.After-plus-negative Inv-loop2 μ-loop2 Inv-loop3 μ-loop3 Inv-loop μ-loop Inv-search μ-search) →
+pub tiny-after : (c : tie.After-plus-negative Inv-loop2 μ-loop2 Inv-loop μ-loop Inv-search μ-search) →
     let h : In1 = c .before .before .before .before .before in
     TinyNext (spot h) (c .plus-negative .result)
 tiny-after c =
     let t : Out2 = c .before .before in
     tiny-next (spot (t .before .before .before)) (t .before .loop2 .s) (c .before .minus-tiny .result) (c .plus-negative .result) (first-all t) (c .before .minus-tiny .ensures) (c .plus-negative .ensures)
 
-pub tiny-all : (c : tie.Else3 Inv-loop2 μ-loop2 Inv-loop3 μ-loop3 Inv-loop μ-loop Inv-search μ-search) →
+pub tiny-all : (c : tie.Else3 Inv-loop2 μ-loop2 Inv-loop μ-loop Inv-search μ-search) →
     let h : In1 = c .before .before .before .before .before .before .before in
     TinySum (spot h) (c .before .before .plus-negative .result)
 tiny-all c = tiny-sum (spot (c .before .before .before .before .before .before .before)) _ (tiny-after (c .before .before)) (sym (c .before .is-none .ensures) ∙ c .if3 .left)
 
-pub minus-tiny-requires : tie.Need-minus-tiny-requires Inv-loop2 μ-loop2 Inv-loop3 μ-loop3 Inv-loop μ-loop Inv-search μ-search
+pub minus-tiny-requires : tie.Need-minus-tiny-requires Inv-loop2 μ-loop2 Inv-loop μ-loop Inv-search μ-search
 minus-tiny-requires c κs = search needs
 
-pub plus-negative-requires : tie.Need-plus-negative-requires Inv-loop2 μ-loop2 Inv-loop3 μ-loop3 Inv-loop μ-loop Inv-search μ-search
+pub plus-negative-requires : tie.Need-plus-negative-requires Inv-loop2 μ-loop2 Inv-loop μ-loop Inv-search μ-search
 plus-negative-requires c κs =
     let n = first-numbers (spot (c .before .before .before .before)) _ _ (c .before .before .loop2 .inv .2) in
     let t = c .minus-tiny in
     (n .radius, tiny-holds (t .result) (t .ensures) .part, n .below, tiny-below (t .result) (t .ensures))
 
-pub is-none-requires : tie.Need-is-none-requires Inv-loop2 μ-loop2 Inv-loop3 μ-loop3 Inv-loop μ-loop Inv-search μ-search
+pub is-none-requires : tie.Need-is-none-requires Inv-loop2 μ-loop2 Inv-loop μ-loop Inv-search μ-search
 is-none-requires c κs = search needs
-
-pub loop3-holds : tie.Need-loop3-holds Inv-loop2 μ-loop2 Inv-loop3 μ-loop3 Inv-loop μ-loop Inv-search μ-search
-loop3-holds c =
-    let h : In1 = c .before .before .before .before .before .before .before in
-    let t = tiny-number (spot h) _ (tiny-all c) in
-    (omega arith, c .before .before .before .before .before .loop2 .inv .1, outer-start (spot h) _ (t .0) (t .1))
-
--- ---- the second loop
-
-pub adds-requires-2 : tie.Need-adds-requires-2 Inv-loop2 μ-loop2 Inv-loop3 μ-loop3 Inv-loop μ-loop Inv-search μ-search
-adds-requires-2 c κs = search needs
-
-pub outer-three-requires : tie.Need-outer-three-requires Inv-loop2 μ-loop2 Inv-loop3 μ-loop3 Inv-loop μ-loop Inv-search μ-search
-outer-three-requires c κs =
-    let t : In3 = c .before .before .before .before in
-    outer-number (spot (one3 t)) _ _ _ (t .before .loop3 .inv .2)
-
-pub is-none-requires-2 : tie.Need-is-none-requires-2 Inv-loop2 μ-loop2 Inv-loop3 μ-loop3 Inv-loop μ-loop Inv-search μ-search
-is-none-requires-2 c κs = search needs
-
-pub add-l-2 : tie.Need-add-l-2 Inv-loop2 μ-loop2 Inv-loop3 μ-loop3 Inv-loop μ-loop Inv-search μ-search
-add-l-2 c = omega (arith, bounds3 (c .before .before .before .before))
-
-pub loop3-less : tie.Need-loop3-less Inv-loop2 μ-loop2 Inv-loop3 μ-loop3 Inv-loop μ-loop Inv-search μ-search
-loop3-less c = omega (arith, (c .before .before .before .before) .loop3-test .taken)
-
--- what is read of wb holds |mB| + rB
-wide : (t : In3) →
-    let p = spot (one3 t) in
-    let l = t .before .loop3 .l in
-    held (getD (start (one3 t) .args .wb .now) (l * p .n + p .j) 0) ≡ outerOf (valueOf (b-mid p l)) (valueOf (b-rad p l))
-wide t = start (one3 t) .pre .2 .each _ (pair3 t .second)
-
--- the radius after a term more, a number or none
-pub outer-after : (c : tie.After-outer-three Inv-loop2 μ-loop2 Inv-loop3 μ-loop3 Inv-loop μ-loop Inv-search μ-search) →
-    let t : In3 = c .before .before .before .before .before in
-    OuterNext (spot (one3 t)) (negℤ (worth (t .before .before .before .before .plus-negative .result))) (t .before .loop3 .l) (c .outer-three .result)
-outer-after c =
-    let t : In3 = c .before .before .before .before .before in
-    let o = t .before .loop3 in
-    outer-next (spot (one3 t)) (o .l) _ _ _ (o .radius) (c .outer-three .result) (pair3 t) (o .inv .2) (wide t) (c .outer-three .ensures)
-
--- the radius after a turn, with a term more or a pair passed over
-outer-turn : (c : tie.Joined4 Inv-loop2 μ-loop2 Inv-loop3 μ-loop3 Inv-loop μ-loop Inv-search μ-search) →
-    let t : In3 = c .before .before .before .before in
-    OuterSum (spot (one3 t)) (negℤ (worth (t .before .before .before .before .plus-negative .result))) (t .before .loop3 .l + 1) (c .if4 .radius)
-outer-turn c =
-    let t : In3 = c .before .before .before .before in
-    let p = spot (one3 t) in
-    let v = negℤ (worth (t .before .before .before .before .plus-negative .result)) in
-    let o = t .before .loop3 in
-    ⊎-elim {C = OuterSum p v (o .l + 1) (c .if4 .radius)}
-    (λ w. subst (OuterSum p v (o .l + 1)) (sym (w .4)) (outer-more p v (o .l) _ (outer-next p (o .l) _ _ v (o .radius) _ (pair3 t) (o .inv .2) (wide t) (w .1 .ensures)) (sym (w .2 .ensures) ∙ w .3 .left)))
-    (λ w. subst (OuterSum p v (o .l + 1)) (sym (w .1)) (outer-skip p (o .l) _ v (o .radius) (o .inv .2) (wide t) (sym (c .before .adds2 .ensures) ∙ w .0 .left)))
-    (c .if4 .came)
-
-pub loop3-again : tie.Need-loop3-again Inv-loop2 μ-loop2 Inv-loop3 μ-loop3 Inv-loop μ-loop Inv-search μ-search
-loop3-again c = (omega (arith, (c .before .before .before .before) .loop3-test .taken), (c .before .before .before .before) .before .loop3 .inv .1, outer-turn c)

@@ -1,4 +1,4 @@
--- `products::radius::outer_three` meets its contract: the product of what is read from the magnitudes is exact, and the radius takes it, rounded up.
+-- `products::radius::grown` meets its contract: the product of what is read from the magnitudes is exact, and the radius takes it, rounded up.
 use borrow.Author.Needs.{needs}
 use Rattle.rounding.specs.Rounding.{up, negate}
 use Rattle.binary32.specs.Operations.{mul, with₂}
@@ -8,8 +8,8 @@ use Rattle.unpacked.specs.Exact.{Exactly}
 use Rattle.unpacked.proofs.Multiplying.{exactly-of}
 use Rattle.unpacked.proofs.RoundedProducts.{exactly-formed, up-exactly}
 use Rattle.products.proofs.Radii.{by-sizes, term-below}
-use Rattle.products.proofs.radius.outer_three.Statement.{statement}
-use Rattle.products.proofs.radius.outer_three.Tie as tie
+use Rattle.products.proofs.radius.grown.Statement.{statement}
+use Rattle.products.proofs.radius.grown.Tie as tie
 
 abbrev start : tie.After-rounded-up → tie.Start
 start c = c .before .before .before .before .before .before
@@ -51,8 +51,8 @@ plus-negative-requires c κs =
 returns : tie.Need-returns
 returns c = c .plus-negative .ensures _ (grows (c .before))
 
-pub outer-three-spec : {M : Type 1} → statement M
-outer-three-spec =
+pub grown-spec : {M : Type 1} → statement M
+grown-spec =
     tie.close
     (tie.spec
     magnitude-requires
