@@ -12,7 +12,6 @@ pub mod DirectedLaws
 pub mod Nearest
 pub mod NearestLaws
 pub mod Error
-pub mod Spacing
 -- bit patterns, and what a machine computes
 pub mod Pattern
 pub mod Encoding
