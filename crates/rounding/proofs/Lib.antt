@@ -1,6 +1,7 @@
 -- magnitudes N / D: the grid of numbers, the brackets lo and hi, the nearest nr
 pub mod Compare
 pub mod Grid
+pub mod Spacing
 pub mod Bracket
 pub mod Closest
 pub mod Ties
