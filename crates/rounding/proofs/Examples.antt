@@ -30,7 +30,7 @@ unfoldable pub cases : List Case
 cases =
     -- 1 + 3 × 2^-24, nearest: the even fraction, 1 + 2^-22
     of32 near 1 (pos (units binary32 + 3 * 2 ^ 125)) (some (pos (units binary32 + 2 ^ 127)))
-    -- MAX + 2^103 less one unit, and minus MAX - 2^103: nearest
+    -- MAX + 2^103 less one unit, and -MAX - 2^103: nearest
     ∷ of32 near 1 (pos (max + 2 ^ 252 - 1)) (some (pos max))
     ∷ of32 near 1 (negℤ (pos (max + 2 ^ 252))) none
     -- -MAX - MAX
