@@ -1,14 +1,13 @@
 -- Laws of the absolute value.
-use mathlib.Core.Path.{_≡_, refl, sym, _∙_, ap}
+use mathlib.Core.Path.{_≡_, refl, sym, ap}
 use mathlib.Core.List.{[], _∷_}
 use mathlib.Core.Logic.{_⊎_, inl, inr, ⊎-elim}
 use Prim.Native.Nat.{zero, suc, _+_, _*_, _≤_}
 use native.Mathlib.Omega.{arith}
-use lib.IntN.{ℤ, pos, negsuc, negℤ, natAbs, _+ℤ_, _*ℤ_, _-ℤ_}
+use lib.IntN.{ℤ, pos, negsuc, negℤ, natAbs, _+ℤ_, _*ℤ_}
 use lib.Signed.{leZ-yes, ltZ-yes}
 use Rattle.algebra.specs.Order.{_≼_, _≺_}
 use Rattle.algebra.specs.Absolute.{abs}
-use Rattle.algebra.proofs.Reading.{by-ring}
 use Rattle.algebra.proofs.Linear.{reading, le, eq, lin-le}
 use Rattle.algebra.proofs.Order.{≼-refl, ≼-of-≡, nonneg, add-mono}
 use Rattle.algebra.proofs.Natural.{to-le}
@@ -47,11 +46,6 @@ abs-mul (pos a) (pos b) = refl
 abs-mul (pos a) (negsuc b) = abs-neg (pos (a * suc b))
 abs-mul (negsuc a) (pos b) = abs-neg (pos (suc a * b))
 abs-mul (negsuc a) (negsuc b) = refl
-
-pub abs-sub-swap : (x y : ℤ) → abs (x -ℤ y) ≡ abs (y -ℤ x)
-abs-sub-swap x y =
-    let e : x -ℤ y ≡ negℤ (y -ℤ x) = by-ring (x ∷ y ∷ []) (search reading depth 14) tt in
-    ap abs e ∙ abs-neg (y -ℤ x)
 
 -- as naturals
 pub natAbs-add : (x y : ℤ) → natAbs (x +ℤ y) ≤ natAbs x + natAbs y

@@ -1,13 +1,13 @@
 -- Laws of the lesser and the greater of two integers.
-use mathlib.Core.Path.{_≡_, refl, sym, ap, _∙_}
+use mathlib.Core.Path.{_≡_, refl, sym}
 use mathlib.Core.Logic.{⊎-elim}
 use mathlib.Core.Bool.{Bool, true, false, not, cond}
 use lib.Dec.{T, T-not}
 use lib.IntN.{ℤ}
 use lib.Signed.{leZ, leZ-yes}
-use Rattle.algebra.specs.Order.{_≼_, _≺_}
+use Rattle.algebra.specs.Order.{_≼_}
 use Rattle.algebra.specs.Extremes.{minℤ, maxℤ}
-use Rattle.algebra.proofs.Order.{≼-trans, ≼-antisym, ≼-of-≡, ≼-of-≺, ≼-or-≺}
+use Rattle.algebra.proofs.Order.{≼-trans, ≼-of-≡, ≼-of-≺, ≼-or-≺}
 
 leZ-no : (a b : ℤ) → T (not (leZ a b)) → b ≼ a
 leZ-no a b t = ⊎-elim (λ h. absurd (T-not (leZ a b) t (h .le))) ≼-of-≺ (≼-or-≺ a b)
@@ -46,23 +46,3 @@ pub ≼-min : {a b c : ℤ} → c ≼ a → c ≼ b → c ≼ minℤ a b
 
 pub max-≼ : {a b c : ℤ} → a ≼ c → b ≼ c → maxℤ a b ≼ c
 max-≼ {a} {b} h k = max-split a b (λ p e. ≼-trans (≼-of-≡ e) k) (λ p e. ≼-trans (≼-of-≡ e) h)
-
--- ---- an operation that keeps the order keeps the lesser and the greater
-min-left : {a b : ℤ} → a ≼ b → minℤ a b ≡ a
-min-left {a} {b} h = min-split a b (λ g e. e) (λ g e. e ∙ ≼-antisym g h)
-
-min-right : {a b : ℤ} → b ≼ a → minℤ a b ≡ b
-min-right {a} {b} h = min-split a b (λ g e. e ∙ ≼-antisym g h) (λ g e. e)
-
-max-left : {a b : ℤ} → b ≼ a → maxℤ a b ≡ a
-max-left {a} {b} h = max-split a b (λ g e. e ∙ ≼-antisym h g) (λ g e. e)
-
-max-right : {a b : ℤ} → a ≼ b → maxℤ a b ≡ b
-max-right {a} {b} h = max-split a b (λ g e. e) (λ g e. e ∙ ≼-antisym h g)
-
-module _ (f : ℤ → ℤ) (mono : (a b : ℤ) → a ≼ b → f a ≼ f b) where
-  pub min-map : (a b : ℤ) → f (minℤ a b) ≡ minℤ (f a) (f b)
-  min-map a b = min-split a b (λ h e. ap f e ∙ sym (min-left (mono _ _ h))) (λ h e. ap f e ∙ sym (min-right (mono _ _ h)))
-
-  pub max-map : (a b : ℤ) → f (maxℤ a b) ≡ maxℤ (f a) (f b)
-  max-map a b = max-split a b (λ h e. ap f e ∙ sym (max-right (mono _ _ h))) (λ h e. ap f e ∙ sym (max-left (mono _ _ h)))

@@ -11,10 +11,6 @@ pub mod Extremes
 pub mod Floor
 pub mod Power
 pub mod Machine
-pub mod Certificate
-pub mod Products
 pub mod Sum
-pub mod ListSum
 pub mod Corner
-pub mod Examples
 pub mod Table

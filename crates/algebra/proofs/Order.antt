@@ -4,14 +4,14 @@ use mathlib.Core.Path.{_≡_, sym}
 use mathlib.Core.List.{[], _∷_}
 use mathlib.Core.Logic.{_⊎_, inl, inr, ⊎-elim}
 use mathlib.Core.Bool.{Bool, true, false, not}
-use Prim.Native.Nat.{ℕ, suc, _*_}
+use Prim.Native.Nat.{ℕ, _*_}
 use native.Mathlib.Omega.{arith}
-use lib.Dec.{T, T-prop, leb, nleb→lt}
+use lib.Dec.{T, leb, nleb→lt}
 use lib.IntN.{ℤ, pos, negsuc, negℤ, _+ℤ_, _*ℤ_, _-ℤ_}
-use lib.Signed.{leZ, leZ-yes, ltZ-yes}
+use lib.Signed.{leZ-yes, ltZ-yes}
 use Rattle.algebra.specs.Order.{_≼_, _≺_}
 use Rattle.algebra.proofs.SignParts.{parts-lt, parts-le}
-use Rattle.algebra.proofs.Linear.{reading, le, lt, eq, lin-le, lin-lt, lin-eq, lin-absurd}
+use Rattle.algebra.proofs.Linear.{reading, le, lt, eq, lin-le, lin-eq, lin-absurd}
 
 -- ---- order
 pub ≼-refl : (a : ℤ) → a ≼ a
@@ -28,9 +28,6 @@ pub ≼-of-≡ : {a b : ℤ} → a ≡ b → a ≼ b
 
 pub ≼-of-≺ : {a b : ℤ} → a ≺ b → a ≼ b
 ≼-of-≺ {a} {b} h = lin-le (a ∷ b ∷ []) (lt h ∷ []) (search reading depth 9) (omega arith)
-
-pub ≼-prop : {a b : ℤ} → IsProp (a ≼ b)
-≼-prop {a} {b} h k = λ i. record { le = T-prop (leZ a b) (h .le) (k .le) i }
 
 -- a case split: `⊎-elim (λ h. ..) (λ h. ..) (≼-or-≺ a b)`
 pub ≼-or-≺ : (a b : ℤ) → (a ≼ b) ⊎ (b ≺ a)
@@ -67,10 +64,6 @@ infixl 7 _⊠_
 pub _⊠_ : {a b c d : ℤ} → a ≼ b → c ≼ d → pos 0 ≼ (b -ℤ a) *ℤ (d -ℤ c)
 h ⊠ k = mul-nonneg (gap-nonneg h) (gap-nonneg k)
 
-pub sq-nonneg : (a : ℤ) → pos 0 ≼ a *ℤ a
-sq-nonneg (pos a) = nonneg (a * a)
-sq-nonneg (negsuc a) = nonneg (suc a * suc a)
-
 -- ---- monotony
 pub add-mono : {a b c d : ℤ} → a ≼ b → c ≼ d → a +ℤ c ≼ b +ℤ d
 add-mono {a} {b} {c} {d} h k = lin-le (a ∷ b ∷ c ∷ d ∷ []) (le h ∷ le k ∷ []) (search reading depth 12) (omega arith)
@@ -78,27 +71,15 @@ add-mono {a} {b} {c} {d} h k = lin-le (a ∷ b ∷ c ∷ d ∷ []) (le h ∷ le 
 pub neg-mono : {a b : ℤ} → a ≼ b → negℤ b ≼ negℤ a
 neg-mono {a} {b} h = lin-le (a ∷ b ∷ []) (le h ∷ []) (search reading depth 12) (omega arith)
 
-pub mul-mono-left : {a b c : ℤ} → pos 0 ≼ c → a ≼ b → c *ℤ a ≼ c *ℤ b
-mul-mono-left {a} {b} {c} p h = lin-le (a ∷ b ∷ c ∷ []) (le (p ⊠ h) ∷ []) (search reading depth 12) (omega arith)
-
 pub mul-mono-right : {a b c : ℤ} → pos 0 ≼ c → a ≼ b → a *ℤ c ≼ b *ℤ c
 mul-mono-right {a} {b} {c} p h = lin-le (a ∷ b ∷ c ∷ []) (le (p ⊠ h) ∷ []) (search reading depth 12) (omega arith)
-
-pub mul-mono : {a b c d : ℤ} → pos 0 ≼ a → pos 0 ≼ c → a ≼ b → c ≼ d → a *ℤ c ≼ b *ℤ d
-mul-mono {a} {b} {c} {d} p q h k = lin-le (a ∷ b ∷ c ∷ d ∷ []) (le (p ⊠ k) ∷ le (q ⊠ h) ∷ le (h ⊠ k) ∷ []) (search reading depth 14) (omega arith)
 
 -- ---- strict facts
 pub ≺-step : {a b : ℤ} → a ≺ b → a +ℤ pos 1 ≼ b
 ≺-step {a} {b} h = lin-le (a ∷ b ∷ []) (lt h ∷ []) (search reading depth 9) (omega arith)
 
-pub ≺-of-step : {a b : ℤ} → a +ℤ pos 1 ≼ b → a ≺ b
-≺-of-step {a} {b} h = lin-lt (a ∷ b ∷ []) (le h ∷ []) (search reading depth 9) (omega arith)
-
 pub not-≺ : {a b : ℤ} → a ≼ b → b ≺ a → ⊥
 not-≺ {a} {b} h k = lin-absurd (a ∷ b ∷ []) (le h ∷ lt k ∷ []) (search reading depth 9) (omega arith)
-
-pub mul-pos : {a b : ℤ} → pos 0 ≺ a → pos 0 ≺ b → pos 0 ≺ a *ℤ b
-mul-pos {a} {b} h k = lin-lt (a ∷ b ∷ []) (lt h ∷ lt k ∷ le (≺-step h ⊠ ≺-step k) ∷ []) (search reading depth 14) (omega arith)
 
 -- ---- a positive factor is cancelled
 pub cancel-le : {a b c : ℤ} → pos 0 ≺ c → c *ℤ a ≼ c *ℤ b → a ≼ b

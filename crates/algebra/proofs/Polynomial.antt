@@ -6,8 +6,8 @@ use mathlib.Core.List.{List, [], _∷_}
 use mathlib.Core.Bool.{Bool, true, false, _&&_}
 use Prim.Native.Nat.{ℕ, zero, suc}
 use lib.Dec.{T}
-use lib.IntN.{ℤ, pos, negsuc, negℤ, _+ℤ_, _*ℤ_, +ℤ-assoc, +ℤ-comm, +ℤ-idl, +ℤ-idr, negℤ-+ℤ, negℤ-negℤ, zero-*ℤ, *ℤ-zero}
-use Rattle.algebra.proofs.RingLaws.{swap4, add-mul, mul-add, mul-assoc, mul-left-comm, mul-neg, mul-one, neg-unique}
+use lib.IntN.{ℤ, pos, negsuc, negℤ, _+ℤ_, _*ℤ_, +ℤ-assoc, +ℤ-comm, +ℤ-idl, +ℤ-idr, negℤ-+ℤ, zero-*ℤ, *ℤ-zero}
+use Rattle.algebra.proofs.RingLaws.{swap4, add-mul, mul-add, mul-assoc, mul-left-comm, mul-neg, mul-one}
 
 -- ---- expressions
 pub data Expr : Type 0 where
@@ -184,7 +184,3 @@ pub nil-is : (p : Poly) (ρ : List ℤ) → T (nil? p) → ev p ρ ≡ pos 0
 nil-is (con k) ρ t = zero-is k t
 nil-is (p ▹ q) ρ t =
     ap₂ _+ℤ_ (nil-is p (tl ρ) (and-l (nil? p) (nil? q) t)) (ap (λ x. hd ρ *ℤ x) (nil-is q ρ (and-r (nil? p) (nil? q) t)) ∙ *ℤ-zero (hd ρ))
-
-pub ring : (ρ : List ℤ) (e f : Expr) → T (nil? (norm (e ⊕ ⊝ f))) → den e ρ ≡ den f ρ
-ring ρ e f t =
-    neg-unique (den e ρ) (negℤ (den f ρ)) (norm-sound (e ⊕ ⊝ f) ρ ∙ nil-is (norm (e ⊕ ⊝ f)) ρ t) ∙ negℤ-negℤ (den f ρ)

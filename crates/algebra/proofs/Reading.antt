@@ -1,31 +1,16 @@
 -- Reading an integer term back into an expression, for `search reading-terms depth n`, and `by-ring`, which proves an identity of two terms so read.
 use mathlib.Core.Path.{_≡_, refl, sym, _∙_, ap, ap₂}
 use mathlib.Core.List.{List, _∷_}
-use Prim.Native.Nat.{ℕ, zero, suc, _+_, _*_}
+use Prim.Native.Nat.{ℕ, suc, _+_, _*_}
 use lib.Dec.{T, leb}
 use lib.IntN.{ℤ, pos, negsuc, negℤ, _+ℤ_, _*ℤ_, _-ℤ_, +ℤ-one, negℤ-negℤ}
 use Rattle.algebra.proofs.RingLaws.{neg-unique}
-use Rattle.algebra.proofs.Polynomial.{Expr, var, lit, _⊕_, _⊗_, ⊝_, nth, den, Poly, ev, norm, norm-sound, nil?, nil-is}
+use Rattle.algebra.proofs.Polynomial.{Expr, var, lit, _⊕_, _⊗_, ⊝_, den, Poly, ev, norm, norm-sound, nil?, nil-is}
 
 -- ρ lists the atoms. Each node of the term is one lemma of the set; an atom is found by its place in ρ.
 pub record Read (ρ : List ℤ) (x : ℤ) : Type 0 where
   pub expr : Expr
   pub is : den expr ρ ≡ x
-
-pub data Place (x : ℤ) : List ℤ → Type 0 where
-  here : {ρ : List ℤ} → Place x (x ∷ ρ)
-  next : {y : ℤ} {ρ : List ℤ} → Place x ρ → Place x (y ∷ ρ)
-
-abbrev pub place : {x : ℤ} {ρ : List ℤ} → Place x ρ → ℕ
-place here = zero
-place (next p) = suc (place p)
-
-pub place-is : {x : ℤ} {ρ : List ℤ} (p : Place x ρ) → nth ρ (place p) ≡ x
-place-is here = refl
-place-is (next p) = place-is p
-
-abbrev pub read-atom : {ρ : List ℤ} {x : ℤ} → Place x ρ → Read ρ x
-read-atom p = record { expr = var (place p); is = place-is p }
 
 abbrev pub read-add : {ρ : List ℤ} (x y : ℤ) → Read ρ x → Read ρ y → Read ρ (x +ℤ y)
 read-add x y p q = record { expr = p .expr ⊕ q .expr; is = ap₂ _+ℤ_ (p .is) (q .is) }
@@ -104,10 +89,6 @@ at14 = record { expr = var 14; is = refl }
 abbrev pub at15 : {y0 y1 y2 y3 y4 y5 y6 y7 y8 y9 y10 y11 y12 y13 y14 : ℤ} {x : ℤ} {ρ : List ℤ} → Read (y0 ∷ y1 ∷ y2 ∷ y3 ∷ y4 ∷ y5 ∷ y6 ∷ y7 ∷ y8 ∷ y9 ∷ y10 ∷ y11 ∷ y12 ∷ y13 ∷ y14 ∷ x ∷ ρ) x
 at15 = record { expr = var 15; is = refl }
 
--- a term written as an expression, where it is too large for `search`: `read-both (term e) (term f)`
-abbrev pub term : {ρ : List ℤ} (e : Expr) → Read ρ (den e ρ)
-term e = record { expr = e; is = refl }
-
 -- two terms at once
 pub record Read₂ (ρ : List ℤ) (x y : ℤ) : Type 0 where
   pub lhs : Read ρ x
@@ -116,10 +97,8 @@ pub record Read₂ (ρ : List ℤ) (x y : ℤ) : Type 0 where
 abbrev pub read-both : {ρ : List ℤ} {x y : ℤ} → Read ρ x → Read ρ y → Read₂ ρ x y
 read-both p q = record { lhs = p; rhs = q }
 
--- `reading-terms` finds the first sixteen atoms at once. `reading-far` walks the list, and is slower
+-- one lemma for each node of a term, and for each of the first sixteen atoms
 pub ruleset reading-terms = (read-both, read-add, read-mul, read-neg, read-pos, passed, at0, at1, at2, at3, at4, at5, at6, at7, at8, at9, at10, at11, at12, at13, at14, at15, read-negsuc, read-pos-add, read-pos-mul, read-pos-suc)
-
-pub ruleset reading-far = (reading-terms, read-atom, Place.here, Place.next)
 
 -- y - x as a polynomial
 abbrev pub gap : {ρ : List ℤ} {x y : ℤ} → Read₂ ρ x y → Poly

@@ -143,10 +143,3 @@ nat-eq ρ {x} {y} r h = even (pp y) (nn y) (pp x) (nn x) (Up r) (Dn r) (balance 
   where
     even : (a b c d u v : ℕ) → a + d + v ≡ u + b + c → c ≡ a → d ≡ b → v ≡ u
     even a b c d u v e f g = omega arith
-
--- what a sum is, for `omega (arith, chains, add-parts a b)`
-pub add-parts : (a b : ℤ) → pp (a +ℤ b) + nn a + nn b ≡ pp a + pp b + nn (a +ℤ b)
-add-parts a b = balanced (a +ℤ b) a b refl
-  where
-    balanced : (c a b : ℤ) → c ≡ a +ℤ b → pp c + nn a + nn b ≡ pp a + pp b + nn c
-    balanced c a b e = omega (arith, nat-eq (c ∷ a ∷ b ∷ []) (search reading-terms depth 20) e)

@@ -1,6 +1,5 @@
 -- The two parts of an integer: x is pp x - nn x, one of the two being 0, so an order of integers is one of naturals.
--- With `chains` in its list `omega` reads every ≼, ≺ and ≡ between integers in scope by itself.
-use mathlib.Core.Path.{_≡_, refl, sym, _∙_, ap}
+use mathlib.Core.Path.{_≡_, refl}
 use Prim.Native.Nat.{ℕ, zero, suc, _+_, _≤_, _<_}
 use native.Mathlib.Omega.{arith}
 use lib.Dec.{leb→le, le→leb, ltb→lt, lt→ltb}
@@ -50,30 +49,7 @@ parts-lt (pos a) (negsuc b) h = absurd (no a b h)
 parts-lt (negsuc a) (pos b) h = ltZ-yes tt
 parts-lt (negsuc a) (negsuc b) h = ltZ-yes (lt→ltb b a (omega arith))
 
-pub eq-parts : (a b : ℤ) → a ≡ b → pp a + nn b ≡ pp b + nn a
-eq-parts a b e = ap (λ x. pp x + nn b) e ∙ ap (λ x. pp b + nn x) (sym e)
-
-pub parts-eq : (a b : ℤ) → pp a + nn b ≡ pp b + nn a → a ≡ b
-parts-eq (pos a) (pos b) h =
-    let e : a ≡ b = omega arith in
-    ap pos e
-parts-eq (pos a) (negsuc b) h = absurd (no a b h)
-  where
-    no : (a b : ℕ) → a + suc b ≡ 0 + 0 → ⊥
-    no a b h = omega arith
-parts-eq (negsuc a) (pos b) h = absurd (no a b h)
-  where
-    no : (a b : ℕ) → 0 + 0 ≡ b + suc a → ⊥
-    no a b h = omega arith
-parts-eq (negsuc a) (negsuc b) h =
-    let e : a ≡ b = omega arith in
-    ap negsuc e
-
 pub neg-parts : (a : ℤ) → (pp (negℤ a) ≡ nn a) × (nn (negℤ a) ≡ pp a)
 neg-parts (pos zero) = (refl, refl)
 neg-parts (pos (suc n)) = (refl, refl)
 neg-parts (negsuc n) = (refl, refl)
-
--- `omega (arith, chains)`: orders between terms that `omega` may take for atoms, with no list of atoms and no `search`.
--- A sum is then an atom too: hand over what it is, `omega (arith, chains, add-parts a b)` (Sides)
-pub ruleset chains = (le-parts, parts-le, lt-parts, parts-lt, eq-parts, parts-eq)

@@ -1,23 +1,13 @@
--- Laws of sums over an index: linear, monotone, and the absolute value of one is at most the sum of the absolute values.
-use mathlib.Core.Path.{_≡_, refl, sym, _∙_, ap, ap₂}
+-- Laws of sums over an index: they depend on the terms only, are linear, and grow with their terms.
+use mathlib.Core.Path.{_≡_, refl, sym, ap₂}
 use mathlib.Core.List.{[], _∷_}
 use Prim.Native.Nat.{ℕ, zero, suc, _<_}
 use native.Mathlib.Omega.{arith}
-use lib.IntN.{ℤ, pos, negℤ, _+ℤ_, _*ℤ_, zero-*ℤ, *ℤ-zero}
+use lib.IntN.{ℤ, pos, negℤ, _+ℤ_, _*ℤ_, *ℤ-zero}
 use Rattle.algebra.specs.Order.{_≼_}
-use Rattle.algebra.specs.Absolute.{abs}
 use Rattle.algebra.specs.Sum.{Σ<}
 use Rattle.algebra.proofs.Linear.{reading, eq, lin-eq}
-use Rattle.algebra.proofs.Order.{≼-refl, ≼-trans, add-mono}
-use Rattle.algebra.proofs.Absolute.{abs-add}
-
-pub Σ-zero : (f : ℕ → ℤ) → Σ< 0 f ≡ pos 0
-unfolding Σ<
-Σ-zero f = refl
-
-pub Σ-suc : (n : ℕ) (f : ℕ → ℤ) → Σ< (suc n) f ≡ Σ< n f +ℤ f n
-unfolding Σ<
-Σ-suc n f = refl
+use Rattle.algebra.proofs.Order.{≼-refl, add-mono}
 
 pub Σ-ext : (n : ℕ) (f g : ℕ → ℤ) → ((i : ℕ) → i < n → f i ≡ g i) → Σ< n f ≡ Σ< n g
 unfolding Σ<
@@ -43,19 +33,3 @@ pub Σ-mono : (n : ℕ) (f g : ℕ → ℤ) → ((i : ℕ) → i < n → f i ≼
 unfolding Σ<
 Σ-mono zero f g h = ≼-refl (pos 0)
 Σ-mono (suc n) f g h = add-mono (Σ-mono n f g (λ i l. h i (omega arith))) (h n (omega arith))
-
-pub Σ-abs : (n : ℕ) (f : ℕ → ℤ) → abs (Σ< n f) ≼ Σ< n (λ i. abs (f i))
-unfolding Σ<
-Σ-abs zero f = ≼-refl (pos 0)
-Σ-abs (suc n) f = ≼-trans (abs-add (Σ< n f) (f n)) (add-mono (Σ-abs n f) (≼-refl (abs (f n))))
-
-pub Σ-const : (n : ℕ) (c : ℤ) → Σ< n (λ i. c) ≡ pos n *ℤ c
-unfolding Σ<
-Σ-const zero c = sym (zero-*ℤ c)
-Σ-const (suc n) c = lin-eq (pos n ∷ c ∷ Σ< n (λ i. c) ∷ []) (eq (Σ-const n c) ∷ []) (search reading depth 20) (omega arith)
-
--- two sums change places
-pub Σ-swap : (m n : ℕ) (f : ℕ → ℕ → ℤ) → Σ< m (λ i. Σ< n (λ j. f i j)) ≡ Σ< n (λ j. Σ< m (λ i. f i j))
-unfolding Σ<
-Σ-swap zero n f = sym (Σ-const n (pos 0) ∙ *ℤ-zero (pos n))
-Σ-swap (suc m) n f = ap (λ x. x +ℤ Σ< n (λ j. f m j)) (Σ-swap m n f) ∙ sym (Σ-add n (λ j. Σ< m (λ i. f i j)) (λ j. f m j))

@@ -4,11 +4,10 @@ use mathlib.Core.Bool.{Bool, true, false}
 use Prim.Native.Nat.{ℕ, _%_, _^_, _≤_}
 use native.Mathlib.Omega.{arith}
 use lib.Dec.{T, leb}
-use lib.IntN.{ℤ, pos, negℤ}
+use lib.IntN.{pos, negℤ}
 use lib.Signed.{leZ, leZ-yes}
-use Rattle.algebra.specs.Order.{_≼_, _≺_}
-use Rattle.algebra.proofs.Linear.{le}
-use Rattle.algebra.proofs.Order.{≼-refl, not-≺}
+use Rattle.algebra.specs.Order.{_≼_}
+use Rattle.algebra.proofs.Order.{≼-refl}
 use Rattle.algebra.proofs.Natural.{of-le, to-le}
 use Rattle.rounding.specs.Format.{binary32}
 use Rattle.rounding.specs.Pattern.{val}
@@ -24,20 +23,6 @@ same-test true true f g = refl
 same-test true false f g = absurd (f tt)
 same-test false true f g = absurd (g tt)
 same-test false false f g = refl
-
-pub leZ-true : {x y : ℤ} → x ≼ y → leZ x y ≡ true
-leZ-true {x} {y} h = go (leZ x y) (h .le)
-  where
-    go : (t : Bool) → T t → t ≡ true
-    go true k = refl
-    go false k = absurd k
-
-pub leZ-false : {x y : ℤ} → y ≺ x → leZ x y ≡ false
-leZ-false {x} {y} h = go (leZ x y) (λ t. not-≺ (leZ-yes t) h)
-  where
-    go : (t : Bool) → (T t → ⊥) → t ≡ false
-    go true k = absurd (k tt)
-    go false k = refl
 
 -- ---- keys and values, for a change of magnitudes that keeps their order and zero
 signed-order : (s t : Bool) (m n M N : ℕ) → (m ≤ n → M ≤ N) → (n ≤ m → N ≤ M) → (m ≡ 0 → M ≡ 0) → (n ≡ 0 → N ≡ 0)

@@ -1,14 +1,14 @@
 -- Laws of what a caller in C is answered by reader, writer, product and conversions, from what these ensure. Assumes nothing.
 use mathlib.Core.Path.{_≡_, ap, subst, _∙_}
 use mathlib.Core.List.{List}
-use Prim.Native.Nat.{ℕ, _≤_}
+use Prim.Native.Nat.{ℕ}
 use Rattle.refusals.specs.declared.Refusal.{Refusal}
 use Rattle.refusals.specs.Refusal.{codeOf}
 use Rattle.refusals.specs.Answer.{Answer, gives, refuses, coded}
 use Rattle.refusals.proofs.SizeLaws.{Fitting}
 use Rattle.sheets.specs.declared.chain.Cell.{Cell}
 use Rattle.sheets.specs.Reading.{readOf, sliceAfter}
-use Rattle.sheets.specs.Writing.{writeOf, outAfter}
+use Rattle.sheets.specs.Writing.{outAfter}
 use Rattle.sheets.specs.Trip.{TripOf}
 use Rattle.sheets.proofs.Answers.{done-tells}
 use Rattle.matrices.specs.Checks.{Given}

@@ -1,4 +1,4 @@
--- An accepted chain of steps: both its parts were accepted, and a refusal behind a step is one of the whole.
+-- An accepted chain of two steps: both were accepted.
 use mathlib.Core.Path.{_≡_, refl}
 use mathlib.Core.Option.{Option, none, some, bind, Option·none-ne-some}
 
@@ -12,8 +12,3 @@ pub bound : {A B : Type 0} (m : Option A) (f : A → Option B) {b : B} → bind 
 unfolding bind
 bound none f {b} h = absurd (Option·none-ne-some b h)
 bound (some a) f h = record { value = a; first = refl; then = h }
-
-pub bind-refused : {A B : Type 0} (m : Option A) (f : A → Option B) → ((a : A) → f a ≡ none) → bind m f ≡ none
-unfolding bind
-bind-refused none f h = refl
-bind-refused (some a) f h = h a

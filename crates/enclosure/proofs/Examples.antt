@@ -1,7 +1,5 @@
--- Worked examples of 01, as computed tables: conversions, and entries of one pair by each method; then the numbers of the width, and a pick.
--- Assumes nothing.
+-- Worked examples beside those that 01 states, computed: an entry by method 4 and one by method 3, the numbers of the width, and a pick. Assumes nothing.
 use mathlib.Core.Path.{_≡_, refl}
-use mathlib.Core.List.{List, [], _∷_, map}
 use mathlib.Core.Option.{some, bind}
 use Prim.Native.Nat.{ℕ, zero, suc, _+_, _-_, _*_, _^_}
 use lib.IntN.{ℤ, pos, negℤ}
@@ -12,13 +10,12 @@ use Rattle.algebra.specs.Extremes.{minℤ, maxℤ}
 use Rattle.algebra.specs.Sum.{Σ<}
 use Rattle.rounding.specs.Format.{binary32, units, MAX, expo}
 use Rattle.rounding.specs.Rounding.{ceil, lo, hi, nr, up, down, near}
-use Rattle.rounding.specs.Pattern.{val}
 use Rattle.enclosure.specs.Arithmetic.{of}
 use Rattle.enclosure.specs.Sums.{sum}
 use Rattle.enclosure.specs.Cell.{Cell, largest, leastCorner, greatestCorner}
 use Rattle.enclosure.specs.Conversion.{mid, rad, cellOf}
-use Rattle.enclosure.specs.Methods.{Method, classical, three, four, seven, Range, entry, entry₁, ends, radius₃, radius₄, radius₇, centre, centre₇, total}
-use Rattle.enclosure.specs.Methods.{leastTerm, greatestTerm, innerTerm, outerRadius, outerTerm, raisedRadius, raisedTerm, sharedTerm, midTerm, partTerm, part}
+use Rattle.enclosure.specs.Methods.{three, four, Range, entry, ends, radius₃, radius₄, centre, total}
+use Rattle.enclosure.specs.Methods.{innerTerm, outerRadius, outerTerm, raisedRadius, raisedTerm, midTerm}
 use Rattle.enclosure.specs.Fraction.{In}
 use Rattle.enclosure.specs.Demand.{exactLower, exactUpper, S, T, WidthFour}
 
@@ -33,55 +30,20 @@ over n j = pos (n * 2 ^ (149 - j))
 abbrev cell : ℤ → ℤ → Cell
 cell a b = cellOf (of binary32) a b
 
--- ---- conversions
-pub record Converts : Type 0 where
-  pub from : Cell
-  pub m : ℤ
-  pub r : ℤ
-
-unfoldable pub conversions : List Converts
-conversions =
-    -- [MAX, MAX] gives <MAX, 0>, [-MAX, MAX] gives <0, MAX>, [1 - 2^-24, 1 + 2^-23] gives <1 + 2^-23, 3 × 2^-24>
-    record { from = cell (pos (MAX binary32)) (pos (MAX binary32)); m = pos (MAX binary32); r = pos 0 }
-    ∷ record { from = cell (negℤ (pos (MAX binary32))) (pos (MAX binary32)); m = pos 0; r = pos (MAX binary32) }
-    ∷ record { from = cell (over (2 ^ 24 - 1) 24) (over (2 ^ 23 + 1) 23); m = over (2 ^ 23 + 1) 23; r = over 3 24 }
-    ∷ []
-
-pub conversions-worked : map (λ c. record { from = c .from; m = c .from .mid; r = c .from .rad }) conversions ≡ conversions
-unfolding conversions mid rad up lo hi ceil expo size MAX
-conversions-worked = refl
-
 -- ---- entries of one pair
-pub record Case : Type 0 where
-  pub method : Method
-  pub a : Cell
-  pub b : Cell
-  pub answer : Range
+abbrev range : ℤ → ℤ → Range
+range l u = record { lower = l; upper = u }
 
-abbrev by : Method → Cell → Cell → ℤ → ℤ → Case
-by m a b l u = record { method = m; a = a; b = b; answer = record { lower = l; upper = u } }
+-- one unit × one unit by method 4: the product lies between the centre rounded down and the centre rounded up
+pub four-worked : entry (of binary32) four 1 (λ l. cell (pos 1) (pos 1)) (λ l. cell (pos 1) (pos 1)) ≡ some (range (pos 0) (pos 1))
+unfolding entry ends radius₄ centre total sum bind innerTerm outerRadius outerTerm midTerm mid rad up down lo hi ceil expo size MAX
+four-worked = refl
 
-unfoldable pub products : List Case
-products =
-    -- [0, 2] × [0, 2]: methods 1 and 7 [0, 4], method 4 [-2, 4]
-    by classical (cell (whole 0) (whole 2)) (cell (whole 0) (whole 2)) (whole 0) (whole 4)
-    ∷ by seven (cell (whole 0) (whole 2)) (cell (whole 0) (whole 2)) (whole 0) (whole 4)
-    ∷ by four (cell (whole 0) (whole 2)) (cell (whole 0) (whole 2)) (negℤ (whole 2)) (whole 4)
-    -- [1, 2] × [-1, 3]: methods 1 and 7 [-2, 6], method 4 [-3, 6], method 3 the patterns C0400004, which is minus 40400004, and 40C00002
-    ∷ by classical (cell (whole 1) (whole 2)) (cell (negℤ (whole 1)) (whole 3)) (negℤ (whole 2)) (whole 6)
-    ∷ by seven (cell (whole 1) (whole 2)) (cell (negℤ (whole 1)) (whole 3)) (negℤ (whole 2)) (whole 6)
-    ∷ by four (cell (whole 1) (whole 2)) (cell (negℤ (whole 1)) (whole 3)) (negℤ (whole 3)) (whole 6)
-    ∷ by three (cell (whole 1) (whole 2)) (cell (negℤ (whole 1)) (whole 3)) (negℤ (pos (val binary32 1077936132))) (pos (val binary32 1086324738))
-    -- one unit × one unit, method 4: it lies between the centre rounded down and the centre rounded up
-    ∷ by four (cell (pos 1) (pos 1)) (cell (pos 1) (pos 1)) (pos 0) (pos 1)
-    -- one unit × [-1/8, 5/4], method 3: without the 2^24 units, 2^-125, it would be [0, 2], and the product -1/8 of a unit lies outside
-    ∷ by three (cell (pos 1) (pos 1)) (cell (negℤ (over 1 3)) (over 5 2)) (negℤ (pos (2 ^ 24 + 2))) (pos (2 ^ 24 + 4))
-    ∷ []
-
-pub products-worked : map (λ c. entry (of binary32) (c .method) 1 (λ l. c .a) (λ l. c .b)) products ≡ map (λ c. some (c .answer)) products
-unfolding products entry entry₁ ends radius₃ radius₄ radius₇ centre centre₇ total sum bind leastTerm greatestTerm innerTerm outerRadius outerTerm raisedRadius raisedTerm sharedTerm
-    midTerm partTerm part minℤ maxℤ mid rad up down near lo hi nr ceil expo size MAX val
-products-worked = refl
+-- one unit × [-1/8, 5/4] by method 3: without the 2^24 units, 2^-125, it would be [0, 2] units, and the product -1/8 of a unit lies outside
+pub three-worked : entry (of binary32) three 1 (λ l. cell (pos 1) (pos 1)) (λ l. cell (negℤ (over 1 3)) (over 5 2))
+    ≡ some (range (negℤ (pos (2 ^ 24 + 2))) (pos (2 ^ 24 + 4)))
+unfolding entry ends radius₃ centre total sum bind raisedRadius raisedTerm outerRadius outerTerm midTerm mid rad up down near lo hi nr ceil expo size MAX
+three-worked = refl
 
 -- ---- the numbers of the width, of two pairs: [1, 2] × [-1, 3] and [0, 2] × [0, 2]
 abbrev row : ℕ → Cell
@@ -99,7 +61,7 @@ unfolding exactLower exactUpper S T Σ< leastCorner greatestCorner largest min�
 sizes-worked = (refl, refl, refl, refl)
 
 -- [0, 2] × [0, 2] by method 4 is [-2, 4]: as wide as 3 × H, and so within the bound
-pub width-worked : WidthFour 1 (λ l. cell (whole 0) (whole 2)) (λ l. cell (whole 0) (whole 2)) (record { lower = negℤ (whole 2); upper = whole 4 })
+pub width-worked : WidthFour 1 (λ l. cell (whole 0) (whole 2)) (λ l. cell (whole 0) (whole 2)) (range (negℤ (whole 2)) (whole 4))
 unfolding WidthFour exactLower exactUpper S T Σ< leastCorner greatestCorner largest minℤ maxℤ mid rad up lo hi ceil expo size MAX
 width-worked = leZ-yes tt
 

@@ -6,11 +6,10 @@ use Prim.Native.Nat.{ℕ, suc, _+_, _-_, _*_, _^_, _≤_, _<_}
 use native.Mathlib.Omega.{arith}
 use native.Mathlib.Nat.{pow-succ'}
 use lib.Pow.{pow-pos, pow-add}
-use lib.Dec.{lit≤}
 use lib.IntN.{ℤ, pos, negℤ}
 use Rattle.algebra.specs.Order.{_≼_}
 use Rattle.algebra.proofs.Order.{≼-or-≺}
-use Rattle.rounding.specs.Format.{Format, binary32, half, MAX, Num}
+use Rattle.rounding.specs.Format.{Format, half, MAX, Num}
 use Rattle.rounding.specs.Rounding.{up, down}
 use Rattle.rounding.proofs.Directed.{up-is, up-above, down-is, down-below}
 use Rattle.rounding.proofs.Nearest.{near-is}
@@ -53,7 +52,3 @@ module _ (f : Format) where
     where
       together : f .prec + (f .unit - f .prec) ≡ f .unit
       together = omega (arith, fine)
-
-unfoldable pub binary32-laws : Laws (of binary32)
-unfolding format-laws
-binary32-laws = format-laws binary32 (lit≤ tt)

@@ -37,5 +37,4 @@ pub mod FourSteps
 pub mod FourWidth
 -- demand 3
 pub mod Demand
-pub mod Product
 pub mod Examples

@@ -1,6 +1,6 @@
 -- Rows and columns as places: a row and a column below the sizes make a place below their product, and a place has them back.
 use mathlib.Core.Path.{_≡_, ap₂}
-use Prim.Native.Nat.{ℕ, _+_, _*_, _/_, _%_, _≤_, _<_}
+use Prim.Native.Nat.{ℕ, _+_, _*_, _/_, _%_, _<_}
 use lib.Arith.{digits-div, digits-mod, digits-lt}
 use Rattle.enclosure.specs.Methods.{Method}
 use Rattle.matrices.specs.Matrix.{Matrix}

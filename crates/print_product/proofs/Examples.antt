@@ -1,4 +1,4 @@
--- What is printed, computed: no input, a digit alone, and 01's example. Assumes nothing.
+-- What is printed, computed: no input, and the example of 01. Assumes nothing.
 use mathlib.Core.Path.{_≡_, refl}
 use mathlib.Core.List.{List, [], _∷_, _++_}
 use mathlib.Core.Option.{bind}
@@ -35,11 +35,6 @@ use Rattle.print_product.specs.Printed.{cellLines, sheetsText, printedOf
 none : printedOf [] ≡ 114 ∷ 101 ∷ 102 ∷ 117 ∷ 115 ∷ 101 ∷ 100 ∷ 32 ∷ 57 ∷ 32 ∷ 48 ∷ 32 ∷ 48 ∷ 32 ∷ 48 ∷ 10 ∷ []
 unfolding printedOf sheetsText digitValue lengthOfA refusedLine digit digits digitCountTo sheetsProductOf checkMethod methodOf
 none = refl
-
--- refused 6 1 0 0
-alone : printedOf (52 ∷ []) ≡ 114 ∷ 101 ∷ 102 ∷ 117 ∷ 115 ∷ 101 ∷ 100 ∷ 32 ∷ 54 ∷ 32 ∷ 49 ∷ 32 ∷ 48 ∷ 32 ∷ 48 ∷ 10 ∷ []
-unfolding printedOf sheetsText digitValue lengthOfA refusedLine digit digits digitCountTo sheetsProductOf checkMethod methodOf readOf framed
-alone = refl
 
 -- one row and one column, class 0
 abbrev sheet : ℕ → ℕ → List ℕ

@@ -1,6 +1,6 @@
 -- `lo` is the greatest number not above N / D, and `hi` the least not below; they are equal or neighbours. Assumes nothing.
-use mathlib.Core.Path.{_≡_, refl, sym, ap, _∙_}
-use mathlib.Core.Logic.{_↔_, _⊎_, inl, inr, ⊎-elim}
+use mathlib.Core.Path.{_≡_, refl, ap}
+use mathlib.Core.Logic.{_⊎_, inl, inr, ⊎-elim}
 use Prim.Native.Nat.{ℕ, zero, suc, _+_, _*_, _/_, _%_, _^_, _≤_, _<_}
 use native.Mathlib.Omega.{arith}
 use native.Mathlib.Nat.{mul-le-mul-left, le-of-mul-le-mul-right, lt-of-mul-lt-mul-right, div-lt-iff-lt-mul, le-div-iff-mul-le}
@@ -74,9 +74,6 @@ module _ (f : Format) (D N : ℕ) (d : 0 < D) where
       (λ r e. G (omega (arith, div-add-mod N g))
       (omega (arith, div-add-mod N g, ap (λ x. E * x * D) e, mod-lt N step-pos)) (omega (arith, ap (λ x. E * x) e)))
 
-  pub lo-hi : lo f D N ≤ hi f D N
-  lo-hi = lo-hi-split (λ x y. omega arith) (λ x y z. omega arith)
-
   -- ---- their shape: the quotient is a significand
   pub floor-few : N / step f D N < 2 ^ f .prec
   floor-few = div-lt-iff-lt-mul step-pos .1 (scale f D N d .below)
@@ -126,20 +123,3 @@ module _ (f : Format) (D N : ℕ) (d : 0 < D) where
     where
       by-multiple : (c : ℕ) × (w ≡ c * 2 ^ ex f D N) → 2 ^ ex f D N * ceil N (step f D N) ≤ w
       by-multiple (c, e) = omega (arith, mul-le-mul-left (2 ^ ex f D N) (ceil-least N (step f D N) c step-pos (omega (arith, ap (λ x. x * D) e))))
-
-  -- ---- nothing is lost exactly where there is no remainder
-  pub lo-keeps : (lo f D N * D ≡ N) ↔ (N % step f D N ≡ 0)
-  unfolding lo
-  lo-keeps = (λ e. omega (arith, div-add-mod N (step f D N)), λ e. omega (arith, div-add-mod N (step f D N)))
-
-  pub hi-keeps : (hi f D N * D ≡ N) ↔ (N % step f D N ≡ 0)
-  hi-keeps = (to, from)
-    where
-      no : {a b : ℕ} → a ≡ b → a < b → ⊥
-      no e l = omega arith
-
-      to : hi f D N * D ≡ N → N % step f D N ≡ 0
-      to e = lo-hi-split (λ x y. lo-keeps .0 x) (λ x y z. absurd (no (sym e) y))
-
-      from : N % step f D N ≡ 0 → hi f D N * D ≡ N
-      from e = lo-hi-split (λ x y. ap (λ w. w * D) y ∙ x) (λ x y z. absurd (no (lo-keeps .1 e) x))

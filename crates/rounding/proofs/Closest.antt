@@ -1,6 +1,6 @@
 -- `nr` is as near to N / D as any number: it is `lo` or the next multiple of 2 ^ ex, and at most half a step off. Assumes nothing.
 use mathlib.Core.Path.{_≡_, refl, sym, ap, _∙_, subst}
-use mathlib.Core.Logic.{_↔_, _⊎_, inl, inr, ⊎-elim}
+use mathlib.Core.Logic.{_⊎_, inl, inr, ⊎-elim}
 use Prim.Native.Nat.{ℕ, _+_, _-_, _*_, _/_, _%_, _^_, _≤_, _<_, compare, Ordering, Ordering·lt, Ordering·eq, Ordering·gt}
 use native.Mathlib.Omega.{arith}
 use native.Mathlib.Nat.{le-trans, mul-le-mul-right, div-add-mod, mul-pos, mul-div-mul-left}
@@ -11,7 +11,7 @@ use Rattle.algebra.proofs.Natural.{≤-total}
 use Rattle.rounding.specs.Format.{Format, half, Form, expo}
 use Rattle.rounding.specs.Rounding.{ex, step, lo, hi, nr}
 use Rattle.rounding.proofs.Compare.{Cmp, cmp, cmp-split}
-use Rattle.rounding.proofs.Bracket.{step-pos, lo-low, lo-near, lo-hi-split, lo-few, lo-large, lo-form, hi-form, lo-greatest, hi-least, lo-keeps}
+use Rattle.rounding.proofs.Bracket.{step-pos, lo-low, lo-near, lo-hi-split, lo-few, lo-large, lo-form, hi-form, lo-greatest, hi-least}
 
 -- the distance of two naturals
 abbrev pub gap : ℕ → ℕ → ℕ
@@ -96,21 +96,6 @@ module _ (f : Format) (D N : ℕ) (d : 0 < D) where
           (λ x y z. nr-split
           (λ e h. omega (arith, ap (λ x. x * D) e, ap (λ x. x * D) z))
           (λ e h l. omega (arith, ap (λ x. x * D) e, ap (λ x. x * D) z)))
-
-  -- nothing is lost exactly where there is no remainder
-  pub nr-keeps : (nr f D N * D ≡ N) ↔ (N % step f D N ≡ 0)
-  nr-keeps = (to, from)
-    where
-      beyond : nr f D N * D ≡ (lo f D N + 2 ^ ex f D N) * D → nr f D N * D ≡ N → ⊥
-      beyond x e = omega (arith, lo-near f D N d)
-
-      to : nr f D N * D ≡ N → N % step f D N ≡ 0
-      to e = nr-split (λ x y. lo-keeps f D N d .0 (ap (λ z. z * D) (sym x) ∙ e)) (λ x y z. absurd (beyond (ap (λ z. z * D) x) e))
-
-      from : N % step f D N ≡ 0 → nr f D N * D ≡ N
-      from e =
-          let k : lo f D N * D ≡ N = lo-keeps f D N d .1 e in
-          nr-split (λ x y. ap (λ z. z * D) x ∙ k) (λ x y z. absurd (not-both k z))
 
 -- ---- scaling: a common factor of N and D does not matter
 pub nr-scale : (f : Format) (c D N : ℕ) → 0 < c → 0 < D → nr f (c * D) (c * N) ≡ nr f D N

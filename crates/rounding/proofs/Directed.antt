@@ -23,9 +23,6 @@ use Rattle.rounding.proofs.Sign.{max-form, neg-le, of-neg-le, neg-mul, 
 pub up-unique : {f : Format} {D : ℕ} {X v w : ℤ} → IsUp f D X v → IsUp f D X w → v ≡ w
 up-unique {v = v} {w} a b = ≼-antisym (a .least w (b .num) (b .above)) (b .least v (a .num) (a .above))
 
-pub down-unique : {f : Format} {D : ℕ} {X v w : ℤ} → IsDown f D X v → IsDown f D X w → v ≡ w
-down-unique {v = v} {w} a b = ≼-antisym (b .greatest v (a .num) (a .below)) (a .greatest w (b .num) (b .below))
-
 module _ (f : Format) (D : ℕ) (d : 0 < D) where
   -- ---- up: hi of a value from 0 on
   pub up-pos : (N : ℕ) → hi f D N ≤ MAX f → IsUp f D (pos N) (pos (hi f D N))
@@ -153,13 +150,6 @@ module _ (f : Format) (D : ℕ) (d : 0 < D) where
   pub down-below : {X : ℤ} → X ≺ negℤ (pos (MAX f * D)) → down f D X ≡ none
   unfolding down
   down-below {X} h = ap negate (up-above (lin-lt (X ∷ pos (MAX f * D) ∷ []) (lt h ∷ []) (search reading depth 20) (omega arith)))
-
-  pub down-number : {X : ℤ} → negℤ (pos (MAX f * D)) ≼ X → (v : ℤ) × (down f D X ≡ some v)
-  down-number {X} h = go (down f D X) refl
-    where
-      go : (a : Option ℤ) → down f D X ≡ a → (v : ℤ) × (down f D X ≡ some v)
-      go (some v) e = (v, e)
-      go none e = absurd (not-≺ h (down-refused e))
 
   pub down-refused-iff : (X : ℤ) → (down f D X ≡ none) ↔ (X ≺ negℤ (pos (MAX f * D)))
   down-refused-iff X = (down-refused, down-below)

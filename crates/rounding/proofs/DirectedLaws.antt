@@ -1,8 +1,7 @@
--- Laws of up and down: they do not jump over a number, keep signs and numbers, grow with X / D, and depend on the fraction only. Assumes nothing.
+-- Laws of up and down: they keep numbers, grow with X / D, and depend on the fraction only. Assumes nothing.
 use mathlib.Core.Path.{_≡_, refl, sym, ap, _∙_}
 use mathlib.Core.Bool.{cond}
 use mathlib.Core.List.{[], _∷_}
-use mathlib.Core.Logic.{_↔_}
 use mathlib.Core.Option.{Option, none, some}
 use Prim.Native.Nat.{ℕ, zero, suc, _*_, _≤_, _<_, min}
 use native.Mathlib.Omega.{arith}
@@ -18,8 +17,8 @@ use Rattle.rounding.specs.Format.{Format, MAX, Num}
 use Rattle.rounding.specs.Rounding.{lo, hi, negate, up, down}
 use Rattle.rounding.specs.Property.{IsUp, IsDown, UpTo}
 use Rattle.rounding.proofs.Bracket.{lo-low}
-use Rattle.rounding.proofs.Sign.{num-zero, some-injective}
-use Rattle.rounding.proofs.Directed.{up-to, up-is, up-only, up-above, down-is, down-only}
+use Rattle.rounding.proofs.Sign.{num-zero}
+use Rattle.rounding.proofs.Directed.{up-to, up-only, up-above, down-only}
 
 module _ (f : Format) (D : ℕ) (d : 0 < D) where
   -- ---- no jump over a number: with `least`, v ≼ w for a number w from X / D on, and w ≼ v for any w up to X / D
@@ -29,30 +28,12 @@ module _ (f : Format) (D : ℕ) (d : 0 < D) where
   pub up-ge : {X v : ℤ} → IsUp f D X v → (w : ℤ) → w *ℤ pos D ≼ X → w ≼ v
   up-ge u w h = cancel (≼-trans h (u .above))
 
-  pub down-le : {X v : ℤ} → IsDown f D X v → (w : ℤ) → X ≼ w *ℤ pos D → v ≼ w
-  down-le u w h = cancel (≼-trans (u .below) h)
-
-  pub down-le-up : {X v w : ℤ} → IsDown f D X v → IsUp f D X w → v ≼ w
-  down-le-up {v = v} a b = up-ge b v (a .below)
-
   -- ---- no sign is changed
   pub from-zero : {X : ℤ} → pos 0 ≼ X → pos 0 *ℤ pos D ≼ X
   from-zero {X} h = lin-le (X ∷ pos D ∷ []) (le h ∷ []) (search reading depth 20) (omega arith)
 
-  pub to-zero : {X : ℤ} → X ≼ pos 0 → X ≼ pos 0 *ℤ pos D
-  to-zero {X} h = lin-le (X ∷ pos D ∷ []) (le h ∷ []) (search reading depth 20) (omega arith)
-
   pub up-nonneg : {X v : ℤ} → IsUp f D X v → pos 0 ≼ X → pos 0 ≼ v
   up-nonneg u h = up-ge u (pos 0) (from-zero h)
-
-  pub up-nonpos : {X v : ℤ} → IsUp f D X v → X ≼ pos 0 → v ≼ pos 0
-  up-nonpos u h = u .least (pos 0) (num-zero f) (to-zero h)
-
-  pub down-nonneg : {X v : ℤ} → IsDown f D X v → pos 0 ≼ X → pos 0 ≼ v
-  down-nonneg u h = u .greatest (pos 0) (num-zero f) (from-zero h)
-
-  pub down-nonpos : {X v : ℤ} → IsDown f D X v → X ≼ pos 0 → v ≼ pos 0
-  down-nonpos u h = down-le u (pos 0) (to-zero h)
 
   -- ---- exact on numbers
   pub up-exact : {v : ℤ} → Num f v → up f D (v *ℤ pos D) ≡ some v
@@ -60,19 +41,6 @@ module _ (f : Format) (D : ℕ) (d : 0 < D) where
 
   pub down-exact : {v : ℤ} → Num f v → down f D (v *ℤ pos D) ≡ some v
   down-exact {v} n = down-only f D d (record { num = n; below = ≼-refl (v *ℤ pos D); greatest = λ w k l. cancel l })
-
-  -- nothing is lost exactly where X / D is a number
-  pub up-keeps : {X v : ℤ} → up f D X ≡ some v → (v *ℤ pos D ≡ X) ↔ ((w : ℤ) × Num f w × (w *ℤ pos D ≡ X))
-  up-keeps {X} {v} e = (λ k. (v, up-is f D d e .num, k), back)
-    where
-      back : (w : ℤ) × Num f w × (w *ℤ pos D ≡ X) → v *ℤ pos D ≡ X
-      back (w, n, k) = ap (λ z. z *ℤ pos D) (some-injective (sym e ∙ ap (up f D) (sym k) ∙ up-exact n)) ∙ k
-
-  pub down-keeps : {X v : ℤ} → down f D X ≡ some v → (v *ℤ pos D ≡ X) ↔ ((w : ℤ) × Num f w × (w *ℤ pos D ≡ X))
-  down-keeps {X} {v} e = (λ k. (v, down-is f D d e .num, k), back)
-    where
-      back : (w : ℤ) × Num f w × (w *ℤ pos D ≡ X) → v *ℤ pos D ≡ X
-      back (w, n, k) = ap (λ z. z *ℤ pos D) (some-injective (sym e ∙ ap (down f D) (sym k) ∙ down-exact n)) ∙ k
 
   -- ---- the two clauses by magnitudes, 0 counted with either sign
   pub up-of-pos : (N : ℕ) → up f D (pos N) ≡ cond (leb (hi f D N) (MAX f)) (some (pos (hi f D N))) none

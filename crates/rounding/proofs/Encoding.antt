@@ -10,7 +10,7 @@ use Rattle.rounding.specs.Format.{Format, half, MAX, Form, expo}
 use Rattle.rounding.specs.Property.{EvenFraction}
 use Rattle.rounding.specs.Pattern.{val, limit, encode}
 use Rattle.rounding.proofs.Grid.{half-even, expo-hi, expo-lo, on-grid}
-use Rattle.rounding.proofs.Pattern.{val-pattern, val-lt-back, val-injective, val-form, val-max}
+use Rattle.rounding.proofs.Pattern.{val-pattern, val-injective, val-form, val-max}
 
 module _ (f : Format) where
   -- a number is v = c * 2 ^ expo f v, with the encode expo f v * 2 ^ (prec - 1) + c
@@ -35,19 +35,11 @@ module _ (f : Format) where
   pub encode-val : (n : ℕ) → encode f (val f n) ≡ n
   encode-val n = val-injective f (val-encode (val-form f n))
 
-  -- every number has a pattern (and only one: val-injective)
-  pub pattern-of : {v : ℕ} → Form f v → (n : ℕ) × (val f n ≡ v)
-  pattern-of {v} F = (encode f v, val-encode F)
-
   pub encode-limit : {v : ℕ} → Form f v → (encode f v < limit f) ↔ (v ≤ MAX f)
   encode-limit {v} F = subst (λ x. (encode f v < limit f) ↔ (x ≤ MAX f)) (val-encode F) (swap (val-max f (encode f v)))
     where
       swap : {A B : Type 0} → A ↔ B → B ↔ A
       swap (to, from) = (from, to)
-
-  -- ---- it grows with the number
-  pub encode-lt : {v w : ℕ} → Form f v → Form f w → v < w → encode f v < encode f w
-  encode-lt {v} {w} F G h = val-lt-back f (omega (arith, val-encode F, val-encode G))
 
   -- ---- the fraction is even where the pattern is
   pub encode-even : (v : ℤ) → Form f (natAbs v) → (encode f (natAbs v) % 2 ≡ 0) ↔ EvenFraction f v

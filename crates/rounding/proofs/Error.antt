@@ -16,8 +16,8 @@ use Rattle.rounding.proofs.Grid.{scale}
 use Rattle.rounding.proofs.Bracket.{lo-low, lo-near, hi-high, hi-near, hi-least}
 use Rattle.rounding.proofs.Sign.{max-form, of-neg-le, natAbs-neg, off-neg, dist, dist-neg}
 use Rattle.rounding.proofs.Directed.{up-unique, up-pos, up-neg, num-high, mirrored}
-use Rattle.rounding.proofs.Closest.{gap, nr-large, nr-half}
-use Rattle.rounding.proofs.Nearest.{near-magnitude, near-gap}
+use Rattle.rounding.proofs.Closest.{gap, nr-half}
+use Rattle.rounding.proofs.Nearest.{near-gap}
 
 module _ (f : Format) (D : ℕ) (d : 0 < D) where
   -- ---- directed: less than a step
@@ -82,24 +82,6 @@ module _ (f : Format) (D N : ℕ) (d : 0 < D) where
           small : ex f D N ≡ 0 → e ≤ D - 1
           small z = omega (arith, ap (λ x. 2 ^ x * D) z)
 
-  -- by the result's own size
-  pub nr-err-result : 2 * half f * gap (nr f D N * D) N ≤ D * nr f D N + half f * D
-  nr-err-result = go (gap (nr f D N * D) N) (nr-half f D N d)
-    where
-      go : (e : ℕ) → 2 * e ≤ step f D N → 2 * half f * e ≤ D * nr f D N + half f * D
-      go e h =
-          ⊎-elim
-          (λ (z : ex f D N ≡ 0). omega (arith, mul-le-mul-left (half f) (small z)))
-          (λ (z : half f * 2 ^ ex f D N ≤ nr f D N). omega (arith, mul-le-mul-left (half f) h, mul-le-mul-left D z))
-          (nr-large f D N d)
-        where
-          small : ex f D N ≡ 0 → 2 * e ≤ D
-          small z = omega (arith, ap (λ x. 2 ^ x * D) z)
-
 module _ (f : Format) (D : ℕ) (d : 0 < D) where
   pub near-err : {X v : ℤ} → IsNear f D X v → Err (2 * half f) D X v
   near-err {X} n = record { bound = rw (near-gap f D d n) (nr-err f D (natAbs X) d) }
-
-  pub near-err-result : {X v : ℤ} → IsNear f D X v → 2 * half f * off D X v ≤ D * natAbs v + half f * D
-  near-err-result {X} n =
-      subst₂ (λ e v. 2 * half f * e ≤ D * v + half f * D) (sym (near-gap f D d n)) (sym (near-magnitude f D d n)) (nr-err-result f D (natAbs X) d)

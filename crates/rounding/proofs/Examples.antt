@@ -1,4 +1,5 @@
--- Worked examples of the three roundings, as one computed table: the exact value is X / D units, and `none` is a refusal. Assumes nothing.
+-- Worked examples of the three roundings beside those that 01 states, as one computed table: the exact value is X / D units, and `none` is a refusal.
+-- Assumes nothing.
 use mathlib.Core.Path.{_≡_, refl}
 use mathlib.Core.List.{List, [], _∷_, map}
 use mathlib.Core.Option.{Option, none, some}
@@ -22,33 +23,16 @@ of32 r D X a = record { rounding = r; format = binary32; D = D; X = X; answer = 
 abbrev pub of64 : (Format → ℕ → ℤ → Option ℤ) → ℕ → ℤ → Option ℤ → Case
 of64 r D X a = record { rounding = r; format = binary64; D = D; X = X; answer = a }
 
-abbrev pub one : ℕ
-one = units binary32
-
 abbrev pub max : ℕ
 max = MAX binary32
 
 unfoldable pub cases : List Case
 cases =
-    -- 1 + 2^-24: up 1 + 2^-23, down and nearest 1. 1 + 3 × 2^-24, nearest: the other even fraction, 1 + 2^-22
-    of32 up 1 (pos (one + 2 ^ 125)) (some (pos (one + 2 ^ 126)))
-    ∷ of32 down 1 (pos (one + 2 ^ 125)) (some (pos one))
-    ∷ of32 near 1 (pos (one + 2 ^ 125)) (some (pos one))
-    ∷ of32 near 1 (pos (one + 3 * 2 ^ 125)) (some (pos (one + 2 ^ 127)))
-    -- MAX + 2^103, and one unit less: nearest
-    ∷ of32 near 1 (pos (max + 2 ^ 252)) none
+    -- 1 + 3 × 2^-24, nearest: the even fraction, 1 + 2^-22
+    of32 near 1 (pos (units binary32 + 3 * 2 ^ 125)) (some (pos (units binary32 + 2 ^ 127)))
+    -- MAX + 2^103 less one unit, and -MAX - 2^103: nearest
     ∷ of32 near 1 (pos (max + 2 ^ 252 - 1)) (some (pos max))
     ∷ of32 near 1 (negℤ (pos (max + 2 ^ 252))) none
-    -- MAX + 1 unit
-    ∷ of32 up 1 (pos (max + 1)) none
-    ∷ of32 down 1 (pos (max + 1)) (some (pos max))
-    ∷ of32 near 1 (pos (max + 1)) (some (pos max))
-    -- one unit × one unit, and minus one unit × one unit
-    ∷ of32 up (units binary32) (pos 1) (some (pos 1))
-    ∷ of32 down (units binary32) (pos 1) (some (pos 0))
-    ∷ of32 near (units binary32) (pos 1) (some (pos 0))
-    ∷ of32 up (units binary32) (negℤ (pos 1)) (some (pos 0))
-    ∷ of32 down (units binary32) (negℤ (pos 1)) (some (negℤ (pos 1)))
     -- -MAX - MAX
     ∷ of32 up 1 (negℤ (pos (2 * max))) (some (negℤ (pos max)))
     ∷ of32 down 1 (negℤ (pos (2 * max))) none

@@ -135,9 +135,3 @@ module _ (f : Format) (D h m q r r′ : ℕ) (d : 0 < D) (l : r < m) (l′ : r�
   unfolding nr
   jam-nr = ap₂ (λ j c. 2 ^ j * c) jam-ex
       (ap (λ x. closest (h * m + r′) x) jam-step ∙ sym (ap (λ x. closest (h * m + r) x) es ∙ jam-closest h m q jam-q jam-m l l′ z))
-
-  -- and whether anything is lost stays
-  pub jam-keeps : sticky ((h * m + r′) % step f D (h * m + r′)) ≡ sticky ((h * m + r) % step f D (h * m + r))
-  jam-keeps =
-      ap (λ x. sticky ((h * m + r′) % x)) jam-step ∙ ap sticky (jam-mod h m q jam-q jam-m l′)
-      ∙ sym (ap (λ x. sticky ((h * m + r) % x)) es ∙ ap sticky (jam-mod h m q jam-q jam-m l) ∙ sticky-add (h % (2 * q) * m) r r′ z)

@@ -1,6 +1,7 @@
 -- magnitudes N / D: the grid of numbers, the brackets lo and hi, the nearest nr
 pub mod Compare
 pub mod Grid
+pub mod Spacing
 pub mod Bracket
 pub mod Closest
 pub mod Ties
@@ -12,7 +13,6 @@ pub mod DirectedLaws
 pub mod Nearest
 pub mod NearestLaws
 pub mod Error
-pub mod Spacing
 -- bit patterns, and what a machine computes
 pub mod Pattern
 pub mod Encoding

@@ -11,12 +11,12 @@ use lib.Dec.{leb, T, leb→le, nleb→lt}
 use lib.IntN.{ℤ, pos, negsuc, negℤ, natAbs, negℤ-negℤ}
 use Rattle.algebra.proofs.Natural.{to-eq}
 use Rattle.rounding.specs.Format.{Format, MAX, Form}
-use Rattle.rounding.specs.Rounding.{ex, step, nr, negate, signed, near}
+use Rattle.rounding.specs.Rounding.{nr, negate, signed, near}
 use Rattle.rounding.specs.Property.{off, EvenFraction, IsNear, NearTo}
 use Rattle.rounding.proofs.Bracket.{hi-least}
 use Rattle.rounding.proofs.Sign.{num-zero, natAbs-neg, num-neg, off-neg, dist₂, apart}
 use Rattle.rounding.proofs.Closest.{gap, nr-hi, nr-form, nr-closest}
-use Rattle.rounding.proofs.Ties.{nr-tie, nr-even, nr-even-only}
+use Rattle.rounding.proofs.Ties.{nr-even, nr-even-only}
 use Rattle.rounding.proofs.Refusal.{nr-over}
 
 -- ---- the mirror image
@@ -157,20 +157,10 @@ module _ (f : Format) (D : ℕ) (d : 0 < D) where
   pub near-iff : (X v : ℤ) → (near f D X ≡ some v) ↔ IsNear f D X v
   near-iff X v = (near-is, near-only)
 
-  -- ---- its magnitude and its distance are those of nr
-  pub near-magnitude : {X v : ℤ} → IsNear f D X v → natAbs v ≡ nr f D (natAbs X)
-  near-magnitude {X = pos N} n = ap natAbs (near-shape n)
-  near-magnitude {X = negsuc k} {v} n = sym (natAbs-neg v) ∙ ap natAbs (near-shape (near-neg n))
-
+  -- ---- its distance is that of nr
   near-gap-pos : {N : ℕ} {v : ℤ} → IsNear f D (pos N) v → off D (pos N) v ≡ gap (nr f D N * D) N
   near-gap-pos {N} n = ap (off D (pos N)) (near-shape n) ∙ dist₂ (nr f D N * D) N
 
   pub near-gap : {X v : ℤ} → IsNear f D X v → off D X v ≡ gap (nr f D (natAbs X) * D) (natAbs X)
   near-gap {X = pos N} n = near-gap-pos n
   near-gap {X = negsuc k} {v} n = sym (off-neg D (negsuc k) v) ∙ near-gap-pos (near-neg n)
-
-  -- half a step off, it is an even multiple of 2 ^ ex
-  pub near-tie : {X v : ℤ} → IsNear f D X v → 2 * off D X v ≡ step f D (natAbs X) → (m : ℕ) × (natAbs v ≡ 2 ^ ex f D (natAbs X) * (2 * m))
-  near-tie {X} n t =
-      let (m, e) = nr-tie f D (natAbs X) d (ap (λ x. 2 * x) (sym (near-gap n)) ∙ t) in
-      (m, near-magnitude n ∙ e)

@@ -1,8 +1,8 @@
--- Laws of the nearest: it does not jump over a number, keeps signs and numbers, grows with X / D, and depends on the fraction only. Assumes nothing.
+-- Laws of the nearest: it does not jump over a number, keeps numbers, grows with X / D, and depends on the fraction only. Assumes nothing.
 use mathlib.Core.Path.{_≡_, sym, ap, _∙_, subst}
 use mathlib.Core.Bool.{cond}
 use mathlib.Core.List.{[], _∷_}
-use mathlib.Core.Logic.{_↔_, ⊎-elim}
+use mathlib.Core.Logic.{⊎-elim}
 use mathlib.Core.Option.{none, some}
 use Prim.Native.Nat.{ℕ, suc, _*_, _≤_, _<_}
 use native.Mathlib.Omega.{arith}
@@ -11,23 +11,18 @@ use lib.Pow.{pow-pos}
 use lib.Dec.{leb}
 use lib.IntN.{ℤ, pos, negsuc, negℤ, natAbs, _+ℤ_, _*ℤ_}
 use Rattle.algebra.specs.Order.{_≼_, _≺_}
-use Rattle.algebra.specs.Absolute.{abs}
 use Rattle.algebra.proofs.Linear.{reading, le, lt, lin-le, lin-lt, lin-eq, lin-absurd}
 use Rattle.algebra.proofs.Order.{_⊠_, ≼-refl, ≼-antisym, ≼-of-≡, ≺-step, ≼-or-≺}
 use Rattle.algebra.proofs.Natural.{of-le, to-eq}
-use Rattle.algebra.proofs.Absolute.{abs-≼, abs-mul}
+use Rattle.algebra.proofs.Absolute.{abs-mul}
 use Rattle.rounding.specs.Format.{Format, MAX, Form, Num}
 use Rattle.rounding.specs.Rounding.{negate, near}
 use Rattle.rounding.specs.Property.{IsNear}
-use Rattle.rounding.proofs.Sign.{num-zero, some-injective, natAbs-neg, closer-above, closer-below}
-use Rattle.rounding.proofs.DirectedLaws.{from-zero, to-zero}
+use Rattle.rounding.proofs.Sign.{some-injective, natAbs-neg, closer-above, closer-below}
 use Rattle.rounding.proofs.Closest.{nr-scale}
-use Rattle.rounding.proofs.Nearest.{near-neg, near-is, near-only, near-number, near-odd}
+use Rattle.rounding.proofs.Nearest.{near-neg, near-is, near-number, near-odd}
 
 module _ (f : Format) (D : ℕ) (d : 0 < D) where
-  pub near-unique : {X v w : ℤ} → IsNear f D X v → IsNear f D X w → v ≡ w
-  near-unique a b = some-injective (sym (near-only f D d a) ∙ near-only f D d b)
-
   -- ---- it does not jump over a number
   times : {v w : ℤ} → v ≺ w → v *ℤ pos D ≺ w *ℤ pos D
   times {v} {w} h = lin-lt (v ∷ w ∷ pos D ∷ []) (le (≺-step h ⊠ of-le d) ∷ lt h ∷ []) (search reading depth 20) (omega arith)
@@ -46,12 +41,6 @@ module _ (f : Format) (D : ℕ) (d : 0 < D) where
       let k : negℤ v ≼ negℤ w = near-le (near-neg n) (negℤ w) (subst (Form f) (sym (natAbs-neg w)) F) l in
       lin-le (v ∷ w ∷ []) (le k ∷ []) (search reading depth 20) (omega arith)
 
-  pub near-nonneg : {X v : ℤ} → IsNear f D X v → pos 0 ≼ X → pos 0 ≼ v
-  near-nonneg n h = near-ge n (pos 0) (num-zero f .form) (from-zero f D d h)
-
-  pub near-nonpos : {X v : ℤ} → IsNear f D X v → X ≼ pos 0 → v ≼ pos 0
-  near-nonpos n h = near-le n (pos 0) (num-zero f .form) (to-zero f D d h)
-
   -- ---- defined up to the largest number, exact on numbers
   pub near-within : (X : ℤ) → natAbs X ≤ MAX f * D → (v : ℤ) × (near f D X ≡ some v)
   near-within X h = near-number f D d X (omega (arith, mul-pos (pow-pos (f .top)) d))
@@ -67,13 +56,6 @@ module _ (f : Format) (D : ℕ) (d : 0 < D) where
           let u : IsNear f D (w *ℤ pos D) v = near-is f D d e in
           let same : w *ℤ pos D ≼ w *ℤ pos D = ≼-refl (w *ℤ pos D) in
           e ∙ ap some (≼-antisym (near-le u w (n .form) same) (near-ge u w (n .form) same))
-
-  -- nothing is lost exactly where X / D is a number
-  pub near-keeps : {X v : ℤ} → near f D X ≡ some v → (v *ℤ pos D ≡ X) ↔ ((w : ℤ) × Num f w × (w *ℤ pos D ≡ X))
-  near-keeps {X} {v} e = (λ k. (v, near-is f D d e .num, k), back)
-    where
-      back : (w : ℤ) × Num f w × (w *ℤ pos D ≡ X) → v *ℤ pos D ≡ X
-      back (w, n, k) = ap (λ z. z *ℤ pos D) (some-injective (sym e ∙ ap (near f D) (sym k) ∙ near-exact n)) ∙ k
 
   -- ---- monotone
   pub near-mono : {X Y v w : ℤ} → X ≼ Y → near f D X ≡ some v → near f D Y ≡ some w → v ≼ w
@@ -91,10 +73,6 @@ module _ (f : Format) (D : ℕ) (d : 0 < D) where
           let q : pos 2 *ℤ Y ≼ w *ℤ pos D +ℤ v *ℤ pos D = closer-below (w *ℤ pos D) (v *ℤ pos D) Y (y .closer v (x .num .form)) (times k) in
           let e : X ≡ Y = lin-eq (X ∷ Y ∷ v ∷ w ∷ pos D ∷ []) (le p ∷ le q ∷ le h ∷ []) (search reading depth 20) (omega arith) in
           ≼-of-≡ (some-injective (sym a ∙ ap (near f D) e ∙ b))
-
-  -- by magnitudes
-  pub near-mono-abs : {X Y v w : ℤ} → X ≼ Y → negℤ X ≼ Y → near f D X ≡ some v → near f D Y ≡ some w → abs v ≼ w
-  near-mono-abs {X} {Y} {v} h k a b = abs-≼ v (near-mono h a b) (near-mono k (near-odd f D d X ∙ ap negate a) b)
 
 -- ---- scaling: a common factor of X and D does not matter
 near-scale-pos : (f : Format) (c D N : ℕ) → 0 < c → 0 < D → near f (c * D) (pos (c * N)) ≡ near f D (pos N)

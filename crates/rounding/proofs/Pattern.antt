@@ -99,9 +99,6 @@ module _ (f : Format) where
   pub val-le-back : {m n : ℕ} → val f m ≤ val f n → m ≤ n
   val-le-back {m} {n} h = omega (arith, lt-of-not-le (λ (l : suc n ≤ m). not-le-of-lt (val-lt l) h))
 
-  pub val-lt-back : {m n : ℕ} → val f m < val f n → m < n
-  val-lt-back {m} {n} h = lt-of-not-le (λ (l : n ≤ m). not-le-of-lt h (val-le l))
-
   pub val-injective : {m n : ℕ} → val f m ≡ val f n → m ≡ n
   val-injective {m} {n} e = le-antisymm (val-le-back (le-of-eq e)) (val-le-back (le-of-eq (sym e)))
 
@@ -125,12 +122,6 @@ module _ (f : Format) where
   last-max : val f last ≡ MAX f
   unfolding last MAX
   last-max = val-pattern (f .top) (2 ^ f .prec - 1) (omega arith) (inr (omega (arith, prec-half f, half-pos f)))
-
-  -- the pattern after it stands for the next power of two
-  pub val-limit : val f (limit f) ≡ 2 ^ f .prec * 2 ^ f .top
-  val-limit =
-      let e : limit f ≡ f .top * half f + 2 ^ f .prec = omega (arith, prec-half f) in
-      ap (val f) e ∙ val-pattern (f .top) (2 ^ f .prec) (le-of-eq refl) (inr (omega (arith, prec-half f)))
 
   pub val-max : (n : ℕ) → (val f n ≤ MAX f) ↔ (n < limit f)
   val-max n = (to, from)

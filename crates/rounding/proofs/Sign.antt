@@ -17,7 +17,7 @@ use Rattle.algebra.proofs.Order.{neg-mono}
 use Rattle.algebra.proofs.Natural.{≤-total, of-le, of-sub}
 use Rattle.algebra.proofs.Absolute.{≼-abs, neg-≼-abs, abs-split}
 use Rattle.rounding.specs.Format.{Format, MAX, Form, Num}
-use Rattle.rounding.specs.Property.{off, Err}
+use Rattle.rounding.specs.Property.{off}
 
 -- ---- the largest number, and 0
 pub max-form : (f : Format) → Form f (MAX f)
@@ -79,9 +79,6 @@ pub dist-neg : (m D N : ℕ) → m * D ≤ N → natAbs (negℤ (pos m) *ℤ pos
 dist-neg m D N h =
     let e : negℤ (pos m) *ℤ pos D -ℤ negℤ (pos N) ≡ pos N -ℤ pos (m * D) = by-ring (pos m ∷ pos D ∷ pos N ∷ []) (search reading depth 20) tt in
     ap natAbs e ∙ dist h
-
-pub err-neg : {P D : ℕ} {X v : ℤ} → Err P D X v → Err P D (negℤ X) (negℤ v)
-err-neg {P} {D} {X} {v} h = record { bound = omega (arith, h .bound, ap (λ n. P * n) (off-neg D X v), natAbs-neg X) }
 
 pub dist₂ : (a b : ℕ) → natAbs (pos a -ℤ pos b) ≡ (a - b) + (b - a)
 dist₂ a b = ⊎-elim above below (≤-total b a)

@@ -119,15 +119,6 @@ module _ (f : Format) (D N : ℕ) (d : 0 < D) where
           not-both : lo f D N * D ≡ N → lo f D N * D < N → ⊥
           not-both x y = omega arith
 
-  -- no other number is as near and, half a step off, an even multiple of 2 ^ ex
-  pub nr-only : (v : ℕ) → Form f v → gap (v * D) N ≤ gap (nr f D N * D) N
-      → (2 * gap (v * D) N ≡ step f D N → (m : ℕ) × (v ≡ 2 ^ ex f D N * (2 * m))) → v ≡ nr f D N
-  nr-only v F c even = nr-rival v F c (λ e. e) (λ t u s. absurd (clash (even t) (nr-tie u) s))
-    where
-      clash : (a : ℕ) × (v ≡ 2 ^ ex f D N * (2 * a)) → (b : ℕ) × (nr f D N ≡ 2 ^ ex f D N * (2 * b)) → Beside v → ⊥
-      clash (a, x) (b, y) (inl (_, e)) = odd-even (2 ^ ex f D N) a b (pow-pos (ex f D N)) (omega (arith, x, y, e))
-      clash (a, x) (b, y) (inr (_, e)) = odd-even (2 ^ ex f D N) b a (pow-pos (ex f D N)) (omega (arith, x, y, e))
-
   -- ---- by the number's own spacing: where another number is as near, nr is an even multiple of its spacing
   pub nr-even : (w : ℕ) → Form f w → (w ≡ nr f D N → ⊥) → gap (w * D) N ≡ gap (nr f D N * D) N
       → EvenFraction f (pos (nr f D N))

@@ -1,4 +1,4 @@
--- Worked sheets, computed: a head alone, sizes 32 and 33, a loop, an index past the records, a cell of class 7, and a matrix written and read. Assumes nothing.
+-- Worked sheets, computed: a head alone, sizes 32 and 33, a loop, an index past the records, cells of class 7 and 1. Assumes nothing.
 use mathlib.Core.Path.{_≡_, refl}
 use mathlib.Core.List.{List, [], _∷_, _++_}
 use Prim.Native.Nat.{ℕ}
@@ -14,10 +14,10 @@ use Rattle.binary32.specs.Operations.{answer}
 use Rattle.intervals.specs.Conversion.{faultOf}
 use Rattle.sheets.specs.Layout.{u16At, u32At, blank, recordOf, framed}
 use Rattle.sheets.specs.Wear.{unitsOf, amountOf}
-use Rattle.sheets.specs.Cell.{canonicalOf, bothZero, handedOf, widenedOf}
+use Rattle.sheets.specs.Cell.{widenedOf}
 use Rattle.sheets.specs.Chain.{judgeOf, visitOf, walk, chainOf}
 use Rattle.sheets.specs.Reading.{readOf, cellLower, cellUpper, putIn, matrixOf}
-use Rattle.sheets.specs.Sheet.{recordBytes, tally, countTo, nextOf, cellBytes, recordsTo, sheetOf}
+use Rattle.sheets.specs.Sheet.{recordBytes}
 
 -- a head alone with index 0 and one record is a zero matrix; size 32 is accepted, 33 refused with 1
 alone : readOf (recordBytes 0 32 32 1 0) 1024 1024 ≡ gives (32, 32)
@@ -56,11 +56,3 @@ one-upper = refl
 far : readOf (worn (0 ∷ 0 ∷ 0x80 ∷ 0x3F ∷ 0xFF ∷ 0xFF ∷ 0x7F ∷ 0x7F ∷ 1 ∷ [])) 1 1 ≡ refuses (ofCell 5 0 0 0)
 unfolding u16At u32At blank recordOf framed checkSize checkLengths checkFit unitsOf amountOf faultOf widenedOf judgeOf visitOf walk chainOf readOf recordBytes valueOf val encode expo size MAX ceil lo hi up down answer
 far = refl
-
--- two by two with minus zero, and one cell that is [0, 0]: written and read
-there : List ℕ
-there = sheetOf 2 2 (0x3F800000 ∷ 0x80000000 ∷ 0x80000000 ∷ 0xBF800000 ∷ []) (0x40000000 ∷ 0 ∷ 0x3F800000 ∷ 0x80000000 ∷ [])
-
-back : matrixOf cellLower there ≡ 0x3F800000 ∷ 0 ∷ 0 ∷ 0xBF800000 ∷ []
-unfolding there u16At u32At blank recordOf framed checkSize checkLengths checkFit unitsOf amountOf canonicalOf bothZero handedOf faultOf widenedOf judgeOf visitOf walk chainOf putIn recordBytes tally countTo nextOf cellBytes recordsTo sheetOf valueOf val encode expo size MAX ceil lo hi up down answer
-back = refl

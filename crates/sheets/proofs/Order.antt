@@ -45,9 +45,6 @@ module _ (n i j k l : ℕ) (hj : j < n) (hl : l < n) where
   from (inl h) = omega (arith, digits-lt h hj)
   from (inr (e, h)) = let m : i * n ≡ k * n = ap (λ (x : ℕ). x * n) e in omega arith
 
-  pub rises : (i * n + j < k * n + l) ↔ Before i j k l
-  rises = (to, from)
-
 -- ---- 8 is said of the order alone: 3, 4 and 5 are other numbers
 
 -- a refusal's number is 5 or less
