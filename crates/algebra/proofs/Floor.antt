@@ -1,19 +1,17 @@
--- Division by a positive number: lib.Signed's `shrZ z m` is rounded down (m = 2 ^ k for a shift by k), `ceilZ z m` rounded up.
+-- Division by a positive number: lib.Signed's `shrZ z m` is z / m rounded down (m = 2 ^ k for a shift by k).
 use mathlib.Core.Path.{_≡_}
 use mathlib.Core.List.{[], _∷_}
 use Prim.Native.Nat.{ℕ, _+_, _*_, _/_, _<_}
 use native.Mathlib.Omega.{arith}
 use native.Mathlib.Nat.{div-add-mod, mod-lt}
-use lib.IntN.{ℤ, pos, negsuc, negℤ, _+ℤ_, _*ℤ_}
+use lib.IntN.{ℤ, pos, negsuc, _+ℤ_, _*ℤ_}
 use lib.Signed.{shrZ}
 use Rattle.algebra.specs.Order.{_≼_, _≺_}
-use Rattle.algebra.specs.Ceiling.{ceilZ}
 use Rattle.algebra.proofs.SignParts.{parts-lt, parts-le}
 use Rattle.algebra.proofs.Linear.{reading, le, lt, lin-le, lin-lt}
 use Rattle.algebra.proofs.Order.{≼-antisym, cancel-lt}
 use Rattle.algebra.proofs.Natural.{of-lt}
 
--- ---- rounded down
 pub floor-low : (z : ℤ) (m : ℕ) → 0 < m → pos m *ℤ shrZ z m ≼ z
 floor-low (pos a) m h = parts-le (pos (m * (a / m))) (pos a) (omega (arith, div-add-mod a m))
 floor-low (negsuc a) m h = lin-le (pos a ∷ pos m ∷ pos (a / m) ∷ []) [] (search reading depth 12) (omega (arith, div-add-mod a m, mod-lt a h))
@@ -34,18 +32,3 @@ floor-unique z q m h k l = ≼-antisym (floor-greatest z q m h k) (lin-le (q ∷
   where
     above : shrZ z m ≺ q +ℤ pos 1
     above = cancel-lt (of-lt h) (lin-lt (z ∷ q ∷ pos m ∷ shrZ z m ∷ []) (lt l ∷ le (floor-low z m h) ∷ []) (search reading depth 12) (omega arith))
-
--- ---- rounded up
-pub ceil-high : (z : ℤ) (m : ℕ) → 0 < m → z ≼ pos m *ℤ ceilZ z m
-unfolding ceilZ
-ceil-high z m h = lin-le (z ∷ pos m ∷ shrZ (negℤ z) m ∷ []) (le (floor-low (negℤ z) m h) ∷ []) (search reading depth 12) (omega arith)
-
-pub ceil-low : (z : ℤ) (m : ℕ) → 0 < m → pos m *ℤ ceilZ z m ≺ z +ℤ pos m
-unfolding ceilZ
-ceil-low z m h = lin-lt (z ∷ pos m ∷ shrZ (negℤ z) m ∷ []) (lt (floor-high (negℤ z) m h) ∷ []) (search reading depth 12) (omega arith)
-
--- it is the least number whose multiple is not below z
-pub ceil-least : (z q : ℤ) (m : ℕ) → 0 < m → z ≼ pos m *ℤ q → ceilZ z m ≼ q
-unfolding ceilZ
-ceil-least z q m h k =
-    lin-le (q ∷ shrZ (negℤ z) m ∷ []) (le (floor-greatest (negℤ z) (negℤ q) m h (lin-le (z ∷ q ∷ pos m ∷ []) (le k ∷ []) (search reading depth 12) (omega arith))) ∷ []) (search reading depth 12) (omega arith)

@@ -1,5 +1,4 @@
--- Sums of integers, over an index and over a list. Definitions only.
-use mathlib.Core.List.{List, [], _∷_}
+-- Sums of integers over an index. Definitions only.
 use Prim.Native.Nat.{ℕ, zero, suc}
 use lib.IntN.{ℤ, pos, _+ℤ_}
 
@@ -7,8 +6,3 @@ use lib.IntN.{ℤ, pos, _+ℤ_}
 unfoldable pub Σ< : ℕ → (ℕ → ℤ) → ℤ
 Σ< zero f = pos 0
 Σ< (suc n) f = Σ< n f +ℤ f n
-
--- the sum of a list
-unfoldable pub total : List ℤ → ℤ
-total [] = pos 0
-total (x ∷ xs) = x +ℤ total xs

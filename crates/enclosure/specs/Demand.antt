@@ -68,7 +68,3 @@ WidthFour k a b e =
 pub record Kept (m : Method) (k : ℕ) (a b : ℕ → Cell) (e : Range) : Type 0 where
   pub encloses : Encloses (units binary32) k a b e
   pub width : m ≡ four → WidthFour k a b e
-
--- ---- the product of two matrices of fractions, the first k wide and the second k high
-abbrev pub fractionProduct : ℕ → (ℕ → ℕ → Fraction) → (ℕ → ℕ → Fraction) → ℕ → ℕ → Fraction
-fractionProduct k X Y i j = sumOfProducts k (λ l. X i l) (λ l. Y l j)
