@@ -1,4 +1,4 @@
-// From a pattern to its number taken apart, and back.
+// From a pattern to its unpacked number, and back.
 ghost use mathlib.Core.Path.{_≡_};
 ghost use mathlib.Core.Bool.{cond, false};
 ghost use mathlib.Core.Logic.{_⊎_};
@@ -11,10 +11,14 @@ use crate::number::whole;
 use crate::shifts::cap;
 use crate::shifts::size;
 use crate::shifts::with_sign;
+use unpacked::BIAS;
 use unpacked::Number;
 use unpacked::none;
 
-// What a pattern holds that is not a normal number: zero, a subnormal number, or none.
+// Exponent field 1 stands for (2^23 + fraction) × 2^0 units, so a normal number has its field + 399 as exponent.
+const FIELD_TO_EXPONENT: u32 = BIAS - 1;
+
+// The number of a pattern with exponent field 0 (zero or subnormal), or none for exponent field 255.
 fn unpack_other(p: u32) -> Number
     requires { ⌜ (p % 2 ^ 31 < 2 ^ 23) ⊎ (255 * 2 ^ 23 ≤ p % 2 ^ 31) ⌝ }
     ensures { λ r. ⌜ Unpacked p r ⌝ }
@@ -26,6 +30,7 @@ fn unpack_other(p: u32) -> Number
     none()
 }
 
+// Whether an exponent field is that of a normal number.
 fn is_normal(e: u32) -> bool
     ensures { λ r. ⌜ r ≡ cond (ltb e 1) false (ltb e 255) ⌝ }
 {
@@ -35,7 +40,7 @@ fn is_normal(e: u32) -> bool
     e < 255
 }
 
-// What a pattern holds.
+// The number of a pattern; none for exponent field 255.
 pub fn unpack(p: u32) -> Number
     ensures { λ r. ⌜ Unpacked p r ⌝ }
 {
@@ -44,21 +49,21 @@ pub fn unpack(p: u32) -> Number
     if is_normal(e) {
         return Number {
             sig: with_sign(0x8000_0000 <= p, (t % 0x80_0000 + 0x80_0000) as u64),
-            exp: e + 399,
+            exp: e + FIELD_TO_EXPONENT,
         };
     }
     unpack_other(p)
 }
 
-// The pattern without sign of m × 2^(exp - 400) units.
+// The pattern without sign of m × 2^(exp - 400) units: m has 24 bits, and below the exponent 400 its last bits are zeros that are shifted out.
 fn fields(m: u64, exp: u32) -> u32
     requires { ⌜ (m ≤ 2 ^ 24) × (64 ≤ exp) × (exp ≤ 653) ⌝ }
     ensures { λ r. ⌜ r ≡ fieldsOf m exp ⌝ }
 {
-    if 400 <= exp {
-        return (exp - 400) * 0x80_0000 + m as u32;
+    if BIAS <= exp {
+        return (exp - BIAS) * 0x80_0000 + m as u32;
     }
-    (m >> cap(400 - exp)) as u32
+    (m >> cap(BIAS - exp)) as u32
 }
 
 // The pattern of a number.
