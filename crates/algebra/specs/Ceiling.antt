@@ -1,4 +1,4 @@
--- Division by a positive number, rounded up. Definitions only. Rounded down it is lib.Signed's `shrZ`.
+-- Division by a positive number, rounded up. Definitions only. Division rounded down is lib.Signed's `shrZ`.
 use Prim.Native.Nat.{ℕ}
 use lib.IntN.{ℤ, negℤ}
 use lib.Signed.{shrZ}

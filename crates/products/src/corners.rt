@@ -9,7 +9,7 @@ use unpacked::Corner;
 use unpacked::Number;
 use unpacked::Product;
 
-// 2^47: a significand has 48 bits and starts with 1, so that an exponent larger by 1 makes a larger rank.
+// 2^47, the least significand of 48 bits: of two positive products, the one with the larger exponent has at least as large a rank.
 const RANK_STEP: i64 = 0x8000_0000_0000;
 
 // |sig| + exp × 2^47 with the sign of sig: products are ordered as their ranks are.

@@ -75,7 +75,7 @@ fn part_of(m: u32, r: u32) -> u32
     negate(p)
 }
 
-// The value of one cell, rounded up; none, as an infinity, where it overflows.
+// The value for one cell, each step rounded up; infinity where it overflows. A part is exact.
 pub fn derive(kind: Kind, m: u32, r: u32) -> u32
     requires { ⌜ MidRad m r ⌝ }
     ensures { λ p. ⌜ Derives kind m r p ⌝ }

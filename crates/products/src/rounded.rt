@@ -22,7 +22,7 @@ use unpacked::Number;
 use unpacked::Product;
 use unpacked::none;
 
-// A product below 2^24 units, rounded down to a whole number of units.
+// A product of at most 2^23 units (subnormal or zero), rounded down to a whole number of units.
 fn small(p: Product) -> Number
     requires { ⌜ (natAbs (p .sig) ≤ 2 ^ 48) × (p .exp < 926) ⌝ }
     ensures { λ r. ⌜ ((X : ℤ) → Exact X p → Holds (down binary32 (2 ^ 149) X) r) ⌝ }
@@ -30,7 +30,7 @@ fn small(p: Product) -> Number
     whole(lowered(p.sig, cap(PRODUCT_BIAS - p.exp)))
 }
 
-// A product that is below 2^24 units, zero, near the largest number or above it, or of a factor that is none, rounded down.
+// A product that is subnormal, zero, near the largest number or above it, or that has a factor none, rounded down.
 fn rare_down(p: Product) -> Number
     requires { ⌜ Formed p ⌝ }
     ensures { λ r. ⌜ RoundedDown p r ⌝ }
@@ -63,7 +63,7 @@ pub fn rounded_up(p: Product) -> Number
     rounded_down(turned(p))
 }
 
-// A product below 2^24 units, rounded to nearest to a whole number of units.
+// A product of at most 2^23 units (subnormal or zero), rounded to nearest to a whole number of units.
 fn small_near(p: Product) -> Number
     requires { ⌜ (natAbs (p .sig) ≤ 2 ^ 48) × (p .exp < 926) ⌝ }
     ensures { λ r. ⌜ ((X : ℤ) → Exact X p → Holds (near binary32 (2 ^ 149) X) r) ⌝ }

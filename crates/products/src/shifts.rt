@@ -7,7 +7,7 @@ ghost use Rattle.rounding.specs.Quotient.{rem};
 ghost use Rattle.binary32.specs.Number.{signedBy};
 ghost use Rattle.unpacked.specs.Cuts.{nearestOf};
 
-// How many guard bits a significand gets before it is added: 24 + 36 bits and one for the carry of a sum fit into 64.
+// How many guard bits a significand gets before it is added: 24 + 36 bits, a carry and the sign fit into 64 bits.
 pub const GUARD: u32 = 36;
 
 // A shift by as many places loses all bits of a significand with its guard bits: 0 or -1 remains.
@@ -69,7 +69,7 @@ pub fn added(x: i64, y: i64) -> i64
     x + y
 }
 
-// w, or -1 - w where w is negative: how many bits this has is how many a shift of w must keep.
+// w, or -1 - w where w is negative. It has as many bits as w in two's complement, without the sign.
 pub fn digits(w: i64) -> u64
     ensures { λ r. ⌜ r ≡ mag w ⌝ }
 {

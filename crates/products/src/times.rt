@@ -52,7 +52,7 @@ pub fn times(x: Number, y: Number) -> Product
     }
 }
 
-// Whether a product with the exponent e can be rounded to its first 24 bits in any direction, neither subnormal nor too large.
+// Whether rounding a product with the exponent e to its first 24 bits gives a number in every direction: neither subnormal nor too large.
 pub fn is_usual(e: u32) -> bool
     ensures { λ r. ⌜ r ≡ cond (ltb e 926) false (ltb e 1179) ⌝ }
 {
