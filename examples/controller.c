@@ -1,6 +1,7 @@
-/* A controller's day: the sheet of motors against levers times that of levers
-   against bars, each range of the product held against the play that a bar may
-   have, and what is refused printed with its sentence and place. Valid as C++ too. */
+/* Example of the C functions: multiplies the sheet of motors by levers with the sheet
+   of levers by bars, and compares each range of the product with the play that a bar
+   may have. A refusal is printed with its sentence and its place. Compiles as C and
+   as C++. */
 #include <stdio.h>
 #include <string.h>
 
