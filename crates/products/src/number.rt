@@ -18,6 +18,9 @@ use unpacked::LARGEST_EXPONENT;
 use unpacked::Number;
 use unpacked::ZERO_EXPONENT;
 
+// 2^24, one more than the significand of the largest number.
+const PAST_LARGEST: u64 = 0x100_0000;
+
 // How many bits of a sum are dropped when it is rounded to 24: it is first shifted up to 62 bits, and 62 - 24 is 38.
 pub const DROPPED: u32 = 38;
 
@@ -35,7 +38,7 @@ pub fn fits(x: Number) -> bool
     if LARGEST_EXPONENT < x.exp {
         return false;
     }
-    size(x.sig) < 0x100_0000
+    size(x.sig) < PAST_LARGEST
 }
 
 // -x

@@ -15,6 +15,15 @@ use unpacked::BIAS;
 use unpacked::Number;
 use unpacked::none;
 
+// The sign bit of a pattern.
+const SIGN: u32 = 0x8000_0000;
+
+// 2^23: the implicit leading bit of a significand, and 1 in the exponent field.
+const LEADING: u32 = 0x80_0000;
+
+// The exponent field of infinities and NaNs.
+const NOT_FINITE: u32 = 255;
+
 // Exponent field 1 stands for (2^23 + fraction) × 2^0 units, so a normal number has its field + 399 as exponent.
 const FIELD_TO_EXPONENT: u32 = BIAS - 1;
 
@@ -23,9 +32,9 @@ fn unpack_other(p: u32) -> Number
     requires { ⌜ (p % 2 ^ 31 < 2 ^ 23) ⊎ (255 * 2 ^ 23 ≤ p % 2 ^ 31) ⌝ }
     ensures { λ r. ⌜ Unpacked p r ⌝ }
 {
-    let t = p % 0x8000_0000;
-    if t < 0x80_0000 {
-        return whole(with_sign(0x8000_0000 <= p, t as u64));
+    let t = p % SIGN;
+    if t < LEADING {
+        return whole(with_sign(SIGN <= p, t as u64));
     }
     none()
 }
@@ -37,18 +46,18 @@ fn is_normal(e: u32) -> bool
     if e < 1 {
         return false;
     }
-    e < 255
+    e < NOT_FINITE
 }
 
 // The number of a pattern; none for exponent field 255.
 pub fn unpack(p: u32) -> Number
     ensures { λ r. ⌜ Unpacked p r ⌝ }
 {
-    let t = p % 0x8000_0000;
-    let e = t / 0x80_0000;
+    let t = p % SIGN;
+    let e = t / LEADING;
     if is_normal(e) {
         return Number {
-            sig: with_sign(0x8000_0000 <= p, (t % 0x80_0000 + 0x80_0000) as u64),
+            sig: with_sign(SIGN <= p, (t % LEADING + LEADING) as u64),
             exp: e + FIELD_TO_EXPONENT,
         };
     }
@@ -61,7 +70,7 @@ fn fields(m: u64, exp: u32) -> u32
     ensures { λ r. ⌜ r ≡ fieldsOf m exp ⌝ }
 {
     if BIAS <= exp {
-        return (exp - BIAS) * 0x80_0000 + m as u32;
+        return (exp - BIAS) * LEADING + m as u32;
     }
     (m >> cap(BIAS - exp)) as u32
 }
@@ -73,7 +82,7 @@ pub fn pack(x: Number) -> u32
 {
     let t = fields(size(x.sig), x.exp);
     if x.sig < 0 {
-        return 0x8000_0000 + t;
+        return SIGN + t;
     }
     t
 }

@@ -16,6 +16,9 @@ use unpacked::LARGEST_EXPONENT;
 use unpacked::Number;
 use unpacked::none;
 
+// 2^24 - 1, the significand of the largest number.
+const LARGEST_SIGNIFICAND: i64 = 0xFF_FFFF;
+
 // -2^60: below it a sum with 36 guard bits has 25 bits in front of them, one too many.
 const LONGEST: i64 = -0x1000_0000_0000_0000;
 
@@ -69,7 +72,7 @@ pub fn limit(x: Number) -> Number
         return none();
     }
     Number {
-        sig: 0xFF_FFFF,
+        sig: LARGEST_SIGNIFICAND,
         exp: LARGEST_EXPONENT,
     }
 }

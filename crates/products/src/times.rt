@@ -19,6 +19,9 @@ use unpacked::Product;
 // is 2^-149 units, and 1 since a product of 47 bits is doubled to have 48.
 pub const PRODUCT_BIAS: u32 = 950;
 
+// 2^47: a product below it has 47 bits.
+const FULL: u64 = 0x8000_0000_0000;
+
 // Half of a product's 48 bits.
 const HALF: u32 = 24;
 
@@ -40,7 +43,7 @@ pub fn times(x: Number, y: Number) -> Product
     ensures { λ r. ⌜ ProductIs x y r ⌝ }
 {
     let p = multiplied(x.sig, y.sig);
-    if digits(p) < 0x8000_0000_0000 {
+    if digits(p) < FULL {
         return Product {
             sig: twice(p),
             exp: x.exp + y.exp,
