@@ -24,7 +24,7 @@ const PAST_LARGEST: u64 = 0x100_0000;
 // How many bits of a sum are dropped when it is rounded to 24: it is first shifted up to 62 bits, and 62 - 24 is 38.
 pub const DROPPED: u32 = 38;
 
-// What dropping 38 bits adds to an exponent, less the 36 guard bits.
+// Dropping 38 bits, of which 36 are guard bits, adds 2 to the exponent.
 pub const GAIN: u32 = DROPPED - GUARD;
 
 // Whether |x| is at most the largest number.

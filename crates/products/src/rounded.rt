@@ -55,7 +55,7 @@ pub fn rounded_down(p: Product) -> Number
     rare_down(p)
 }
 
-// -p rounded down, which is the opposite of p rounded up; none where a factor is none or p is above all numbers.
+// -q, where q is p rounded up; none where a factor is none or p is above all numbers. It is computed as -p rounded down.
 pub fn rounded_up(p: Product) -> Number
     requires { ⌜ Formed p ⌝ }
     ensures { λ r. ⌜ RoundedUp p r ⌝ }

@@ -10,7 +10,7 @@ ghost use Rattle.unpacked.specs.Cuts.{nearestOf};
 // How many guard bits a significand gets before it is added: 24 + 36 bits, a carry and the sign fit into 64 bits.
 pub const GUARD: u32 = 36;
 
-// A shift by as many places loses all bits of a significand with its guard bits: 0 or -1 remains.
+// A shift by this many places loses all bits of a significand with its guard bits: 0 or -1 remains.
 const ALL: u32 = 61;
 
 // 2^n

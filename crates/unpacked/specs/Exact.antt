@@ -58,7 +58,7 @@ pub record RoundedDown (p : Product) (r : Number) : Type 0 where
   pub number : (X : ℤ) → Exact X p → Holds (down binary32 (2 ^ 149) X) r
   pub none : 1307 < p .exp → Holds none r
 
--- r is the negated p rounded up; none where a factor is none
+-- r is -q, where q is p rounded up; none where a factor is none
 pub record RoundedUp (p : Product) (r : Number) : Type 0 where
   pub number : (X : ℤ) → Exact X p → Holds (negate (up binary32 (2 ^ 149) X)) r
   pub none : 1307 < p .exp → Holds none r
