@@ -1,5 +1,5 @@
-/* Benchmarks, not proved: the library beside all peers, and how its times grow
-   with the sizes. Each prints tables, and is false where an answer differs. */
+/* Benchmarks, not proved: the library compared with all peers, and its times by
+   size. Each function prints tables, and returns false where a result differs. */
 #ifndef COMPARE_H
 #define COMPARE_H
 

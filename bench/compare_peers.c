@@ -1,5 +1,5 @@
-/* Benchmarks, not proved: the sheet job beside all peers, a table for each size
-   and data set. */
+/* Benchmarks, not proved: times the sheet job and all peers (peer.h), and prints a
+   table for each size and data set. */
 #include "compare.h"
 #include "measure.h"
 #include "table.h"
@@ -54,7 +54,7 @@ static void print_peer(size_t p, const struct times *times)
     printf("\n");
 }
 
-/* Ours by each method over one time. */
+/* A row with the same time for all methods, and our time by each method over it. */
 static void print_against(const char *name, double time, const struct times *times)
 {
     printf("| %-38s |", name);

@@ -1,5 +1,5 @@
-/* Benchmarks, not proved: how the time of the sheet job grows with k and with the
-   number of cells, beside plain C over 64-bit integers. */
+/* Benchmarks, not proved: how the time of the sheet job grows with the inner size k
+   and with all three sizes, compared with plain C over 64-bit integers. */
 #include "compare.h"
 #include "measure.h"
 #include "table.h"

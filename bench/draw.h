@@ -1,5 +1,5 @@
-/* Benchmarks, not proved: random bits by the splitmix64 generator, the same in
-   each run, and numbers made of them. */
+/* Benchmarks, not proved: random numbers by the splitmix64 generator, the same in
+   each run. */
 #ifndef DRAW_H
 #define DRAW_H
 
@@ -14,7 +14,7 @@ static inline uint64_t draw(void)
     return z ^ (z >> 31);
 }
 
-/* Any sign and fraction, and an exponent field from least to greatest. */
+/* A random pattern with an exponent field from least to greatest. */
 static inline uint32_t draw_number(uint32_t least, uint32_t greatest)
 {
     uint64_t bits = draw();

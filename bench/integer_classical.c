@@ -1,6 +1,6 @@
-/* The classical product in plain C over 64-bit integers, not proved, with four
-   exact products a step in place of eight: bounds are taken apart once a step,
-   and each of the four exact corner products is rounded down and up. */
+/* The classical method in plain C over 64-bit integers, not proved. In each step the
+   four exact corner products are computed once, and each is rounded down and up;
+   integer_product.c computes four for each direction, eight in all. */
 #include "integer_product.h"
 
 #include "plain_number.h"

@@ -1,5 +1,5 @@
-/* The products in plain C over 64-bit integers, not proved. What belongs to a cell
-   alone is worked out once a cell. */
+/* The products in plain C over 64-bit integers, not proved. Values that depend on one
+   cell are computed once for each cell, before the entries. */
 #include "integer_product.h"
 
 #include "plain_number.h"
@@ -7,8 +7,8 @@
 
 #define TINY 0x01000000u /* 2^-125 */
 
-/* Factors of a cell of A and of one of B: |m|, method 3's r' or r, |m| + r, the
-   part p, and -|p| or |p|. */
+/* For each cell of A: |m|, the part p, and -|p|. For each cell of B: method 3's r', or
+   r by the other methods; |m| + r; the part p; and |p|. */
 static uint32_t abs_a[CELLS], part_a[CELLS], minus_a[CELLS];
 static uint32_t inner_b[CELLS], outer_b[CELLS], part_b[CELLS], abs_part_b[CELLS];
 
@@ -26,7 +26,7 @@ static uint32_t part(uint32_t m, uint32_t r)
     return (m & SIGN) | least(m & ~SIGN, r);
 }
 
-/* (k + 2) / 2^24 for method 3, in exact steps. */
+/* (k + 2) / 2^24 for method 3, as an exact sum of k + 2 terms 2^-24. */
 static uint32_t raised(size_t k)
 {
     uint32_t total = 0;

@@ -1,8 +1,9 @@
-/* Benchmarks, not proved: times the sheet job, and says which peers are missing.
+/* Benchmarks, not proved: times the sheet job and its peers, and prints which peers
+   are not installed.
 
    jobs [rounds]
 
-   Stops with status 1 where an answer of a timed call differs. */
+   Stops with status 1 where the result of a timed call differs. */
 #include "timing.h"
 
 #include "compare.h"

@@ -1,4 +1,4 @@
-/* Benchmarks, not proved: draws the matrices that are multiplied. */
+/* Benchmarks, not proved: draws random matrices to be multiplied. */
 #include "matrices.h"
 
 #include "bits.h"

@@ -1,4 +1,4 @@
-/* Benchmarks, not proved: the matrices that are multiplied, as patterns. */
+/* Benchmarks, not proved: the two matrices to be multiplied, as patterns. */
 #ifndef MATRICES_H
 #define MATRICES_H
 
@@ -15,8 +15,8 @@ struct matrices {
     uint32_t al[CELLS], au[CELLS], bl[CELLS], bu[CELLS];
 };
 
-/* Magnitudes are from 2^-spread to 2^(spread + 1), signs are free. A cell's
-   bounds are free of each other, or, where it is narrow, c and c(1 + 2^-10). */
+/* Magnitudes are from 2^-spread to 2^(spread + 1), with random signs. The two bounds
+   of a cell are independent, or, in a narrow data set, c and c(1 + 2^-10). */
 struct data_set {
     const char *title;
     uint32_t spread;

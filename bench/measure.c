@@ -1,6 +1,6 @@
-/* Benchmarks, not proved: times peers in turns. In its turn a peer runs once
-   untimed, so that its memory is in the caches, and then timed, small products
-   several times in a row; the answer is compared after each turn. */
+/* Benchmarks, not proved: times the peers in turns. In its turn a peer runs once
+   untimed, to fill the caches, and then timed, several times in a row for small
+   products; after each turn its result is compared. */
 #include "timing.h"
 
 #include "measure.h"
@@ -8,8 +8,8 @@
 #include <stdio.h>
 #include <string.h>
 
-#define STEPS 256  /* steps over l that a turn has at least */
-#define SHORT 1024 /* with up to as many, there are ten times as many rounds */
+#define STEPS 256  /* the least number of steps over l in a turn */
+#define SHORT 1024 /* products with at most this many steps get ten times as many rounds */
 
 const int methods[METHODS] = {1, 3, 4, 7};
 
@@ -30,7 +30,7 @@ static bool equal(const struct bounds *x, const struct bounds *y, size_t cells)
         && memcmp(x->upper, y->upper, cells * sizeof x->upper[0]) == 0;
 }
 
-/* Nanoseconds a call, or LONGEST where the answer is not the expected one. */
+/* The nanoseconds of one call, or LONGEST where the result is not the expected one. */
 static double turn(const struct matrices *x, const struct peer *peer, int method)
 {
     static struct bounds found;

@@ -1,4 +1,4 @@
-/* Benchmarks, not proved: times of peers on one pair of matrices. */
+/* Benchmarks, not proved: the times of peers on one pair of matrices. */
 #ifndef MEASURE_H
 #define MEASURE_H
 
@@ -9,7 +9,7 @@
 
 extern const int methods[METHODS];
 
-/* Nanoseconds a call, the least of all rounds. */
+/* The nanoseconds of one call, the least of all rounds. */
 struct times {
     double least[MOST_PEERS][METHODS];
 };
@@ -17,9 +17,9 @@ struct times {
 /* Whether a peer has the method with this index in methods. */
 bool has_method(const struct peer *peer, int method);
 
-/* Times the peers in turns, by each method that they have; small products have ten
-   times as many rounds. The first peer's answers are what the answer of each timed
-   call must be, bit for bit: prints the peer and returns false where one differs. */
+/* Times the peers in turns, by each method that they have; small products get ten
+   times as many rounds. Each result must equal the first peer's, bit for bit: where
+   one differs, prints the peer's name and returns false. */
 bool measure(const struct matrices *x, const struct peer *const *peers, size_t count, int rounds, struct times *times);
 
 #endif

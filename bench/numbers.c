@@ -1,11 +1,11 @@
-/* Benchmarks, not proved: times the twelve operations on numbers, the library's
-   beside the same algorithm in plain C and the machine's own, on the same pairs and
-   in turns. Calls are independent of each other and go through a pointer.
+/* Benchmarks, not proved: times the twelve operations: the library's, the same
+   algorithm in plain C, and the machine's own, in turns on the same pairs. Each call
+   is independent of the others and made through a function pointer.
 
    numbers [rounds]
 
-   The least of ten times as many rounds counts, since they are short. Stops with
-   status 1 where two answers differ. */
+   Runs ten times as many rounds, since a round is short, and takes the least time.
+   Stops with status 1 where two results differ. */
 #include "timing.h"
 
 #include <fenv.h>
@@ -23,9 +23,10 @@ typedef uint32_t operation(uint32_t a, uint32_t b);
 
 static uint32_t left[PAIRS], right[PAIRS];
 
-/* The machine's operations, in the rounding mode that is set. A midpoint is
-   narrowed from binary64: a sum that is not exact there lies far from every
-   point where the narrowing to nearest would change. */
+/* The machine's operations, in the rounding mode that is set. A midpoint is computed
+   in binary64 and then rounded to binary32. Where the binary64 sum is not exact, the
+   midpoint is close to a binary32 number, far from every tie, so that the second
+   rounding does no harm. */
 static uint32_t machine_add(uint32_t a, uint32_t b)
 {
     return pattern_of(value_of(a) + value_of(b));
@@ -67,7 +68,8 @@ static const struct row {
 
 #define ROWS (sizeof rows / sizeof rows[0])
 
-/* The machine's answer in the library's form. */
+/* The machine's result as the library returns it: 0 for both zeros, and refusal 5 for
+   an infinity. */
 static uint32_t coded(uint32_t pattern)
 {
     uint32_t magnitude = pattern & 0x7FFFFFFF;
@@ -91,7 +93,7 @@ static int differences(const struct row *row)
 
 static volatile uint32_t sink;
 
-/* Nanoseconds a call over all pairs. */
+/* The mean nanoseconds of one call over all pairs. */
 static double time_calls(operation *call)
 {
     uint32_t sum = 0;

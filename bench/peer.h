@@ -1,4 +1,5 @@
-/* Benchmarks, not proved: an implementation of the products that is timed. */
+/* Benchmarks, not proved: a peer is an implementation of the products that is timed
+   and compared with the library, which is itself one of them. */
 #ifndef PEER_H
 #define PEER_H
 
@@ -12,13 +13,13 @@ struct peer {
     const char *name;
     bool classical_only; /* method 1 alone */
 
-    /* Takes the matrices over in the peer's own form; not timed. */
+    /* Copies the matrices in the peer's own representation; not timed. */
     void (*load)(const struct matrices *x);
 
-    /* Multiplies what was loaded; timed. Whether there is a product. */
+    /* Multiplies the loaded matrices; timed. Returns false on overflow. */
     bool (*run)(int method);
 
-    /* The product's bounds as patterns by rows, a zero as 0; not timed. */
+    /* The bounds of the product as patterns, by rows, 0 for both zeros; not timed. */
     void (*result)(uint32_t *lower, uint32_t *upper);
 };
 

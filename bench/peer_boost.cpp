@@ -1,6 +1,6 @@
-/* Benchmarks, not proved: the classical method by Boost.Interval<float>, with its
-   default policies, which set the rounding mode and set it back in each operation,
-   and with the mode set once a product and operations that leave it. */
+/* Benchmarks, not proved: the classical method by Boost.Interval<float>, as two peers:
+   with its default policies, which set and restore the rounding mode in each
+   operation, and with the mode set once for each product. */
 #include <cmath>
 
 #include <boost/numeric/interval.hpp>

@@ -1,5 +1,5 @@
-/* Benchmarks, not proved: the library, as the sheet job (both sheets read, the
-   result written) and as the product alone on matrices that lie ready. */
+/* Benchmarks, not proved: the library as two peers: the sheet job, which reads both
+   sheets and writes the result, and the product alone, on matrices in memory. */
 #include <string.h>
 
 #include "coupling.h"

@@ -1,5 +1,5 @@
-/* Benchmarks, not proved: plain C as peers, over 64-bit integers and on the
-   machine's floats. Cells lie ready, and neither reads nor writes sheets. */
+/* Benchmarks, not proved: peers in plain C, over 64-bit integers and on the machine's
+   floats. They work on matrices in memory and neither read nor write sheets. */
 #include "bits.h"
 #include "integer_product.h"
 #include "peer.h"

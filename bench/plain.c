@@ -1,4 +1,4 @@
-/* The operations in plain C as functions to call, not proved. */
+/* Benchmarks, not proved: the operations of plain_number.h as functions. */
 #include "plain.h"
 
 #include "plain_number.h"

@@ -1,5 +1,5 @@
-/* The operations in plain C, not proved: what the benchmark compares with.
-   Each returns what the operation of the same name in coupling.h does. */
+/* Benchmarks, not proved: the operations in plain C, to compare the library with.
+   Each returns the same as the operation of the same name in coupling.h. */
 #ifndef PLAIN_H
 #define PLAIN_H
 

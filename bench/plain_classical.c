@@ -1,5 +1,5 @@
-/* Benchmarks, not proved: the classical method on the machine's floats, rounded in
-   the mode that is set. */
+/* Benchmarks, not proved: the classical method on the machine's floats, in the
+   rounding mode that is set. Called by plain_product.c. */
 #include "plain_product.h"
 
 static float least(float x, float y) { return x < y ? x : y; }

@@ -1,8 +1,7 @@
-/* The operations in plain C, not proved: the library's algorithm, with a sign
-   and a magnitude in place of a signed significand. An exact value, or one
-   that no rounding tells from it, is rounded once. No branch goes by a sign,
-   which no processor can foretell. A header, so that the compiler can put them in
-   place of calls. */
+/* Benchmarks, not proved: the operations in plain C, by the library's algorithm, but
+   with sign and magnitude in place of a signed significand. The exact result, or a
+   value with the same roundings, is rounded once. No branch depends on a sign, since
+   signs are hard to predict. In a header, so that the compiler can inline them. */
 #ifndef PLAIN_NUMBER_H
 #define PLAIN_NUMBER_H
 
@@ -43,7 +42,7 @@ static inline struct number product(struct number x, struct number y)
     return (struct number){x.negative != y.negative, x.sig * y.sig, x.exp + y.exp};
 }
 
-/* m, or -m, which is m with all bits turned over and 1 more. */
+/* m, or -m: all bits inverted, plus 1. */
 static inline int64_t with_sign(bool negative, int64_t m)
 {
     int64_t ones = -(int64_t)negative;
@@ -55,8 +54,8 @@ static inline int64_t shifted(struct number x, uint32_t n)
     return with_sign(x.negative, (int64_t)(x.sig << n));
 }
 
-/* x + y. Where one is more than 36 places below the other, a unit 36 places
-   below stands for it: no rounding tells the two apart. */
+/* x + y. Where the exponents differ by more than 36, the smaller summand is replaced
+   by a sticky bit 36 places below the other one: all roundings are the same. */
 static inline struct number sum(struct number x, struct number y)
 {
     uint32_t low = x.exp < y.exp ? x.exp : y.exp;
@@ -72,22 +71,23 @@ static inline struct number sum(struct number x, struct number y)
     return (struct number){negative, (uint64_t)with_sign(negative, total), low};
 }
 
-/* Down and up: whether a value between two numbers goes away from 0. */
+/* For rounding down and up: whether a value is rounded away from zero. */
 static inline bool away(bool negative, enum direction direction)
 {
     return negative == (direction == DOWN);
 }
 
-/* The magnitude's pattern rounded towards 0, and what was lost, in units of
-   2^-places of the last digit kept. */
+/* The pattern of a magnitude rounded toward zero, and the bits lost by it: `lost` is
+   in 2^-places of the last bit kept. */
 struct cut {
     uint32_t magnitude, places;
     uint64_t lost;
 };
 
-/* x * 2^(lift - 149) units, not 0: all but 24 digits are cut off, or all below one
-   unit. The digits of x, 61 at most, are first moved up to 61, so that n places
-   are always cut, 62 standing for any more. */
+/* x * 2^(lift - 149) units, not 0, rounded toward zero to 24 bits, or to whole units
+   where that is less. x has at most 61 bits and is first shifted up to 61; then n
+   bits are dropped, at most 62. 173 = 149 + 24 is the exponent of 2^24 units, and
+   210 = 149 + 61 that of 2^61 units. */
 static inline struct cut cut(struct number x, uint32_t lift)
 {
     uint32_t zeros = (uint32_t)__builtin_clzll(x.sig);
@@ -98,7 +98,8 @@ static inline struct cut cut(struct number x, uint32_t lift)
     return (struct cut){(top - kept) * 0x800000 + (uint32_t)c, n, w - (c << n)};
 }
 
-/* With its sign; one that is too large is refused, or is the largest number. */
+/* The pattern with its sign. A magnitude that is too large is refused with 5, or
+   becomes the largest number where the direction is toward zero. */
 static inline uint32_t packed(bool negative, uint32_t magnitude, enum direction direction)
 {
     uint32_t sign = (uint32_t)negative << 31;

@@ -1,10 +1,10 @@
-/* The order of patterns by the numbers that they stand for, in plain C, not proved. */
+/* Benchmarks, not proved: the order of patterns by their values, in plain C. */
 #ifndef PLAIN_ORDER_H
 #define PLAIN_ORDER_H
 
 #include "plain_number.h"
 
-/* Grows with the number that the pattern stands for. */
+/* An integer that rises with the value of the pattern, 0 for both zeros. */
 static inline int32_t order(uint32_t p)
 {
     return p & SIGN ? -(int32_t)(p & ~SIGN) : (int32_t)p;

@@ -1,8 +1,8 @@
-/* The products in plain C on the machine's floats, not proved: the steps of
-   the four methods, each operation rounded by the machine in the mode that is
-   set. The steps are put in passes of one mode each, so that the mode is set
-   a few times a product. A pass reads and writes memory alone, and so
-   cannot be moved over a call of fesetround. */
+/* Benchmarks, not proved: the products in plain C on the machine's floats, each
+   operation rounded by the machine in the mode that is set. The steps of a method are
+   grouped into passes of one mode each, so that a product sets the mode only a few
+   times. A pass takes its operands from memory and leaves its results there, and so
+   the compiler cannot move it over a call of fesetround. */
 #include "plain_product.h"
 
 #include <fenv.h>
@@ -11,13 +11,13 @@
 
 #define PASS static __attribute__((noinline)) void
 
-/* Radii of the result; of B, |mB| + rB, and rB or method 3's rB'; method 7's
-   parts. */
+/* radius: the radii of the result. wide: |mB| + rB. inner: method 3's rB', or rB by
+   the other methods. pa, pb: method 7's parts. */
 static float radius[CELLS], wide[CELLS], inner[CELLS], pa[CELLS], pb[CELLS];
 
 static float least(float x, float y) { return x < y ? x : y; }
 
-/* start, and then x[0] * y[0], x[1] * y[n], .. one after the other. */
+/* start + x[0] * y[0] + x[1] * y[n] + .., added from the left. */
 static inline float dot(size_t k, size_t n, const float *x, const float *y, float start)
 {
     for (size_t l = 0; l < k; l++)
@@ -48,7 +48,7 @@ static void parts(size_t cells, const float *m, const float *r, float *p)
         p[c] = copysignf(least(fabsf(m[c]), r[c]), m[c]);
 }
 
-/* Mode up: the radii of the result, from what is worked out once a cell. */
+/* Mode up: first |mB| + rB and rB' for each cell of B, then the radii of the result. */
 PASS radii(int method, size_t m, size_t k, size_t n, struct floats *f)
 {
     float factor = (float)(k + 2) * 0x1p-24f;
@@ -69,7 +69,7 @@ PASS radii(int method, size_t m, size_t k, size_t n, struct floats *f)
         }
 }
 
-/* The sums of mA * mB, for method 7 continued with pA * pB, in any mode. */
+/* In the mode that is set: the sums of mA * mB, by method 7 continued with pA * pB. */
 PASS centres(int method, size_t m, size_t k, size_t n, const struct floats *f, float *out)
 {
     for (size_t i = 0; i < m; i++)
@@ -123,9 +123,9 @@ static bool all_finite(size_t cells, const float *x)
     return true;
 }
 
-/* A step that overflows leaves its entry infinite or not a number: up never
-   gives minus infinity and down never plus infinity, so no later step brings
-   a sum back. */
+/* A step that overflows makes its entry infinite or NaN, and no later step makes it
+   finite again; so only the results are tested. Rounding up never gives minus
+   infinity, and rounding down never plus infinity. */
 bool plain_product(int method, size_t m, size_t k, size_t n, struct floats *f)
 {
     fesetround(FE_UPWARD);

@@ -1,7 +1,6 @@
-/* Benchmarks, not proved: reader and writer of the coupling sheet in plain C.
-   They are those of tests/oracle, here over the operations of plain.c in place of
-   the machine's rounding modes, and included, so that small functions are put in
-   place of calls. */
+/* Benchmarks, not proved: reader and writer of the coupling sheet in plain C: those of
+   tests/oracle, with the operations of plain.c in place of the machine's rounding
+   modes. The source is included here, so that the compiler can inline. */
 #include "bits.h"
 
 #include "../tests/oracle/parts.h"
@@ -18,7 +17,7 @@ uint32_t magnitude(uint32_t pattern)
     return pattern & ~SIGN_BIT;
 }
 
-/* A reader asks for the lower bound less an amount and the upper one plus it. */
+/* The reader uses only two operations: subtraction rounded down, addition rounded up. */
 uint32_t oracle_operate(enum operation operation, enum direction direction, uint32_t a, uint32_t b, uint32_t *result)
 {
     (void)direction;

@@ -1,10 +1,10 @@
 /* Benchmarks, not proved: times reading and writing a full coupling sheet of 1,024
-   cells, beside plain C (plain_sheet.c), in turns.
+   cells, by the library and by plain C (plain_sheet.c), in turns.
 
    sheets [rounds]
 
-   The least of ten times as many rounds counts, since they are short. Stops with
-   status 1 where the two answers differ in a word or a byte. */
+   Runs ten times as many rounds, since a round is short, and takes the least time.
+   Stops with status 1 where the two results differ. */
 #include "timing.h"
 
 #include <string.h>
@@ -26,7 +26,7 @@ struct pair {
 static uint8_t given[COUPLING_SHEET_MAX], our_sheet[COUPLING_SHEET_MAX], plain_sheet[COUPLING_SHEET_MAX];
 static struct cells our_cells, plain_cells;
 
-/* All classes in turn, or class 0 alone. */
+/* The full sheet with all wear classes, or with class 0 only. */
 static void put_given(bool classes)
 {
     put_full(given);
@@ -47,7 +47,7 @@ static bool time_read(struct pair *least)
         && memcmp(&our_cells, &plain_cells, sizeof our_cells) == 0;
 }
 
-/* Writes what was read last. */
+/* Writes the cells that were read last. */
 static bool time_write(struct pair *least)
 {
     size_t written;

@@ -1,10 +1,10 @@
-/* Benchmarks, not proved: tables are printed as Markdown, cell by cell. */
+/* Benchmarks, not proved: prints tables in Markdown, field by field. */
 #ifndef TABLE_H
 #define TABLE_H
 
 #include <stdio.h>
 
-/* The line under a table's head: names to the left, numbers to the right. */
+/* The line under the head of a table: the first column is aligned left, the others right. */
 static inline void print_rule(int numbers)
 {
     printf("|---|");
@@ -18,7 +18,7 @@ static inline void print_empty(void)
     printf(" %6s |", "");
 }
 
-/* Three digits or more. */
+/* With at least three significant digits for numbers from 1 on. */
 static inline void print_number(double x)
 {
     printf(" %6.*f |", x >= 100 ? 0 : x >= 10 ? 1 : x >= 1 ? 2 : 3, x);

@@ -1,5 +1,5 @@
-/* Benchmarks, not proved: the clock, the least of many times, and the number of
-   rounds, which is a program's argument. Include this file first. */
+/* Benchmarks, not proved: the clock, the least of several times, and the number of
+   rounds, which is the argument of a program. Include this file first. */
 #ifndef TIMING_H
 #define TIMING_H
 
@@ -9,7 +9,7 @@
 
 #define LONGEST 1e18
 
-/* Nanoseconds. */
+/* The time in nanoseconds, from any fixed start. */
 static inline double now(void)
 {
     struct timespec t;

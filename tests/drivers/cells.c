@@ -1,4 +1,4 @@
-/* Drivers, not proved: random cells of the matrices of a product. */
+/* Test drivers, not proved: random cells for the matrices of a product. */
 #include "cells.h"
 
 #include "draw.h"
@@ -7,12 +7,12 @@
 void draw_kinds(struct kind *a, struct kind *b)
 {
     static const struct kind pairs[][2] = {
-        {{122, 132}, {122, 132}},   /* of like size */
+        {{122, 132}, {122, 132}},   /* of similar size */
         {{0, 1}, {0, 2}},           /* subnormal */
-        {{0, 1}, {120, 150}},       /* subnormal by ordinary */
-        {{252, 254}, {110, 128}},   /* near MAX by at most 1 or so */
-        {{0, 254}, {0, 254}},       /* wide */
-        {{100, 154}, {100, 154}},   /* spread */
+        {{0, 1}, {120, 150}},       /* subnormal times normal */
+        {{252, 254}, {110, 128}},   /* near MAX times about 1 or less */
+        {{0, 254}, {0, 254}},       /* any exponent */
+        {{100, 154}, {100, 154}},   /* from 2^-27 to 2^28 */
         {{45, 58}, {45, 60}},       /* products about 2^-149 */
         {{186, 191}, {186, 190}},   /* products about 2^127 */
     };
@@ -28,7 +28,7 @@ static uint32_t draw_bound(struct kind kind)
     return draw_number(field, draw_fraction());
 }
 
-/* A number at most a few places above, towards MAX. */
+/* One to three steps above p in the order of values; at most MAX. */
 static uint32_t a_little_above(uint32_t p)
 {
     for (int steps = from_to(1, 3); steps > 0; steps--)
@@ -53,10 +53,10 @@ void draw_cell(struct kind kind, uint32_t *lower, uint32_t *upper)
         *upper = a_little_above(*lower);
         break;
     case 4:
-        *upper = *lower ^ SIGN;             /* as far below zero as above it */
+        *upper = *lower ^ SIGN;             /* symmetric about zero */
         break;
     case 5:
-        *upper = draw_sign(0);              /* zero is a bound; of either sign */
+        *upper = draw_sign(0);              /* one bound is a zero, of either sign */
         break;
     case 6:
         *lower = draw_sign(0);
@@ -76,7 +76,7 @@ void draw_infinite(struct kind kind, uint32_t *lower, uint32_t *upper)
         *upper = draw_not_finite();
 }
 
-/* Of two zeros neither is above the other, whatever their signs. */
+/* Redraws points and cells with two zeros: their exchanged bounds are still in order. */
 void draw_crossed(struct kind kind, uint32_t *lower, uint32_t *upper)
 {
     do

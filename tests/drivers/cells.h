@@ -1,23 +1,23 @@
-/* Drivers, not proved: random cells of the matrices of a product. */
+/* Test drivers, not proved: random cells for the matrices of a product. */
 #ifndef CELLS_H
 #define CELLS_H
 
 #include <stdint.h>
 
-/* What kind of numbers a matrix holds: exponent fields within a range. */
+/* The kind of the numbers of a matrix: a range of exponent fields. */
 struct kind {
     int least, greatest;    /* 0 to 254 */
 };
 
-/* Kinds of A and of B: of like size, subnormal, near MAX, wide, products at
-   the smallest and at the largest numbers. */
+/* The kinds of A and B: of similar size, subnormal, near MAX, any exponent, or with
+   products near the smallest or the largest number. */
 void draw_kinds(struct kind *a, struct kind *b);
 
-/* A cell with bounds in order. */
+/* A valid cell. */
 void draw_cell(struct kind kind, uint32_t *lower, uint32_t *upper);
 
-/* A cell with a fault: exponent field 255 in a bound or in both, or bounds
-   that are crossed. */
+/* A faulty cell: a bound, or both, with exponent field 255; or a lower bound above the
+   upper one. */
 void draw_infinite(struct kind kind, uint32_t *lower, uint32_t *upper);
 void draw_crossed(struct kind kind, uint32_t *lower, uint32_t *upper);
 

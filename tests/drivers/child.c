@@ -1,4 +1,4 @@
-/* Driver of the printed product, not proved: running a program. */
+/* Test driver of the printed product, not proved: runs the program. */
 #define _POSIX_C_SOURCE 200809L
 #include "child.h"
 
@@ -26,7 +26,7 @@ size_t read_file(const char *path, void *bytes, size_t room)
     return length;
 }
 
-/* A file with these bytes, that no directory has; its offset is at the start. */
+/* A temporary file with these bytes, which has no name; its offset is at the start. */
 static int file_of(const uint8_t *bytes, size_t length)
 {
     static FILE *file;

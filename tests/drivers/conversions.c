@@ -1,11 +1,12 @@
-/* Driver, not proved: the two conversions beside the independent implementation's,
-   in the answer and in both words that are lent, with guards around them.
+/* Test driver, not proved: compares the library's two conversions with those of the
+   independent implementation, in the answer, in both words that are lent for writing,
+   and in the guard words around them.
 
      conversions SEED COUNT [FIRST]   all pairs of the edge patterns, unless FIRST is
                                       given, then COUNT random pairs; each pair is
                                       converted both ways
 
-   Status 1 if an answer differs, or if a refusal was met too seldom. */
+   Status 1 if a call differs, or if a refusal occurred too seldom. */
 #include <inttypes.h>
 #include <stdio.h>
 
@@ -17,7 +18,7 @@
 
 static const char *const columns[] = {"to_midrad", "to_bounds", NULL};
 
-/* A midpoint and its radius always have numbers. */
+/* Bounds to midpoint and radius never overflows, so refusal 5 is for the other one. */
 static struct outcome outcomes[] = {
     {.number = 0, .met_by = 3}, {.number = 3, .met_by = 3}, {.number = 4, .met_by = 3}, {.number = 5, .met_by = 2},
 };

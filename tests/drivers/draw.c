@@ -1,4 +1,4 @@
-/* Drivers, not proved: the splitmix64 generator, and choices made with it. */
+/* Test drivers, not proved: the splitmix64 generator, and random choices by it. */
 #include "draw.h"
 
 static uint64_t state;

@@ -1,11 +1,11 @@
-/* Drivers, not proved: prints test vectors of the twelve operations, worked out by
-   the independent implementation, one a line, in the form that vector.h describes.
+/* Test drivers, not proved: prints test vectors of the twelve operations, with the
+   results of the independent implementation, one a line, as vector.h describes.
 
      generate edges              every operation and direction on every ordered
                                  pair of the edge patterns
      generate random SEED COUNT  COUNT lines of mixed kinds, repeatable
 
-   Status 1 where not all could be written. */
+   Status 1 if the output could not be written. */
 #include <stdio.h>
 #include <string.h>
 

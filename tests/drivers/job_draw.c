@@ -1,4 +1,4 @@
-/* Drivers of jobs and of the printed product, not proved: what a job is given. */
+/* Test drivers of jobs and of the printed product, not proved: random arguments. */
 #include "job_draw.h"
 
 #include "draw.h"

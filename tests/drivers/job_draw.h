@@ -1,4 +1,4 @@
-/* Drivers of jobs and of the printed product, not proved: what a job is given. */
+/* Test drivers of jobs and of the printed product, not proved: random arguments. */
 #ifndef JOB_DRAW_H
 #define JOB_DRAW_H
 
@@ -10,8 +10,8 @@ struct job {
     uint8_t a[GUARDED(BYTES)], b[GUARDED(BYTES)];
 };
 
-/* Sheets that fit, that do not, or that are damaged; most often a method that is
-   known. The sheets are put behind their guards, and the guards are filled. */
+/* Draws a method, which is mostly 1, 3, 4 or 7, and two sheets, which can be multiplied,
+   cannot, or are damaged. The sheets are put behind guard bytes, which are filled. */
 void draw_job(struct job *job);
 
 #endif

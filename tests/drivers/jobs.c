@@ -1,9 +1,10 @@
-/* Driver, not proved: the library's sheet job beside the independent
-   implementation's, in the answer and in every byte of the three buffers.
+/* Test driver, not proved: compares the library's sheet job with that of the independent
+   implementation, in the answer and in every byte of the three buffers.
 
      jobs SEED COUNT [FIRST]
 
-   Status 1 if an answer differs, or if a refusal was met too seldom. */
+   Makes COUNT random calls. Status 1 if a call differs, or if a refusal occurred too
+   seldom. */
 #include "coupling.h"
 #include "draw.h"
 #include "job_draw.h"

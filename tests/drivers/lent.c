@@ -1,4 +1,4 @@
-/* Drivers, not proved: memory that a call is lent, filled and compared. */
+/* Test drivers, not proved: fills and compares the memory that is lent to a call. */
 #include "lent.h"
 
 #include <inttypes.h>

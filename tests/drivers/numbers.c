@@ -1,4 +1,4 @@
-/* Drivers, not proved: random patterns of binary32. */
+/* Test drivers, not proved: random patterns of binary32. */
 #include "numbers.h"
 
 #include "draw.h"
@@ -7,17 +7,17 @@ const uint32_t edges[EDGES] = {
     0x00000000, 0x80000000,                         /* zeros */
     0x00000001, 0x80000001, 0x00000002, 0x00000003, 0x80000003, /* units */
     0x00400000, 0x007FFFFF, 0x807FFFFF,             /* subnormals */
-    0x00800000, 0x80800000, 0x00800001,             /* least normals */
-    0x1A000000, 0x9A000001,                         /* 2^-75: product half a unit */
-    0x33000000, 0xB3000000, 0x33000001,             /* 2^-25: half step below 1 */
-    0x33800000, 0xB3800000, 0x337FFFFF, 0x33800001, /* 2^-24: half step above 1 */
-    0x34000000,                                     /* 2^-23: step above 1 */
+    0x00800000, 0x80800000, 0x00800001,             /* smallest normal numbers */
+    0x1A000000, 0x9A000001,                         /* 2^-75, whose square is half a unit */
+    0x33000000, 0xB3000000, 0x33000001,             /* 2^-25: half an ulp below 1 */
+    0x33800000, 0xB3800000, 0x337FFFFF, 0x33800001, /* 2^-24: half an ulp above 1 */
+    0x34000000,                                     /* 2^-23: an ulp above 1 */
     0x3F000000, 0x3F7FFFFF, 0xBF7FFFFF,             /* one half, 1 - 2^-24 */
     0x3F800000, 0xBF800000, 0x3F800001, 0xBF800001, /* 1, 1 + 2^-23 */
-    0x40000000, 0x5F800000, 0x5F7FFFFF,             /* 2, 2^64: product 2^128 */
-    0x73000000, 0xF3000000, 0x72FFFFFF, 0x73000001, /* 2^103: half step at MAX */
-    0x73800000, 0xF3800000,                         /* 2^104: step at MAX */
-    0x7F000000, 0x7F7FFFFE, 0x7F7FFFFF, 0xFF7FFFFE, 0xFF7FFFFF, /* to MAX */
+    0x40000000, 0x5F800000, 0x5F7FFFFF,             /* 2, and 2^64, whose square is 2^128 */
+    0x73000000, 0xF3000000, 0x72FFFFFF, 0x73000001, /* 2^103: half an ulp at MAX */
+    0x73800000, 0xF3800000,                         /* 2^104: an ulp at MAX */
+    0x7F000000, 0x7F7FFFFE, 0x7F7FFFFF, 0xFF7FFFFE, 0xFF7FFFFF, /* up to MAX */
     0x7F800000, 0xFF800000, 0x7FC00000, 0xFF800001, /* exponent field 255 */
 };
 
@@ -61,7 +61,7 @@ uint32_t draw_pattern(void)
     }
 }
 
-/* Rises with the number; both zeros give 0. */
+/* An integer that rises with the value of the pattern, 0 for both zeros. */
 static int64_t rank(uint32_t pattern)
 {
     return pattern & SIGN ? -(int64_t)(pattern & ~SIGN) : (int64_t)pattern;

@@ -1,4 +1,4 @@
-/* Drivers, not proved: random patterns of binary32. */
+/* Test drivers, not proved: random patterns of binary32. */
 #ifndef NUMBERS_H
 #define NUMBERS_H
 
@@ -10,27 +10,27 @@
 #define ONE 0x3F800000u
 #define TWO 0x40000000u
 
-/* Patterns at which rounding changes: zeros, units, least normals, halves of the
-   distance to the next number, MAX, exponent field 255. */
+/* Edge patterns, near which rounding is decided: zeros, one to three units, the smallest
+   normal numbers, halves of an ulp, MAX, exponent field 255. */
 #define EDGES 48
 extern const uint32_t edges[EDGES];
 
-/* Any 23 bits, or a few at the top, or ones and zeros in two runs. */
+/* 23 random bits, or only the top two random, or a run of ones and a run of zeros. */
 uint32_t draw_fraction(void);
 
 uint32_t draw_sign(uint32_t magnitude);
 
-/* Either sign; an exponent field outside 0 to 254 is cut to that range. */
+/* A number of either sign; an exponent field outside 0 to 254 is moved into that range. */
 uint32_t draw_number(int field, uint32_t fraction);
 
 uint32_t draw_not_finite(void);     /* an infinity or a NaN, of either sign */
-uint32_t draw_pattern(void);        /* any at all; the edges are frequent */
+uint32_t draw_pattern(void);        /* any pattern; edge patterns are frequent */
 
-/* Exchanges two finite patterns where the first is above the second. */
+/* Exchanges the two finite patterns where the first has the greater value. */
 void put_in_order(uint32_t *lower, uint32_t *upper);
 
-/* The operands of an operation: of one of eleven kinds, as subnormals, halves of
-   the distance to the next number, products near MAX, exponent field 255. */
+/* The operands of an operation, of one of eleven kinds, such as subnormal numbers, ties,
+   products near MAX, exponent field 255. */
 void draw_pair(uint32_t *a, uint32_t *b);
 
 #endif

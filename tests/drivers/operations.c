@@ -1,12 +1,12 @@
-/* Driver, not proved: the library's twelve operations beside test vectors from
-   standard input, lines of the form that vector.h describes.
+/* Test driver, not proved: compares the library's twelve operations with test vectors
+   from standard input, one a line, as vector.h describes.
 
      operations [LEAST]
 
-   Prints the first vector that differs, if one does, with the library's answer, and
-   as the last line how many vectors there were, how many differ, and which refusals
-   were met. A line of another form differs, and so does one that is cut off. Status
-   1 if one differs, or if a refusal was met by an operation fewer than LEAST times. */
+   Prints the first vector that differs, if any, with the library's answer; in the last
+   line how many vectors there were, how many differ, and which refusals occurred. A
+   malformed or incomplete line counts as a difference. Status 1 if a vector differs, or
+   if a refusal occurred fewer than LEAST times in an operation. */
 #include <inttypes.h>
 #include <stdio.h>
 #include <stdlib.h>
@@ -31,14 +31,14 @@ static const char *const columns[] = {
     "mul_down", "mul_up", "mul_near", "midpoint_down", "midpoint_up", "midpoint_near", NULL,
 };
 
-/* A midpoint always has a number. */
+/* A midpoint never overflows, so refusal 5 is for the other nine operations. */
 static struct outcome outcomes[] = {
     {.number = 0, .met_by = 0xFFF}, {.number = 3, .met_by = 0xFFF}, {.number = 5, .met_by = 0x1FF},
 };
 
 static struct table table = {.columns = columns, .by = "operation", .outcomes = outcomes, .count = 3};
 
-/* What a line asks; false if it has another form. */
+/* Takes operation, direction and operands from a line; false if it is malformed. */
 static bool parse(const char *line, int *operation, int *direction, uint32_t *a, uint32_t *b)
 {
     static const char capitals[] = "0123456789ABCDEF";
@@ -54,7 +54,7 @@ static bool parse(const char *line, int *operation, int *direction, uint32_t *a,
     return true;
 }
 
-/* The end of the line by the library's answer. */
+/* The result as it is written at the end of a line. */
 static void result_text(uint32_t answer, char *text)
 {
     if (answer == COUPLING_INFINITY + COUPLING_NOT_FINITE || answer == COUPLING_INFINITY + COUPLING_OVERFLOW)
@@ -63,7 +63,7 @@ static void result_text(uint32_t answer, char *text)
         sprintf(text, "%08" PRIX32 "\n", answer);
 }
 
-/* Whether the line has the library's answer, to the byte. */
+/* Whether the result in the line is exactly the library's. */
 static bool holds(const char *line)
 {
     int operation, direction;
@@ -84,8 +84,8 @@ static bool holds(const char *line)
     return same;
 }
 
-/* A line with its line feed. Of one that is too long the rest is passed over, and
-   the line has none. */
+/* Reads a line with its line feed. The rest of a line that is too long is skipped, and
+   what was read has no line feed. False at the end of the input. */
 static bool next_line(char *line, int room)
 {
     if (fgets(line, room, stdin) == NULL)

@@ -1,4 +1,4 @@
-/* Drivers, not proved: a table of what the calls of a run met. */
+/* Test drivers, not proved: counts the outcomes of the calls of a run. */
 #include "outcomes.h"
 
 #include <stdio.h>
@@ -38,7 +38,7 @@ static int places_of(const struct outcome *o)
     return places;
 }
 
-/* Of the columns that can meet it, the calls of the one with the fewest. */
+/* The least number of calls with this outcome in a column that can have it. */
 static unsigned long fewest_calls(const struct outcome *o)
 {
     unsigned long fewest = (unsigned long)-1;

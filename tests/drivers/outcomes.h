@@ -1,5 +1,6 @@
-/* Drivers, not proved: a table of what the calls of a run met: for each refusal how
-   many calls, by each function or method, and at how many places. */
+/* Test drivers, not proved: a table of the outcomes of the calls of a run: for each
+   refusal, how often it occurred by each function or method, and at how many places
+   (row and column). */
 #ifndef OUTCOMES_H
 #define OUTCOMES_H
 
@@ -7,45 +8,45 @@
 #include <stddef.h>
 #include <stdint.h>
 
-#define COLUMNS 12  /* of any table, at most */
+#define COLUMNS 12  /* the most columns of a table */
 #define PLACES 32   /* rows and columns of the largest matrix */
 
-/* A refusal by its number and its matrix; both are 0 where a call is accepted. */
+/* An outcome: the number and the matrix of a refusal; both are 0 for an accepted call. */
 struct outcome {
     uint32_t number, matrix;
-    unsigned met_by;            /* a bit for each column that can meet it */
-    bool placed;                /* it names a row and a column */
+    unsigned met_by;            /* a bit for each column in which it can occur */
+    bool placed;                /* whether it names a row and a column */
     unsigned long calls[COLUMNS];
     bool at[PLACES][PLACES];
 };
 
 struct table {
-    const char *const *columns;         /* their names; NULL ends them */
-    const char *by;                     /* what a column stands for, or NULL */
-    unsigned long least;                /* calls of each column that can meet an outcome */
-    int least_places;                   /* at which a refusal of a cell must have been met */
+    const char *const *columns;         /* their names, then NULL */
+    const char *by;                     /* what a column is, such as "method", or NULL */
+    unsigned long least;                /* required calls with each outcome in each of its columns */
+    int least_places;                   /* required places of each refusal that names a cell */
     struct outcome *outcomes;
     size_t count;
-    unsigned long strange;              /* calls with an outcome that the table has not */
+    unsigned long strange;              /* calls with an outcome that is not in the table */
 };
 
-/* Counts a call by its column, from 0, and its code. */
+/* Counts a call by its column, from 0, and the code of its refusal, or 0. */
 void count_outcome(struct table *table, int column, uint32_t code);
 
 void print_table(const struct table *table);
 
-/* Whether every outcome was met often enough; if not, says which was not. */
+/* Whether every outcome occurred often enough; prints those that did not. */
 bool met_enough(const struct table *table);
 
-/* The rest of a line: how many refusals there are, and how often each was met. */
+/* Prints the rest of a line: how many refusals there are, and how often each occurred. */
 void print_summary(const struct table *table);
 
-/* Columns by method, for products and jobs. */
+/* For products and jobs: one column for each method, and one for all other numbers. */
 extern const char *const method_columns[];
 enum { METHODS = 0xF, OTHER_METHOD = 0x10 };
 int method_column(uint32_t method);
 
-/* The outcomes of a job or of the printed product that a sheet is refused with. */
+/* The refusals of sheet m, in a job or in the printed product. */
 #define SHEET_REFUSALS(m, columns) \
     {.number = 6, .matrix = m, .met_by = columns}, {.number = 1, .matrix = m, .met_by = columns}, \
     {.number = 7, .matrix = m, .met_by = columns}, {.number = 8, .matrix = m, .met_by = columns}, \

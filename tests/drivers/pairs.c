@@ -1,5 +1,5 @@
-/* Drivers, not proved: the operands of an operation, of kinds at which rounding is
-   hard to get right. */
+/* Test drivers, not proved: random operands of an operation, of kinds that are hard to
+   round correctly. */
 #include "draw.h"
 #include "numbers.h"
 
@@ -16,7 +16,7 @@ static void subnormals(uint32_t *a, uint32_t *b)
     *b = draw_number(field, draw_fraction());
 }
 
-/* One near MAX, the other near MAX or near half a step there. */
+/* One operand near MAX, the other near MAX or near half an ulp of MAX. */
 static void near_max(uint32_t *a, uint32_t *b)
 {
     int field = from_to(228, 232);
@@ -26,7 +26,7 @@ static void near_max(uint32_t *a, uint32_t *b)
         *b = draw_number(254, draw_fraction());
 }
 
-/* b is half a step or a quarter of a step of a, or a neighbour of that. */
+/* b is half an ulp or a quarter of an ulp of a, or a neighbour of these. */
 static void sum_ties(uint32_t *a, uint32_t *b)
 {
     int field = from_to(26, 254);
@@ -58,7 +58,7 @@ static void near_exponents(uint32_t *a, uint32_t *b)
     *b = draw_number(field + apart, draw_fraction());
 }
 
-/* A few units; the other the same or up to near 1. */
+/* One operand of at most 8 units, the other of any size up to about 2. */
 static void few_units(uint32_t *a, uint32_t *b)
 {
     int field = from_to(-128, 128);
@@ -72,7 +72,7 @@ static void near_one(uint32_t *a, uint32_t *b)
     *b = draw_sign((uint32_t)from_to(0x3F7FFFF8, 0x3F800008));
 }
 
-/* The product is near a unit, near the least normal or near MAX. */
+/* The product is near a unit, near the smallest normal number or near MAX. */
 static void product_edges(uint32_t *a, uint32_t *b)
 {
     static const int sums[3] = {104, 127, 381};
@@ -97,7 +97,7 @@ static void (*const kinds[])(uint32_t *a, uint32_t *b) = {
     near_exponents, few_units, near_one, product_edges, field_255,
 };
 
-/* The ten other kinds come twice as often as the exponent field 255. */
+/* Each of the first ten kinds is twice as frequent as exponent field 255. */
 void draw_pair(uint32_t *a, uint32_t *b)
 {
     kinds[from_to(0, 20) / 2](a, b);

@@ -1,11 +1,11 @@
-/* Driver, not proved: what the program print_product prints, beside what the
-   independent implementation prints.
+/* Test driver, not proved: compares the output of the program print_product with that
+   of the independent implementation.
 
      printed PROGRAM SEED COUNT [FIRST]   COUNT random inputs
-     printed PROGRAM stored FILE..        stored inputs, each NAME.in with what must be
-                                          printed in NAME.out
+     printed PROGRAM stored FILE..        stored inputs NAME.in, each with its expected
+                                          output in NAME.out
 
-   Status 1 if a text differs, or if a refusal was met too seldom. */
+   Status 1 if an output differs, or if a refusal occurred too seldom. */
 #include <inttypes.h>
 #include <stdio.h>
 #include <string.h>
@@ -40,7 +40,7 @@ static bool same_text(const char *whose, const char *text, size_t length, size_t
     return same;
 }
 
-/* What the independent implementation prints for the input; its length. */
+/* Puts the output of the independent implementation into `expected`; its length. */
 static size_t expect(size_t length)
 {
     size_t text = oracle_print(input, length, expected, TEXT_ROOM - 1);
@@ -48,7 +48,7 @@ static size_t expect(size_t length)
     return text;
 }
 
-/* Counts the expected text. */
+/* Counts the outcome in the expected text. */
 static void count_text(void)
 {
     struct refusal r = {0, 0, 0, 0};
@@ -60,7 +60,7 @@ static void count_text(void)
         count_outcome(&table, REFUSED_COLUMN, code_of(r));
 }
 
-/* The digit of the method or, seldom, any byte; then the two sheets. */
+/* Draws the digit of the method, or now and then any byte, and the two sheets. */
 static size_t draw_input(void)
 {
     static struct job job;
@@ -82,7 +82,7 @@ static int compare_random(const char *program, struct run run)
     return end_run("inputs", &table);
 }
 
-/* NAME.out beside NAME.in. */
+/* Reads NAME.out for the path NAME.in. */
 static size_t read_out(const char *path, char *text)
 {
     char name[4096];

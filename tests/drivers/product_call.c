@@ -1,5 +1,5 @@
-/* Driver of products, not proved: a call, made to the library and to the
-   independent implementation, and the comparison of the two answers. */
+/* Test driver of products, not proved: makes the same call to the library and to the
+   independent implementation, and compares the two answers. */
 #include "product_call.h"
 
 #include <string.h>
@@ -51,8 +51,8 @@ void ask_library(const struct call *call, struct answer *answer)
                                     call->b_rows, call->b_columns, TEN_SLICES);
 }
 
-/* The oracle's product has one inner size. Where there are two, it is asked
-   whether it knows the method, and then what it says of the four sizes. */
+/* The oracle's product takes one inner size. Where A's columns and B's rows differ, its
+   checks of the method and of the four sizes are called in its place. */
 static struct refusal refusal_of(const struct call *call, struct answer *answer)
 {
     if (call->a_columns == call->b_rows)

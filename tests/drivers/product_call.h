@@ -1,11 +1,11 @@
-/* Driver of products, not proved: one call, with all that it is lent. */
+/* Test driver of products, not proved: one call, with all memory that is lent to it. */
 #ifndef PRODUCT_CALL_H
 #define PRODUCT_CALL_H
 
 #include "coupling.h"
 #include "lent.h"
 
-/* Bounds of A and B, midpoints and radii of both, bounds of the result. */
+/* The slices: bounds of A and B, midpoints and radii of both, bounds of the result. */
 enum slice { AL, AU, BL, BU, MA, RA, MB, RB, CL, CU, SLICES };
 
 struct call {
@@ -15,27 +15,27 @@ struct call {
     uint32_t memory[SLICES][GUARDED(CELLS)];
 };
 
-/* What a call answered, and the memory as it left it. */
+/* The answer of a call, and the memory afterwards. */
 struct answer {
     uint32_t code;
     uint32_t memory[SLICES][GUARDED(CELLS)];
 };
 
-/* A cell of a slice. */
+/* A word of a slice, before the call and after it. */
 uint32_t *cell(struct call *call, enum slice slice, size_t at);
 uint32_t left_in(const struct answer *answer, enum slice slice, size_t at);
 
-/* The cells that a slice needs, from the sizes. */
+/* How many cells a slice must have, by the sizes. */
 size_t cells_of(const struct call *call, enum slice slice);
 
-/* Sizes in range, inner sizes that agree, slices exactly as long as their
-   cells; every word of every slice another one. */
+/* Sets the method and the sizes, and makes each slice exactly as long as its cells, with
+   a different value in each word. */
 void prepare(struct call *call, uint32_t method, size_t m, size_t k, size_t n);
 
 void ask_library(const struct call *call, struct answer *answer);
 void ask_oracle(const struct call *call, struct answer *answer);
 
-/* Whether the code and every word are the same. */
+/* Whether the codes and all words are equal. */
 bool same_answer(const struct answer *library, const struct answer *oracle);
 
 #endif

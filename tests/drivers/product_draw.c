@@ -1,6 +1,5 @@
-/* Driver of products, not proved: random calls. Most are accepted or
-   overflow; the others have one kind of fault or more, so that the order of
-   the checks is tried as well. */
+/* Test driver of products, not proved: random calls. Most are accepted or overflow; the
+   others have one or several faults, so that the order of the checks is tested too. */
 #include "product_draw.h"
 
 #include "cells.h"
@@ -10,7 +9,7 @@
 #define HALF 0x3F000000u
 #define LARGE 0x71800000u   /* 2^100 */
 
-/* A and B, each by its lowers, its uppers and its kind of numbers. */
+/* A matrix: the slices of its bounds, and the kind of its numbers. */
 struct matrix {
     enum slice lowers, uppers;
     struct kind kind;
@@ -43,8 +42,8 @@ static void put(struct call *call, enum slice lowers, enum slice uppers, size_t 
     *cell(call, uppers, at) = upper;
 }
 
-/* All cells small but for one of A and one of B, whose product overflows:
-   the entry that uses both is refused, and no other. */
+/* All cells are small but for one of A and one of B, whose product overflows: only the
+   entry that uses both is refused. */
 static void plant_overflow(struct call *call)
 {
     size_t i = (size_t)from_to(0, (int)call->a_rows - 1);
@@ -57,8 +56,8 @@ static void plant_overflow(struct call *call)
     put(call, BL, BU, l * call->b_columns + j, LARGE, LARGE);
 }
 
-/* Methods 3, 4 and 7 overflow at |mB| + rB, also where all of A is points: the
-   first entry of the column is refused. Method 1 accepts. */
+/* A cell of B for which |mB| + rB overflows: methods 3, 4 and 7 refuse the first entry of
+   its column, though all cells of A are points. Method 1 accepts. */
 static void plant_wide_cell(struct call *call)
 {
     size_t c = (size_t)from_to(0, (int)cells_of(call, BL) - 1);
@@ -69,7 +68,7 @@ static void plant_wide_cell(struct call *call)
     put(call, BL, BU, c, 0x7E800000, MAX);     /* [2^126, MAX] */
 }
 
-/* One to three cells of a matrix get a fault. */
+/* Makes one to three cells of a matrix faulty. */
 static void put_faults(struct call *call, const struct matrix *x)
 {
     for (int count = from_to(1, 3); count > 0; count--) {
@@ -82,7 +81,7 @@ static void put_faults(struct call *call, const struct matrix *x)
     }
 }
 
-/* One slice too short: by one, by more, empty. */
+/* Makes one slice too short: by one, to half of its cells, or empty. */
 static void shorten(struct call *call)
 {
     int s = from_to(0, SLICES - 1), by = from_to(0, 2);
@@ -90,8 +89,8 @@ static void shorten(struct call *call)
     call->lengths[s] = by == 0 ? cells - 1 : by == 1 ? cells / 2 : 0;
 }
 
-/* One of the four sizes is 0, above 32, huge, or in range and seldom equal to
-   the one that it must agree with. Sometimes the opposite one is the same. */
+/* Sets one of the four sizes to 0, to a size above 32, to a huge one, or to any in range.
+   Sometimes the size opposite to it (both inner or both outer sizes) gets the same. */
 static void spoil_size(struct call *call)
 {
     static const size_t wrong[] = {0, 33, 34, 64, (size_t)1 << 32, ((size_t)1 << 32) + 1, (size_t)1 << 63, SIZE_MAX};

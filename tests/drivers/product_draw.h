@@ -1,10 +1,10 @@
-/* Driver of products, not proved: random calls. */
+/* Test driver of products, not proved: random calls. */
 #ifndef PRODUCT_DRAW_H
 #define PRODUCT_DRAW_H
 
 #include "product_call.h"
 
-/* From the draws that were started last. */
+/* Draws a call; `start_draws` must have been called before. */
 void draw_call(struct call *call);
 
 #endif

@@ -1,5 +1,5 @@
-/* Driver of products, not proved: products with a known result, of 1 by 1
-   matrices and of the largest ones. */
+/* Test driver of products, not proved: products with a known result, of 1 by 1 matrices
+   and of the largest ones. */
 #include "product_known.h"
 
 #include <stdio.h>
@@ -8,8 +8,8 @@
 #include "oracle.h"
 #include "product_call.h"
 
-/* [al, au] times [bl, bu] leaves lo, up in the result and, unless the method
-   is 1, ma, ra in A's work cell. */
+/* [al, au] times [bl, bu] is [lo, up]; the midpoint and radius of A, in the work slices,
+   are ma and ra, unless the method is 1. */
 static const struct known {
     const char *name;
     uint32_t method, al, au, bl, bu, lo, up, ma, ra;
@@ -70,10 +70,9 @@ static uint32_t step(enum operation operation, enum direction direction, uint32_
     return result;
 }
 
-/* The steps of method 3 on a point times an interval, but for the one that
-   adds 2^-125: for 2^-149 times [-1/8, 5/4] they give [0, 2^-148], and the
-   product 2^-149 x (-1/8) lies outside. So that row above tells whether the
-   constant is there. */
+/* Method 3 without the step that adds 2^-125, for a point times an interval: 2^-149
+   times [-1/8, 5/4] would give [0, 2^-148], which does not contain 2^-149 x (-1/8). So
+   the last row above fails if the step is left out. */
 static void check_constant_needed(void)
 {
     const struct known *row = &known[KNOWN - 1];

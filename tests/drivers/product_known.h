@@ -1,9 +1,9 @@
-/* Driver of products, not proved: products with a known result. */
+/* Test driver of products, not proved: products with a known result. */
 #ifndef PRODUCT_KNOWN_H
 #define PRODUCT_KNOWN_H
 
-/* Asks the library and the independent implementation; returns how many gave
-   another result than the known one, and says which, or how many gave it. */
+/* Runs the library and the independent implementation on them. Returns the number of
+   results that differ from the known ones and prints these; or prints how many agree. */
 int check_known_products(void);
 
 #endif

@@ -1,10 +1,10 @@
-/* Driver, not proved: the library's products beside the independent
-   implementation's, in the answer and in every word of the ten slices.
+/* Test driver, not proved: compares the library's products with those of the independent
+   implementation, in the answer and in every word of the ten slices.
 
      products known                products with a known result
      products SEED COUNT [FIRST]   COUNT random calls
 
-   Status 1 if an answer differs, or if a refusal was met too seldom. */
+   Status 1 if a call differs, or if a refusal occurred too seldom. */
 #include <stdio.h>
 #include <string.h>
 

@@ -1,4 +1,4 @@
-/* Drivers, not proved: the words of the command, the count of calls, the end. */
+/* Test drivers, not proved: the arguments, the count of calls, and the summary of a run. */
 #include "run.h"
 
 #include <inttypes.h>
@@ -7,7 +7,7 @@
 #include <string.h>
 
 static uint64_t calls, differences;
-static bool part;   /* of a run, of which no table is made */
+static bool part;   /* FIRST was given: only a part of a run, so no table is printed */
 
 uint64_t number_of(const char *word)
 {

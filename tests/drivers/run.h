@@ -1,6 +1,6 @@
-/* Drivers, not proved: what all of them do. A driver draws calls, makes each to the
-   library and to the independent implementation, compares, and says at its end
-   which refusals were met how often and at how many places. */
+/* Test drivers, not proved: the parts that all of them share. A driver draws random
+   calls, makes each to the library and to the independent implementation, and compares
+   the two. At its end it prints how often and at how many places each refusal occurred. */
 #ifndef RUN_H
 #define RUN_H
 
@@ -11,24 +11,24 @@
 #include "oracle.h"
 #include "outcomes.h"
 
-/* COUNT calls of a SEED, from index FIRST on: so SEED 1 INDEX is one call alone. */
+/* COUNT calls of a SEED, from index FIRST on: SEED 1 INDEX repeats one call. */
 struct run { uint64_t seed, count, first; };
 
-/* From the words SEED COUNT [FIRST]; ends the program where they are no numbers. */
+/* Reads the arguments SEED COUNT [FIRST]; ends the program where one is not a number. */
 struct run run_of(int words, char **word);
 uint64_t number_of(const char *word);
 
-/* 1,000,000 number + 10,000 matrix + 100 row + column; 0 where it is accepted. */
+/* 1,000,000 number + 10,000 matrix + 100 row + column; 0 for an accepted call. */
 uint32_t code_of(struct refusal refusal);
 
-/* Counts a call; says of the first that differs which index it has. */
+/* Counts a call; prints the index of the first call that differs. */
 void end_call(uint64_t index, bool same);
 
-bool all_the_same(void);    /* so far */
+bool all_the_same(void);    /* no call has differed so far */
 
-/* Prints the table, what was met too seldom, and as the last line how many calls
-   there were and what they met; the calls alone where FIRST was given. The status
-   of the program: 0 or 1. */
+/* Prints the table, the outcomes that occurred too seldom, and in the last line the
+   number of calls and of differences with a summary of the table. Where FIRST was given,
+   only the numbers. Returns the status of the program, 0 or 1. */
 int end_run(const char *calls, const struct table *table);
 
 #endif

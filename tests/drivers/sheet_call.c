@@ -1,4 +1,4 @@
-/* Driver of sheets, not proved: a call that reads a sheet or writes one, made to
+/* Test driver of sheets, not proved: makes the same call that reads or writes a sheet to
    the library and to the independent implementation. */
 #include "sheet_call.h"
 

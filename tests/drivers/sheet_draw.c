@@ -1,5 +1,5 @@
-/* Drivers, not proved: sheets that are valid, damaged field by field, chained at
-   random, or random bytes. */
+/* Test drivers, not proved: random sheets: valid, with damaged fields, with random next
+   indices, or of random bytes. */
 #include "sheet_draw.h"
 
 #include "draw.h"
@@ -27,7 +27,7 @@ void draw_bounds(bool moderate, uint32_t *lower, uint32_t *upper)
     put_in_order(lower, upper);
 }
 
-/* The records 1 to count in any order. */
+/* The numbers 1 to count in random order. */
 static void shuffle(uint32_t *index, uint32_t count)
 {
     for (uint32_t i = 0; i < count; i++) {
@@ -75,7 +75,7 @@ static void exchange_bounds(uint8_t *record)
     memcpy(record + 8, lower, 4);
 }
 
-/* One field of a cell becomes wrong, or nearly so. */
+/* Makes one field of a cell wrong, or nearly wrong. */
 static void damage_cell(uint8_t *sheet, uint32_t records, uint32_t index)
 {
     uint8_t *record = sheet + RECORD_BYTES * index;
@@ -94,7 +94,7 @@ static void damage_cell(uint8_t *sheet, uint32_t records, uint32_t index)
     }
 }
 
-/* One field of the sheet, or its length, becomes wrong or nearly so. */
+/* Makes one field of the sheet, or its length, wrong or nearly wrong. */
 static size_t damage(uint8_t *sheet, size_t length)
 {
     uint32_t records = (uint32_t)(length / RECORD_BYTES), any = any_bits(), which = below(2);
@@ -111,7 +111,7 @@ static size_t damage(uint8_t *sheet, size_t length)
     return length;
 }
 
-/* Records of a small matrix, linked at random. */
+/* Records of a small matrix with random next indices. */
 static size_t draw_chain(uint8_t *sheet)
 {
     uint32_t records = 1 + below(12), rows = 1 + below(3), columns = 1 + below(3);

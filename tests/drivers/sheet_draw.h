@@ -1,5 +1,5 @@
-/* Drivers, not proved: random sheets, good and damaged. A sheet is put into BYTES
-   bytes of lent.h, and its length returned. */
+/* Test drivers, not proved: random sheets, valid and damaged. Each function writes a
+   sheet into memory of BYTES bytes (lent.h) and returns its length. */
 #ifndef SHEET_DRAW_H
 #define SHEET_DRAW_H
 
@@ -7,14 +7,15 @@
 #include <stddef.h>
 #include <stdint.h>
 
-/* Two numbers in order: of moderate size, or any. */
+/* Two numbers, the lower one first: of moderate size, or any. */
 void draw_bounds(bool moderate, uint32_t *lower, uint32_t *upper);
 
-/* No fault but that a bound with a wear class may have no finite number. The
-   records stand in any order, some of them outside the chain. */
+/* A sheet without fault, except that a bound may overflow when it is widened. The
+   records are in random order, and some are not in the chain. */
 size_t draw_valid_sheet(uint8_t *sheet, uint32_t rows, uint32_t columns, bool moderate);
 
-/* Valid, damaged field by field, chained at random, or random bytes. */
+/* A sheet of any kind: valid, with damaged fields, with random next indices, or of
+   random bytes. */
 size_t draw_sheet(uint8_t *sheet);
 
 #endif

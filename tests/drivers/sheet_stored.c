@@ -1,4 +1,5 @@
-/* Driver of sheets, not proved: stored sheets, as text. */
+/* Test driver of sheets, not proved: reads stored sheets as text and prints them with the
+   library's answers. */
 #include "sheet_stored.h"
 
 #include <stdio.h>
@@ -13,7 +14,7 @@ static struct sheet_call call;
 static size_t out_length;
 static uint64_t sheets;
 
-/* A bit for each byte of a record that starts a field, but for the first. */
+/* A bit for each byte of a record that starts a field, except byte 0. */
 enum { HEAD_FIELDS = 0x5C, CELL_FIELDS = 0x311C };
 
 static void print_records(const uint8_t *bytes, size_t length)
@@ -29,7 +30,7 @@ static void print_refusal(uint32_t answer)
     printf("refused: %u row %u column %u\n", COUPLING_NUMBER(answer), COUPLING_ROW(answer), COUPLING_COLUMN(answer));
 }
 
-/* What was read is written. */
+/* Writes the matrix that was read, and prints the answer. */
 static bool answer_write(uint32_t read)
 {
     uint32_t answer;
@@ -49,7 +50,7 @@ static bool answer_write(uint32_t read)
     return same;
 }
 
-/* The sheet that was taken in, if there is one. */
+/* Prints the answers for the last sheet of the text, if there is one. */
 static void answer_sheet(void)
 {
     uint32_t answer;
@@ -83,7 +84,8 @@ static void take_bytes(const char *line)
     }
 }
 
-/* False where the line is an answer, and so are those behind it. */
+/* Takes a line of the text. False at an answer: it and the lines behind it are not
+   copied, since the answers are printed anew. */
 static bool take_line(const char *line)
 {
     if (strncmp(line, "read ", 5) == 0)

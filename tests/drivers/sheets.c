@@ -1,12 +1,12 @@
-/* Driver, not proved: the library's reader and writer of sheets beside the
-   independent implementation's, in the answer and in every byte of the sheet and
+/* Test driver, not proved: compares the library's reader and writer of sheets with those
+   of the independent implementation, in the answer, in every byte of the sheet and in
    every word of the bounds.
 
      sheets read SEED COUNT [FIRST]    COUNT random sheets, most of them damaged
-     sheets write SEED COUNT [FIRST]   COUNT random matrices, some of them at fault
-     sheets stored                     the sheets of standard input (sheet_stored.h)
+     sheets write SEED COUNT [FIRST]   COUNT random matrices, some with faulty cells
+     sheets stored                     stored sheets from standard input (sheet_stored.h)
 
-   Status 1 if an answer differs, or if a refusal was met too seldom. */
+   Status 1 if a call differs, or if a refusal occurred too seldom. */
 #include <stdio.h>
 #include <string.h>
 
@@ -42,7 +42,7 @@ static struct table write_table = {
 
 static struct sheet_call call;
 
-/* As many words as there are cells, some more, or too few. */
+/* The length of a slice: as many words as there are cells, a few more, or too few. */
 static size_t draw_length(size_t cells)
 {
     bool too_few = one_in(16);
@@ -60,7 +60,8 @@ static void draw_read(void)
     call.uppers_length = draw_length(cells);
 }
 
-/* Cells of a matrix, a third of them zeros; the length of their sheet. */
+/* Draws the cells of a matrix, a third of them [0, 0], and returns the length of its
+   sheet. */
 static size_t draw_matrix(uint32_t *lowers, uint32_t *uppers, size_t cells)
 {
     size_t length = 16;

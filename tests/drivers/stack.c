@@ -1,8 +1,7 @@
-/* Driver, not proved: the stack that the sheet job needs. Calls it by each
-   method on a thread whose stack was painted before, and counts the bytes from
-   the caller's frame down to the lowest one that is painted no more. Prints the
-   count by each method; fails if one is above COUPLING_STACK, or if the job
-   refuses. */
+/* Test driver, not proved: measures the stack that the sheet job needs. Runs the job by
+   each method on a thread whose stack was filled with a fixed byte, and counts the bytes
+   from the caller's frame down to the lowest byte that was changed. Prints the count for
+   each method; fails if one is above COUPLING_STACK, or if the job refuses. */
 #define _GNU_SOURCE
 #include <pthread.h>
 #include <stdio.h>
@@ -30,7 +29,7 @@ static void *run_call(void *argument)
     return NULL;
 }
 
-/* The bytes touched, or 0 if the call could not be made. */
+/* The number of bytes of stack used, or 0 if the call failed. */
 static size_t measure(uint32_t method)
 {
     struct call call = {method, 0, NULL};

@@ -1,4 +1,5 @@
-/* Independent implementation, not proved: what the self-test's files share. */
+/* Independent implementation, not proved: declarations that the files of its self-test
+   share. */
 #ifndef CHECK_H
 #define CHECK_H
 
@@ -9,8 +10,8 @@
 
 #define CHECK(condition) check((condition), #condition, __FILE__, __LINE__)
 
-#define UNTOUCHED 0x55AA55AAu   /* fills numbers that are lent */
-#define SPARE 0x5A              /* fills bytes that are lent */
+#define UNTOUCHED 0x55AA55AAu   /* fills lent slices of patterns */
+#define SPARE 0x5A              /* fills lent byte buffers */
 #define ONE 0x3F800000u
 #define TWO 0x40000000u
 #define THREE 0x40400000u
@@ -20,7 +21,7 @@
 #define INFINITY_PATTERN 0x7F800000u
 #define NAN_PATTERN 0x7FC00000u
 
-/* Counts a check, and says where it fails. */
+/* Counts a check; prints file and line where it fails. */
 void check(bool holds, const char *condition, const char *file, int line);
 
 bool is(struct refusal refusal, uint32_t number, uint32_t matrix,

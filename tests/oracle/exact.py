@@ -1,8 +1,8 @@
 """An exact model of the rounded operations, in fractions.
 
-Independent implementation, not proved. Every value is a fraction of units of
-2^-149; a rounding looks for the least, greatest or closest number by its
-definition, over all finite patterns in rising order.
+Independent implementation, not proved. Every value is a fraction, in units of
+2^-149. A rounding searches all finite patterns, in the order of their values,
+for the least, greatest or closest number, as its definition says.
 """
 from fractions import Fraction
 
@@ -23,7 +23,7 @@ def value(pattern):
 
 
 def ranked(rank):
-    """Ranks run through all numbers in rising order; zero has rank 0."""
+    """The number with this rank, in units: ranks count the numbers in rising order, zero has 0."""
     return -units_of(-rank) if rank < 0 else units_of(rank)
 
 
@@ -46,7 +46,7 @@ def floor_rank(x):
 
 
 def exact(operation, a, b):
-    """In units; a product of two whole numbers of units counts 2^-298."""
+    """The exact result in units. A unit times a unit is 2^-298."""
     a, b = value(a), value(b)
     return {'+': Fraction(a + b), '-': Fraction(a - b),
             'x': Fraction(a * b) * UNIT, 'm': Fraction(a + b, 2)}[operation]
@@ -65,7 +65,7 @@ def closest(x, below, above):
 
 
 def rounded(x):
-    """The three answers for x: each a rank, or None where it is refused."""
+    """The three roundings of x: each a rank, or None where it is refused."""
     below = floor_rank(x)
     if below is None:
         above = -MAX_MAGNITUDE
@@ -77,7 +77,7 @@ def rounded(x):
 
 
 def answers(operation, a, b):
-    """The eight characters of each direction's answer."""
+    """The result for each direction, as the eight characters of a test vector."""
     if any(p >> 23 & 0xFF == 0xFF for p in (a, b)):
         return dict.fromkeys('dun', 'refuse 3')
     return {direction: 'refuse 5' if rank is None else '%08X' % pattern_of(rank)

@@ -1,5 +1,5 @@
-/* Independent implementation, not proved: the two ways to hold an interval
-   and the checks on cells and sizes. */
+/* Independent implementation, not proved: the conversions between the two
+   representations of an interval, and the checks of cells and sizes. */
 #include "parts.h"
 
 struct refusal refuse(uint32_t number, uint32_t matrix, size_t row, size_t column)

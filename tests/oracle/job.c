@@ -20,7 +20,8 @@ static struct refusal read_sheet(uint32_t matrix, const uint8_t *s, size_t len,
     return refusal;
 }
 
-/* 9, reads A, reads B, 1 (matrix 2), multiplies. */
+/* Checks the method (9), reads A, reads B, checks that their sizes fit (1, matrix 2),
+   multiplies. */
 struct refusal multiply_sheets(uint32_t method, const uint8_t *a, size_t a_len,
                                const uint8_t *b, size_t b_len, struct matrix *c)
 {
@@ -65,7 +66,7 @@ uint32_t oracle_job(uint32_t method, const uint8_t *a, size_t a_len,
     return (uint32_t)written;
 }
 
-/* A text under way: its full length, and a buffer that may be shorter. */
+/* A text that is being written: its buffer, which may be too short, and its full length. */
 struct text {
     char *bytes;
     size_t room, length;
@@ -85,7 +86,7 @@ static void append(struct text *text, const char *format, ...)
     }
 }
 
-/* A has 16 * its record count bytes, or all that is left. */
+/* The length of A: 16 * its record count, or all bytes that are left. */
 static size_t length_of_a(const uint8_t *sheets, size_t left)
 {
     if (left < 6)

@@ -1,9 +1,9 @@
-/* Independent implementation, not proved: one entry of a product by any of the
-   four methods, from its k pairs of cells. Method 1 stands here, the three that
-   work with midpoints and radii in methods_midrad.c.
+/* Independent implementation, not proved: one entry of a product by each of the four
+   methods, from its k pairs of cells. Method 1 is here; methods 3, 4 and 7, which use
+   midpoints and radii, are in methods_midrad.c.
 
-   Every operation is rounded separately and sums start at 0. A refused step
-   marks the entry as refused; what the later steps give is then of no use. */
+   Every operation is rounded separately, and sums start at 0. A refused step marks the
+   entry as refused; the results of later steps are then not used. */
 #include "parts.h"
 
 uint32_t step(bool *refused, enum operation operation, enum direction direction, uint32_t a, uint32_t b)
@@ -24,7 +24,7 @@ static uint32_t greater(uint32_t a, uint32_t b)
     return value_of(b) > value_of(a) ? b : a;
 }
 
-/* Method 1. All four corners are rounded in each of the two directions. */
+/* Method 1. Each of the four corner products is rounded down and up. */
 static struct entry classical(const struct pair *pairs, size_t k)
 {
     struct entry e = {0, 0, false};

@@ -1,5 +1,5 @@
-/* Independent implementation, not proved: one entry of a product by methods 4,
-   7 and 3, from midpoints and radii. */
+/* Independent implementation, not proved: one entry of a product by methods 4, 7 and 3,
+   from midpoints and radii. */
 #include <string.h>
 
 #include "parts.h"
@@ -25,7 +25,8 @@ static uint32_t continue_with_radii_of_a(bool *refused, uint32_t sum,
     return sum;
 }
 
-/* The radius of methods 4 and 7: the sum of |mA| * rB, continued. */
+/* The radius of method 4, and of method 7 before its last sum: the sum of |mA| * rB,
+   continued with rA * (|mB| + rB). */
 static uint32_t radius(bool *refused, const struct pair *pairs, size_t k)
 {
     uint32_t sum = 0;
@@ -34,7 +35,7 @@ static uint32_t radius(bool *refused, const struct pair *pairs, size_t k)
     return continue_with_radii_of_a(refused, sum, pairs, k);
 }
 
-/* The sum of mA * mB over l, products and sums in one direction. */
+/* The sum of mA * mB over l, products and sums rounded in the same direction. */
 static uint32_t centre(bool *refused, enum direction direction,
                        const struct pair *pairs, size_t k)
 {
@@ -61,7 +62,7 @@ static uint32_t part(uint32_t m, uint32_t r)
     return value_of(m) < 0 ? least | SIGN_BIT : least;
 }
 
-/* The sum of mA * mB, continued with pA * pB, in one direction. */
+/* The sum of mA * mB, continued with pA * pB, all rounded in the same direction. */
 static uint32_t centre_with_parts(bool *refused, enum direction direction,
                                   const struct pair *pairs, size_t k)
 {

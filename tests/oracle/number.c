@@ -1,10 +1,10 @@
-/* Independent implementation, not proved: the rounded operations, done with
-   the machine's own binary32 arithmetic and rounding modes.
+/* Independent implementation, not proved: the rounded operations, by the machine's own
+   binary32 arithmetic and rounding modes.
 
-   The operands and the result of each rounded step are volatile and stand
-   between two calls of fesetround. Reads and writes of volatile objects may
-   not be moved over those calls, so the step runs in the mode that is set
-   and is not worked out by the compiler. */
+   The operands and the result of each rounded step are volatile and are used between
+   two calls of fesetround. The compiler may not move accesses to volatile objects over
+   these calls, so the step runs in the mode that is set and is not evaluated by the
+   compiler. */
 #include <fenv.h>
 #include <float.h>
 #include <math.h>
@@ -29,7 +29,7 @@ float value_of(uint32_t pattern)
     return value;
 }
 
-/* A zero of either sign is the pattern 0. */
+/* The pattern of a value; 0 for a zero of either sign. */
 static uint32_t pattern_of(float value)
 {
     uint32_t pattern;
@@ -57,7 +57,7 @@ static int mode_of(enum direction direction)
     }
 }
 
-/* One of the three that the machine has itself. */
+/* Addition, subtraction or multiplication, which the machine has itself. */
 static float rounded_step(enum operation operation, int mode, float a, float b)
 {
     volatile float x = a, y = b, result;
@@ -83,8 +83,8 @@ static float narrowed(int mode, double value)
     return result;
 }
 
-/* a + b in binary64, rounded to odd: toward zero, and where bits are lost the
-   last bit is made 1. */
+/* a + b in binary64, rounded to odd: toward zero, with the last bit set where bits were
+   lost. */
 static double sum_to_odd(float a, float b)
 {
     volatile double x = a, y = b, sum;
@@ -105,23 +105,22 @@ static double sum_to_odd(float a, float b)
     return result;
 }
 
-/* One rounding of the exact (a + b)/2. Where the sum fits binary64 it is
-   exact. Where it does not, the sum to odd lies strictly between the same two
-   neighbouring binary64 numbers with an even last bit as the exact sum. Every
-   binary32 number, and every point halfway between two of them (one half of a
-   unit included), doubled, has at most 25 significant bits and so an even
-   last bit in binary64. Hence the sum to odd is on the same side of all these
-   points as the exact sum, and rounding it gives what rounding the exact
-   value gives. The halving is exact: the least magnitude is 2^-150 and
-   binary64 is normal down to 2^-1022. Nor can the sum overflow there. */
+/* The exact (a + b)/2, rounded once. Where the sum fits binary64 it is exact. Where it
+   does not, the sum rounded to odd lies strictly between the same two neighbouring
+   binary64 numbers with an even last bit as the exact sum. Double a binary32 number, or
+   a point halfway between two of them (half a unit too): the result has at most 25
+   significant bits, so in binary64 its last bit is even. Hence the sum rounded to odd is
+   on the same side of all these points as the exact sum, and the final rounding gives
+   the same result for both. The halving is exact: the least magnitude is 2^-150, and
+   binary64 is normal down to 2^-1022. The sum cannot overflow binary64. */
 static float rounded_midpoint(int mode, float a, float b)
 {
     return narrowed(mode, sum_to_odd(a, b) * 0.5);
 }
 
-/* The machine gives an infinity exactly where the papers refuse: up above
-   MAX, down below -MAX, nearest from 2^128 - 2^103 on. Up below -MAX it gives
-   -MAX, and down above MAX it gives MAX. */
+/* The machine gives an infinity exactly where the library must refuse with 5: up above
+   MAX, down below -MAX, to nearest for magnitudes of 2^128 - 2^103 or more. Up below
+   -MAX it gives -MAX, and down above MAX it gives MAX, as the library must. */
 uint32_t oracle_operate(enum operation operation, enum direction direction,
                         uint32_t a, uint32_t b, uint32_t *result)
 {

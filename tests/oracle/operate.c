@@ -1,6 +1,6 @@
-/* Independent implementation, not proved: a filter for other programs. Each
-   line "XY AAAAAAAA BBBBBBBB" of standard input comes back as a whole test
-   vector. Stops with status 1 at a line of another form. */
+/* Independent implementation, not proved: a filter for other programs. Completes each
+   line "XY AAAAAAAA BBBBBBBB" of standard input to a test vector (vector.h). Stops with
+   status 1 at a malformed line. */
 #include <inttypes.h>
 #include <stdio.h>
 #include <string.h>

@@ -1,10 +1,9 @@
-/* Independent implementation of the library's papers, not proved: interface.
+/* Interface of the independent implementation, not proved, called the oracle.
 
-   It is written from the papers alone and rounds with the machine's own
-   rounding modes, so that the library's answers can be compared with answers
-   that share no code with it. Numbers are binary32 patterns. A slice is a
-   pointer followed by its length; a length of zero is allowed. Matrices are
-   held by rows. */
+   It is written from the requirements alone, shares no code with the library, and rounds
+   by the machine's own rounding modes. The tests compare the library with it. Numbers
+   are binary32 patterns. A slice is a pointer followed by its length; a length of zero is
+   allowed. Matrices are stored by rows. */
 #ifndef ORACLE_H
 #define ORACLE_H
 
@@ -14,12 +13,12 @@
 enum operation { ADD, SUB, MUL, MIDPOINT };
 enum direction { DOWN, UP, NEAR };
 
-/* number 0: accepted, and the other three are 0 as well.
+/* number: 1 to 11, or 0 for an accepted call; then the other three are 0 too.
    matrix: 1 is A, 2 is B, 3 is the result, 0 is none of them. */
 struct refusal { uint32_t number, matrix, row, column; };
 
-/* One operation, rounded once. Returns 0, 3 or 5; *result is written only
-   on 0. MIDPOINT is (a + b)/2 and asks for no order of a and b. */
+/* One operation, rounded once. Returns 0, or the refusal 3 or 5; *result is written only
+   on 0. MIDPOINT is (a + b)/2, where a may be above b. */
 uint32_t oracle_operate(enum operation operation, enum direction direction,
                         uint32_t a, uint32_t b, uint32_t *result);
 
@@ -31,8 +30,8 @@ struct refusal oracle_to_midrad(uint32_t lo, uint32_t hi,
 struct refusal oracle_to_bounds(uint32_t m, uint32_t r,
                                 uint32_t *lo, uint32_t *hi);
 
-/* Refusal 1 of a product on four sizes: A's sizes (matrix 1), then B's sizes
-   or the mismatch of A's columns and B's rows (matrix 2). */
+/* The check of a product's four sizes, refusal 1: A's sizes (matrix 1), then B's sizes or
+   the mismatch of A's columns and B's rows (matrix 2). */
 struct refusal oracle_check_sizes(size_t a_rows, size_t a_columns,
                                   size_t b_rows, size_t b_columns);
 
@@ -61,14 +60,14 @@ struct refusal oracle_write(size_t rows, size_t columns,
                             const uint32_t *hi, size_t hi_len,
                             uint8_t *out, size_t out_len, size_t *written);
 
-/* The sheet job: reads two sheets, multiplies, writes the third. Returns the
-   length written, or 1,000,000 number + 10,000 matrix + 100 row + column;
-   then out is untouched. */
+/* The sheet job: reads two sheets, multiplies them, writes the sheet of the product.
+   Returns its length, or 1,000,000 number + 10,000 matrix + 100 row + column of the
+   refusal; then out is untouched. */
 uint32_t oracle_job(uint32_t method, const uint8_t *a, size_t a_len,
                     const uint8_t *b, size_t b_len,
                     uint8_t *out, size_t out_len);
 
-/* The program: what it prints for this standard input. Returns the length of
+/* The output of the program print_product for this standard input. Returns the length of
    the whole text and puts as much of it into text as there is room for. */
 size_t oracle_print(const uint8_t *input, size_t len, char *text, size_t room);
 

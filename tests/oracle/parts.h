@@ -1,4 +1,4 @@
-/* Independent implementation, not proved: what its files share. */
+/* Independent implementation, not proved: declarations that its files share. */
 #ifndef PARTS_H
 #define PARTS_H
 
@@ -12,20 +12,20 @@
 
 static const struct refusal ACCEPTED = {0, 0, 0, 0};
 
-/* A matrix of bounds in memory of its own. */
+/* A matrix with the memory for its bounds. */
 struct matrix {
     size_t rows, columns;
     uint32_t lo[MAX_CELLS], hi[MAX_CELLS];
 };
 
-/* One pair of an entry: A's cell and B's cell, in bounds and, unless the
-   method is 1, in midpoint and radius. */
+/* One pair of an entry: a cell of A and a cell of B, as bounds and, unless the method is
+   1, as midpoint and radius. */
 struct pair {
     uint32_t a_lo, a_hi, b_lo, b_hi;
     uint32_t m_a, r_a, m_b, r_b;
 };
 
-/* One entry of a product; refused when one of its steps was refused. */
+/* One entry of a product; it is refused where one of its steps is. */
 struct entry {
     uint32_t lo, hi;
     bool refused;
@@ -41,7 +41,7 @@ struct refusal refuse(uint32_t number, uint32_t matrix, size_t row, size_t colum
 uint32_t check_bounds(uint32_t lo, uint32_t hi);       /* 0, 3 or 4 */
 bool size_in_range(size_t size);                       /* 1 to 32 */
 
-/* methods.c; a step that is refused sets *refused, and gives 0 */
+/* methods.c; a refused step sets *refused and returns 0 */
 bool method_known(uint32_t method);
 struct entry entry_by_method(uint32_t method, const struct pair *pairs, size_t k);
 uint32_t step(bool *refused, enum operation operation, enum direction direction, uint32_t a, uint32_t b);
@@ -52,7 +52,7 @@ struct entry three_products(const struct pair *pairs, size_t k);
 struct entry four_products(const struct pair *pairs, size_t k);
 struct entry seven_products(const struct pair *pairs, size_t k);
 
-/* job.c: reads both sheets and multiplies; matrix numbers are the job's. */
+/* job.c: reads both sheets and multiplies; a refusal has the matrix number of the job. */
 struct refusal multiply_sheets(uint32_t method, const uint8_t *a, size_t a_len,
                                const uint8_t *b, size_t b_len, struct matrix *c);
 

@@ -1,5 +1,5 @@
-/* Independent implementation, not proved: the matrix product, its checks in
-   their order, the place of a refusal and what is left in lent memory. */
+/* Independent implementation, not proved: the matrix product, with its checks in order,
+   the place of a refusal, and the lent memory afterwards. */
 #include "parts.h"
 
 struct refusal oracle_check_sizes(size_t a_rows, size_t a_columns,
@@ -12,7 +12,7 @@ struct refusal oracle_check_sizes(size_t a_rows, size_t a_columns,
     return ACCEPTED;
 }
 
-/* By rows; at each cell 3 before 4. */
+/* Refusal 3 or 4 for the first faulty cell by rows; at each cell 3 before 4. */
 static struct refusal check_cells(uint32_t matrix, size_t rows, size_t columns,
                                   const uint32_t *lo, const uint32_t *hi)
 {
@@ -56,7 +56,8 @@ static void clear(size_t cells, uint32_t *lo, uint32_t *hi)
         lo[i] = hi[i] = 0;
 }
 
-/* All checks but 5: 9, 1, 2, A's cells, B's cells. */
+/* All checks before the product is computed: 9, 1, 2, then 3 and 4 for A's cells, then
+   for B's. */
 static struct refusal check_product(uint32_t method, size_t m, size_t k, size_t n,
     const uint32_t *a_lo, size_t a_lo_len, const uint32_t *a_hi, size_t a_hi_len,
     const uint32_t *b_lo, size_t b_lo_len, const uint32_t *b_hi, size_t b_hi_len,

@@ -1,10 +1,10 @@
-/* Independent implementation, not proved: the program that prints a product,
-   from standard input to standard output. */
+/* Independent implementation, not proved: the program that prints a product, from
+   standard input to standard output. */
 #include <stdio.h>
 
 #include "oracle.h"
 
-/* More than the program holds, so that the cut is oracle_print's own. */
+/* More than the 32,802 bytes that count, so that oracle_print itself ignores the rest. */
 static uint8_t input[40000];
 static char text[40000];
 

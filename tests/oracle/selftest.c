@@ -1,5 +1,5 @@
-/* Independent implementation, not proved: self-test of numbers and
-   conversions, and the start of all of it. */
+/* Independent implementation, not proved: self-test of operations and conversions, and
+   the main function of the whole self-test. */
 #include <stdio.h>
 
 #include "check.h"
@@ -36,7 +36,7 @@ bool all_are(const uint32_t *cells, size_t count, uint32_t value)
     return true;
 }
 
-/* The result is as given and the operation is not refused. */
+/* Whether the operation gives this result and is not refused. */
 static bool gives(enum operation operation, enum direction direction,
                   uint32_t a, uint32_t b, uint32_t expected)
 {
@@ -45,7 +45,7 @@ static bool gives(enum operation operation, enum direction direction,
         && result == expected;
 }
 
-/* The operation is refused with this number and writes nothing. */
+/* Whether the operation is refused with this number and writes nothing. */
 static bool refuses(enum operation operation, enum direction direction,
                     uint32_t a, uint32_t b, uint32_t number)
 {
@@ -54,7 +54,8 @@ static bool refuses(enum operation operation, enum direction direction,
         && result == UNTOUCHED;
 }
 
-/* Every operation differs by direction, so the machine's modes are in use. */
+/* Each operation gives different results in different directions: the rounding modes of
+   the machine are used. */
 static void check_modes(void)
 {
     const uint32_t third = 0x3EAAAAAB, step = 0x33000001;

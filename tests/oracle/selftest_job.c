@@ -6,7 +6,7 @@
 
 static uint8_t a[16416], b[16416], out[16401];
 
-/* 1 by 1 sheets of two records. */
+/* Makes A and B 1 by 1 sheets of two records, with these cells. */
 static void put_cells(uint32_t a_lo, uint32_t a_hi, uint32_t b_lo, uint32_t b_hi)
 {
     put_head(a, 1, 1, 1, 2);
@@ -78,7 +78,8 @@ void check_job(void)
 
 static uint8_t input[40000];
 
-/* Puts the digit, a_len bytes of A and b_len bytes of B together. */
+/* Whether the input of the digit, a_len bytes of A and b_len bytes of B is printed as
+   expected. */
 static bool prints(char digit, size_t a_len, size_t b_len, const char *expected)
 {
     static char text[40000];

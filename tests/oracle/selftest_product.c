@@ -5,12 +5,12 @@
 
 static const uint32_t methods[4] = {1, 3, 4, 7};
 
-/* Lent memory of one call, with a length for each slice. */
+/* The memory lent to a call, and the lengths of its ten slices. */
 static uint32_t a_lo[ROOM], a_hi[ROOM], b_lo[ROOM], b_hi[ROOM], c_lo[ROOM], c_hi[ROOM];
 static uint32_t m_a[ROOM], r_a[ROOM], m_b[ROOM], r_b[ROOM];
 static size_t lengths[10];
 
-/* A and B all [1, 1], everything else as found, all lengths at their most. */
+/* Cells of A and B: [1, 1]; other slices: UNTOUCHED; lengths: the largest. */
 static void reset(void)
 {
     uint32_t *const inputs[] = {a_lo, a_hi, b_lo, b_hi};
@@ -41,7 +41,7 @@ static bool result_untouched(size_t from)
     return all_are(c_lo + from, ROOM - from, UNTOUCHED) && all_are(c_hi + from, ROOM - from, UNTOUCHED);
 }
 
-/* [lo_a, hi_a] times [lo_b, hi_b], 1 by 1, gives [lo, hi]. */
+/* Whether [lo_a, hi_a] times [lo_b, hi_b], 1 by 1, is [lo, hi]. */
 static bool gives(uint32_t method, uint32_t lo_a, uint32_t hi_a, uint32_t lo_b, uint32_t hi_b, uint32_t lo, uint32_t hi)
 {
     reset();
@@ -63,7 +63,7 @@ void check_products(void)
     CHECK(gives(3, ONE, TWO, minus_one, THREE, 0xC0400004, 0x40C00002));
     CHECK(gives(4, ONE, TWO, minus_one, THREE, 0xC0400000, six));
     CHECK(m_a[0] == 0x3FC00000 && r_a[0] == 0x3F000000 && m_b[0] == ONE && r_b[0] == TWO);
-    CHECK(gives(3, 1, 1, 0xBE000000, 0x3FA00000, 0x81000001, 0x01000002)); /* 2^-125 */
+    CHECK(gives(3, 1, 1, 0xBE000000, 0x3FA00000, 0x81000001, 0x01000002)); /* needs the 2^-125 of method 3 */
     CHECK(gives(4, NEGATIVE, 0, NEGATIVE, NEGATIVE, 0, 0));
     CHECK(gives(1, NEGATIVE | MAX, NEGATIVE | MAX, ONE, ONE, NEGATIVE | MAX, NEGATIVE | MAX));
 
@@ -71,7 +71,7 @@ void check_products(void)
         reset();
         CHECK(is(multiply(methods[i], 32, 32, 32), 0, 0, 0, 0));
         CHECK(result_untouched(1024) && work_untouched(methods[i] == 1 ? 0 : 1024));
-        if (methods[i] == 3)    /* 32 less 34/2^19, and more */
+        if (methods[i] == 3)    /* about 32 - 34/2^19 and 32 + 34/2^19 */
             CHECK(all_are(c_lo, 1024, 0x41FFFFDD) && all_are(c_hi, 1024, 0x42000012));
         else
             CHECK(all_are(c_lo, 1024, 0x42000000) && all_are(c_hi, 1024, 0x42000000));
@@ -79,7 +79,7 @@ void check_products(void)
     }
 }
 
-/* 9, 1 and 2, each before those that follow it. */
+/* Refusals 9, 1 and 2, each before the ones that follow it. */
 static void check_frame(void)
 {
     static const uint32_t matrices[10] = {1, 1, 2, 2, 0, 0, 0, 0, 3, 3};
@@ -91,7 +91,7 @@ static void check_frame(void)
     CHECK(is(multiply(4, 1, 1, 0), 1, 2, 0, 0) && is(multiply(1, 1, 1, 33), 1, 2, 0, 0));
     CHECK(is(oracle_check_sizes(2, 3, 2, 3), 1, 2, 0, 0) && is(oracle_check_sizes(2, 3, 3, 2), 0, 0, 0, 0));
     lengths[0] = ROOM;
-    for (int i = 9; i >= 0; i--) {          /* this one and all after it short */
+    for (int i = 9; i >= 0; i--) {          /* this slice and all behind it are too short */
         lengths[i] = 8;
         CHECK(is(multiply(1, 3, 3, 3), 2, matrices[i], 0, 0));
         CHECK(is(multiply(4, 3, 3, 3), 2, matrices[i], 0, 0));
@@ -99,7 +99,7 @@ static void check_frame(void)
     CHECK(result_untouched(0) && work_untouched(0));
 }
 
-/* 3 and 4 by rows, A before B, 3 before 4 in a cell. */
+/* Refusals 3 and 4 by rows: A before B, and 3 before 4 in a cell. */
 static void check_cells(void)
 {
     reset();
@@ -116,7 +116,7 @@ static void check_cells(void)
     CHECK(result_untouched(0) && work_untouched(0));
 }
 
-/* The first refused entry by rows; results 0, work converted. */
+/* 5 names the first refused entry by rows; the result is 0, the work converted. */
 static void check_overflow(void)
 {
     for (int i = 0; i < 4; i++) {

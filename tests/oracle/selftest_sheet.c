@@ -15,14 +15,14 @@ static struct refusal read_sheet(size_t len)
     return oracle_read(s, len, lo, 1025, hi, 1025, &rows, &columns);
 }
 
-/* The refusal is as given and nothing was touched. */
+/* Whether the read is refused with this number and place, and writes nothing. */
 static bool refuses(size_t len, uint32_t number, uint32_t row, uint32_t column)
 {
     return is(read_sheet(len), number, 0, row, column) && rows == 99 && columns == 99
         && all_are(lo, 1025, UNTOUCHED) && all_are(hi, 1025, UNTOUCHED);
 }
 
-/* A 2 by 3 sheet of four records: cells (0,1), (1,0), (1,2) in 3, 1, 2. */
+/* A 2 by 3 sheet of four records: the cells (0,1), (1,0), (1,2) are in records 3, 1, 2. */
 static void put_good_sheet(void)
 {
     put_head(s, 3, 2, 3, 4);
@@ -46,7 +46,7 @@ void check_reading(void)
     put_head(s, 0, 32, 32, 1);
     CHECK(is(read_sheet(16), 0, 0, 0, 0) && all_are(lo, 1024, 0) && lo[1024] == UNTOUCHED);
     put_head(s, 0, 1, 1, 2);
-    memset(s + 16, 0xFF, 16);                       /* outside the chain */
+    memset(s + 16, 0xFF, 16);                       /* this record is not in the chain */
     CHECK(is(read_sheet(32), 0, 0, 0, 0) && lo[0] == 0 && hi[0] == 0);
     put_head(s, 1, 1, 1, 2);
     put_cell(s + RECORD_BYTES, 0, 0, 0, NEGATIVE | (MAX - 1), MAX - 1, 1);
@@ -91,11 +91,11 @@ void check_read_refusals(void)
     s[16 * 2 + 3] = 3;                              /* (0,3) */
     CHECK(refuses(64, 7, 0, 0));
     put_good_sheet();
-    put_cell(s + 2 * RECORD_BYTES, 4, 1, 2, ONE, ONE, 0);           /* index past the count */
+    put_cell(s + 2 * RECORD_BYTES, 4, 1, 2, ONE, ONE, 0);           /* an index that is not below the record count */
     CHECK(refuses(64, 7, 0, 0));
     put_cell(s + 2 * RECORD_BYTES, 2, 1, 2, ONE, ONE, 0);           /* a loop */
     CHECK(refuses(64, 8, 0, 0));
-    put_cell(s + 2 * RECORD_BYTES, 0, 1, 0, ONE, ONE, 0);           /* an equal place */
+    put_cell(s + 2 * RECORD_BYTES, 0, 1, 0, ONE, ONE, 0);           /* the same place twice */
     CHECK(refuses(64, 8, 0, 0));
 }
 

@@ -8,7 +8,7 @@
 #define LEAST_LENGTH 16
 #define GREATEST_LENGTH 16400
 
-/* 0 for class 0, 2^(c - 11) for class c. */
+/* The patterns of the wear class amounts: 0 for class 0, 2^(c - 11) for class c. */
 static const uint32_t class_amounts[8] = {
     0x00000000, 0x3A800000, 0x3B000000, 0x3B800000,
     0x3C000000, 0x3C800000, 0x3D000000, 0x3D800000,
@@ -44,7 +44,7 @@ static bool all_zero(const uint8_t *bytes, size_t count)
     return true;
 }
 
-/* 6 on length and head. */
+/* Whether length and head pass the check for refusal 6. */
 static bool frame_is_good(const uint8_t *s, size_t len)
 {
     return len % RECORD == 0 && len >= LEAST_LENGTH && len <= GREATEST_LENGTH
@@ -52,7 +52,7 @@ static bool frame_is_good(const uint8_t *s, size_t len)
         && all_zero(s + 6, 10);
 }
 
-/* 6, 10, 3, 4, 5 of one cell; when accepted, the widened cell. */
+/* Checks one cell for refusals 6, 10, 3, 4, 5; when it passes, gives the widened bounds. */
 static uint32_t read_cell(const uint8_t *record, uint32_t *lo, uint32_t *hi)
 {
     uint32_t lower = get_32(record + 4), upper = get_32(record + 8);
@@ -69,8 +69,8 @@ static uint32_t read_cell(const uint8_t *record, uint32_t *lo, uint32_t *hi)
     return number;
 }
 
-/* Follows the chain and fills the matrix, whose sizes are set and whose cells
-   are all zero. An index is checked when it is followed. */
+/* Follows the chain and puts its cells into the matrix, whose sizes are set and whose
+   cells are all [0, 0]. An index is checked before its record is read. */
 static struct refusal read_chain(const uint8_t *s, struct matrix *cells)
 {
     uint32_t records = get_16(s + 4);
@@ -121,13 +121,13 @@ struct refusal oracle_read(const uint8_t *s, size_t len,
     return ACCEPTED;
 }
 
-/* [0, 0] by value: minus zero counts as zero. */
+/* Whether both bounds are zeros, of either sign. */
 static bool is_zero_cell(uint32_t lo, uint32_t hi)
 {
     return magnitude(lo) == 0 && magnitude(hi) == 0;
 }
 
-/* 1, 2, 3 and 4 by cells, 11; *needed is the length of the sheet. */
+/* Refusals 1, 2, then 3 and 4 by cells, then 11; *needed is the length of the sheet. */
 static struct refusal check_write(size_t rows, size_t columns,
                                   const uint32_t *lo, size_t lo_len,
                                   const uint32_t *hi, size_t hi_len,

@@ -13,7 +13,7 @@
 #define VECTOR_LENGTH 30    /* line feed included */
 #define RESULT_AT 21        /* where the result starts */
 
-/* Works the operation out and prints its line to standard output. */
+/* Computes the operation and prints its line to standard output. */
 void print_vector(enum operation operation, enum direction direction,
                   uint32_t a, uint32_t b);
 

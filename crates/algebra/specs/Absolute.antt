@@ -1,5 +1,5 @@
 -- The absolute value as an integer. Definitions only.
--- It is `pos` of a natural, so that `omega` knows that it, and a product of two, is not negative.
+-- It is `pos` of a natural number, so the decision procedure `omega` knows that it is not negative, and neither is a product of two of them.
 use lib.IntN.{ℤ, pos, natAbs}
 
 abbrev pub abs : ℤ → ℤ

@@ -1,4 +1,4 @@
--- The lesser and the greater of two integers. Definitions only.
+-- The lesser and the greater of two integers, and the least and the greatest of four. Definitions only.
 use mathlib.Core.Bool.{cond}
 use lib.IntN.{ℤ}
 use lib.Signed.{leZ}
@@ -9,7 +9,7 @@ minℤ a b = cond (leZ a b) a b
 unfoldable pub maxℤ : ℤ → ℤ → ℤ
 maxℤ a b = cond (leZ a b) b a
 
--- of four
+-- the least and the greatest of four integers
 abbrev pub least₄ : ℤ → ℤ → ℤ → ℤ → ℤ
 least₄ a b c d = minℤ (minℤ a b) (minℤ c d)
 

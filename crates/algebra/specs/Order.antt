@@ -1,5 +1,5 @@
 -- The order of the integers. Definitions only.
--- `≼` and `≺` are lib.Signed's `≤ℤ` and `<ℤ` under a name of the fixity of `≡`: lib.Signed's own bind tighter than `+ℤ`.
+-- `≼` and `≺` are lib.Signed's `≤ℤ` and `<ℤ`, which bind tighter than `+ℤ`. These bind as loosely as `≡`, so that sums need no brackets.
 use lib.IntN.{ℤ}
 use lib.Signed.{_≤ℤ_, _<ℤ_}
 

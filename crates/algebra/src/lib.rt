@@ -1,4 +1,4 @@
-// A crate of definitions and laws: integer algebra, in specs/ and proofs/. A crate has at least one function.
+// Integer algebra as definitions (specs/) and laws (proofs/). Nothing calls the function below: every crate must have one.
 ghost use mathlib.Core.Path.{_≡_};
 
 pub fn zero() -> u64

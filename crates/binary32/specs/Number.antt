@@ -1,4 +1,4 @@
--- What a binary32 pattern stands for, in units of 2^-149, and the pattern of a number. Definitions only (01, "Numbers").
+-- The value of a binary32 pattern in units of 2^-149, and the pattern of a value. Definitions only (01, "Numbers").
 use mathlib.Core.Bool.{Bool, true, false, cond}
 use mathlib.Core.Option.{Option, none, some}
 use Prim.Native.Nat.{ℕ, suc, _+_, _-_, _*_, _%_, _^_, _<_}
@@ -9,15 +9,16 @@ use Rattle.rounding.specs.Pattern.{val, encode}
 
 -- ---- from a pattern to its number
 
+-- n, or -n where the flag is set
 abbrev pub signedBy : Bool → ℕ → ℤ
 signedBy true n = negℤ (pos n)
 signedBy false n = pos n
 
--- the sign is the highest of 32 bits; below it stand the exponent field and the fraction (`val`)
+-- the value of a pattern: the sign is the highest of 32 bits; below it are the exponent field and the fraction, whose value is `val`
 unfoldable pub valueOf : ℕ → ℤ
 valueOf p = signedBy (leb (2 ^ 31) p) (val binary32 (p % 2 ^ 31))
 
--- exponent field 255 stands for no number
+-- whether p is the pattern of a number: its exponent field is not 255
 abbrev pub finite : ℕ → Bool
 finite p = ltb (p % 2 ^ 31) (255 * 2 ^ 23)
 
@@ -27,21 +28,21 @@ Finite p = p % 2 ^ 31 < 255 * 2 ^ 23
 abbrev pub finites : ℕ → ℕ → Bool
 finites a b = cond (finite a) (finite b) false
 
--- the number that a pattern holds, or none
+-- the value of a pattern, or none for exponent field 255
 unfoldable pub held : ℕ → Option ℤ
 held p = cond (finite p) (some (valueOf p)) none
 
--- the pattern with the other sign
+-- the pattern with its sign bit changed
 unfoldable pub negated : ℕ → ℕ
 negated p = cond (ltb p (2 ^ 31)) (p + 2 ^ 31) (p - 2 ^ 31)
 
--- ---- from a number to its pattern: zero has the pattern 0, never that of minus zero
+-- ---- from a value to its pattern: zero has the pattern 0, never that of minus zero
 
 abbrev pub patternOf : ℤ → ℕ
 patternOf (pos v) = encode binary32 v
 patternOf (negsuc n) = 2 ^ 31 + encode binary32 (suc n)
 
--- the patterns of MAX and -MAX, and of the infinities, which stand where there is no number
+-- the patterns of MAX and -MAX, and of the infinities, which stand for "no finite result"
 abbrev pub largest : ℕ
 largest = 0x7F7FFFFF
 
@@ -54,12 +55,12 @@ infinity = 0x7F800000
 abbrev pub minusInfinity : ℕ
 minusInfinity = 0xFF800000
 
--- where there is no number: a pattern of exponent field 255, named z
+-- the pattern of a result; z, a pattern with exponent field 255, where there is no finite result
 abbrev pub hold : ℕ → Option ℤ → ℕ
 hold z (some v) = patternOf v
 hold z none = z
 
--- rounding down has no number below all, rounding up none above all: minus infinity, infinity
+-- no finite result is written as minus infinity by rounding down, as infinity by rounding up and to nearest
 abbrev pub holdDown : Option ℤ → ℕ
 holdDown = hold minusInfinity
 

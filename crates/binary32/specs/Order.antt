@@ -1,5 +1,5 @@
--- Comparing patterns by the numbers that they stand for. Definitions only.
--- A pattern of exponent field 255 is compared by the value that its fields would give, so minus infinity is below every number and infinity above.
+-- The order of patterns by their values. Definitions only.
+-- A pattern with exponent field 255 is compared by the value that its fields would give: minus infinity is below all numbers, infinity above.
 use mathlib.Core.Bool.{Bool, cond}
 use Prim.Native.Nat.{ℕ, _%_, _^_}
 use lib.Dec.{leb}
@@ -7,17 +7,19 @@ use lib.IntN.{ℤ}
 use lib.Signed.{leZ}
 use Rattle.binary32.specs.Number.{signedBy, valueOf}
 
--- the pattern without its sign
+-- the pattern with its sign bit cleared
 abbrev pub magnitudeOf : ℕ → ℕ
 magnitudeOf p = p % 2 ^ 31
 
--- the rank of a pattern among all, both zeros at 0
+-- an integer that rises with the value of the pattern, 0 for both zeros
 unfoldable pub keyOf : ℕ → ℤ
 keyOf p = signedBy (leb (2 ^ 31) p) (p % 2 ^ 31)
 
+-- whether the value of a is at most that of b
 abbrev pub atMost : ℕ → ℕ → Bool
 atMost a b = leZ (valueOf a) (valueOf b)
 
+-- the pattern with the lesser value, and with the greater; of equal values the first, and the second
 unfoldable pub leastOf : ℕ → ℕ → ℕ
 leastOf a b = cond (atMost a b) a b
 

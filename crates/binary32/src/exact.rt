@@ -1,4 +1,4 @@
-// Exact values of operations, before they are rounded: in 61 digits, or a value that no rounding tells from the exact one.
+// The value of an operation before it is rounded: exact in at most 61 bits, or a value with the same three roundings as the exact one.
 ghost use mathlib.Core.Path.{_≡_};
 ghost use Prim.Native.Nat.{_-_, _^_, _≤_, _<_};
 ghost use lib.IntN.{pos, natAbs, _+ℤ_, _*ℤ_};
@@ -9,7 +9,7 @@ use crate::parts::Parts;
 use crate::parts::decode;
 use crate::parts::power;
 
-// An exact value, or one that has the same roundings; none where an operand holds no number.
+// Value: the exact value, or one with the same roundings. Unknown: an operand has exponent field 255.
 pub enum Exact {
     Value(Parts),
     Unknown,
@@ -26,7 +26,7 @@ pub fn times(x: Parts, y: Parts) -> Parts
     }
 }
 
-// -1, 0 or 1.
+// The sign of x: -1, 0 or 1.
 fn sign(x: i64) -> i64
     ensures { λ r. ⌜ r ≡ sgn x ⌝ }
 {
@@ -47,7 +47,7 @@ fn shifted_sum(x: i64, n: u32, y: i64) -> i64
     x * power(n) + y
 }
 
-// x + y, or, where y is far smaller, x and y's sign 36 places below: no rounding tells the two apart.
+// x + y. Where the exponents differ by more than 36, y only acts as a sticky bit: its sign, 36 places below x, gives the same three roundings.
 fn joined(x: Parts, y: Parts, lift: u32) -> Parts
     requires { ⌜ Larger x y lift ⌝ }
     ensures { λ r. ⌜ Same (2 ^ (149 - lift)) (of x +ℤ of y) r ⌝ }
@@ -65,7 +65,7 @@ fn joined(x: Parts, y: Parts, lift: u32) -> Parts
     }
 }
 
-// Of the two the one with the larger exponent; x where they are equal.
+// The summand with the larger exponent; x where the exponents are equal.
 fn first(x: Parts, y: Parts) -> Parts
     ensures { λ r. ⌜ r ≡ earlier x y ⌝ }
 {
@@ -75,7 +75,7 @@ fn first(x: Parts, y: Parts) -> Parts
     x
 }
 
-// The other one.
+// The other summand.
 fn second(x: Parts, y: Parts) -> Parts
     ensures { λ r. ⌜ r ≡ later x y ⌝ }
 {
@@ -93,7 +93,7 @@ pub fn plus(x: Parts, y: Parts, lift: u32) -> Parts
     joined(first(x, y), second(x, y), lift)
 }
 
-// a × b, where both patterns stand for numbers.
+// a × b, or Unknown where a pattern has exponent field 255.
 pub fn product(a: u32, b: u32) -> Exact
     ensures { λ r. ⌜ Rounds (λ way. with₂ (mul way) a b) r ⌝ }
 {
@@ -103,7 +103,7 @@ pub fn product(a: u32, b: u32) -> Exact
     Exact::Unknown
 }
 
-// (a + b) × 2^(lift - 149), where both patterns stand for numbers: with lift 149 their sum, with 148 their midpoint.
+// (a + b) × 2^(lift - 149), or Unknown where a pattern has exponent field 255: with lift 149 the sum, with lift 148 the midpoint.
 pub fn total(a: u32, b: u32, lift: u32) -> Exact
     requires { ⌜ lift ≤ 149 ⌝ }
     ensures { λ r. ⌜ Rounds (λ way. with₂ (lifted lift way) a b) r ⌝ }

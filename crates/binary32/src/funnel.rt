@@ -1,7 +1,7 @@
-// The one place where values are rounded: sig × 2^exp × 2^-149 units, by one count of leading zeros and one signed shift.
-// The shift rounds down, a negative value too; up and nearest step one further where digits were lost:
+// The one place where the operations round: sig × 2^exp × 2^-149 units, by one count of leading zeros and one arithmetic shift.
+// The shift gives c, which is w / 2^n rounded down, also for negative w. The remainder r decides whether up and nearest add 1:
 //
-//     lost digits r of w / 2^n     down    up       to nearest
+//     remainder r of w / 2^n       down    up       to nearest
 //     r = 0                        c       c        c
 //     0 < r < 2^n / 2              c       c + 1    c
 //     r = 2^n / 2                  c       c + 1    c or c + 1, the even one
@@ -20,7 +20,7 @@ use crate::parts::magnitude;
 use crate::parts::power;
 use crate::parts::smaller;
 
-// The significands of the three roundings, each to be shifted up by the same number of places.
+// The significands of the three roundings. Each result is its significand × 2^shift units.
 pub struct Ways {
     pub down: i64,
     pub up: i64,
@@ -28,7 +28,7 @@ pub struct Ways {
     pub shift: u32,
 }
 
-// c, or the next above it.
+// c, or c + 1 where `more` is set.
 fn next(c: i64, more: bool) -> i64
     requires { ⌜ natAbs c < 2 ^ 62 ⌝ }
     ensures { λ r. ⌜ r ≡ c +ℤ pos (bit more) ⌝ }
@@ -36,7 +36,7 @@ fn next(c: i64, more: bool) -> i64
     if more { c + 1 } else { c }
 }
 
-// w / 2^n rounded down: the shift keeps the sign, and a negative number that loses digits steps one further down.
+// w / 2^n rounded down: the shift keeps the sign, and a negative w that loses bits is rounded away from zero.
 fn floor(w: i64, n: u32) -> i64
     requires { ⌜ (natAbs w < 2 ^ 61) × (n ≤ 62) ⌝ }
     ensures { λ r. ⌜ r ≡ shrZ w (2 ^ n) ⌝ }
@@ -44,7 +44,7 @@ fn floor(w: i64, n: u32) -> i64
     w >> n
 }
 
-// What the shift lost.
+// The remainder w - c × 2^n.
 fn rest(w: i64, c: i64, n: u32) -> u64
     requires { ⌜ (natAbs w < 2 ^ 61) × (n ≤ 62) × (c ≡ shrZ w (2 ^ n)) ⌝ }
     ensures { λ r. ⌜ r ≡ rem w (2 ^ n) ⌝ }
@@ -52,7 +52,7 @@ fn rest(w: i64, c: i64, n: u32) -> u64
     (w - c * power(n)) as u64
 }
 
-// w / 2^n, rounded three ways.
+// w / 2^n, rounded in all three directions, with the shift that was passed in.
 pub fn split(w: i64, n: u32, shift: u32) -> Ways
     requires { ⌜ (natAbs w < 2 ^ 61) × (n ≤ 62) ⌝ }
     ensures { λ r. ⌜ Split w (2 ^ n) shift r ⌝ }
@@ -70,17 +70,19 @@ pub fn split(w: i64, n: u32, shift: u32) -> Ways
     }
 }
 
-// Digits of a significand that is widened for the shift, and how many of them are dropped where 24 are kept.
+// A significand is first shifted up to this many bits.
 const WIDE: u32 = 61;
 
+// How many of them are dropped where 24 are kept.
 const DROPPED: u32 = WIDE - Binary32::PRECISION;
 
-// The exponent of 2^24 units, from which on 24 digits are kept, and that of 2^61 units.
+// 2^24 units is 2^173 × 2^-149 units: a value of 173 bits or more keeps 24 of them, a shorter one is rounded to whole units.
 const FULL: u32 = Binary32::SMALLEST_EXPONENT + Binary32::PRECISION;
 
+// The exponent of 2^61 units.
 const WIDE_UNITS: u32 = Binary32::SMALLEST_EXPONENT + WIDE;
 
-// s × 2^e × 2^-149 units, rounded three ways: to 24 digits from 2^24 units on, below that to whole units.
+// s × 2^e × 2^-149 units, rounded in all three directions: to 24 bits from 2^24 units on, to whole units below (subnormal numbers).
 pub fn cut(s: i64, e: u32) -> Ways
     requires { ⌜ Small s e ⌝ }
     ensures { λ r. ⌜ IsCut (s *ℤ pos (2 ^ e)) r ⌝ }
@@ -102,7 +104,7 @@ pub fn cut(s: i64, e: u32) -> Ways
     split(wide, smaller(WIDE_UNITS - top, 62), 0)
 }
 
-// The pattern of c × 2^shift units; else one of the two patterns for a value that is too large.
+// The pattern of c × 2^shift units. Where that is too large for binary32: `below` for negative c, `above` for positive c.
 pub fn pack(c: i64, shift: u32, below: u32, above: u32) -> u32
     requires { ⌜ (natAbs c ≤ 2 ^ 24) × (shift ≤ 500) ⌝ }
     ensures { λ r. ⌜ r ≡ packed c shift below above ⌝ }
@@ -120,7 +122,7 @@ pub fn pack(c: i64, shift: u32, below: u32, above: u32) -> u32
     above
 }
 
-// x, rounded down: minus infinity below all numbers, the largest number above.
+// x, rounded down: minus infinity where x is below all numbers, the largest number where x is above all.
 pub fn round_down(x: Parts) -> u32
     requires { ⌜ Small (x .sig) (x .exp) ⌝ }
     ensures { λ r. ⌜ r ≡ holdDown (exact down x) ⌝ }
@@ -129,7 +131,7 @@ pub fn round_down(x: Parts) -> u32
     pack(c.down, c.shift, Binary32::MINUS_INFINITY, Binary32::LARGEST)
 }
 
-// x, rounded up: infinity above all numbers, the least number below.
+// x, rounded up: infinity where x is above all numbers, the least number, -MAX, where x is below all.
 pub fn round_up(x: Parts) -> u32
     requires { ⌜ Small (x .sig) (x .exp) ⌝ }
     ensures { λ r. ⌜ r ≡ holdUp (exact up x) ⌝ }
@@ -138,7 +140,7 @@ pub fn round_up(x: Parts) -> u32
     pack(c.up, c.shift, Binary32::LEAST, Binary32::INFINITY)
 }
 
-// x, rounded to nearest: infinity from half a step beyond the largest number on.
+// x, rounded to nearest: infinity where |x| is 2^128 - 2^103 or more, half an ulp above the largest number.
 pub fn round_near(x: Parts) -> u32
     requires { ⌜ Small (x .sig) (x .exp) ⌝ }
     ensures { λ r. ⌜ r ≡ holdNear (exact near x) ⌝ }

@@ -1,4 +1,4 @@
-// An exact value, rounded, as the pattern that holds it; where there is none, the infinity on the side to which it is rounded.
+// The pattern of an exact value, rounded. Where an operand has exponent field 255 or the result is too large for binary32, an infinity.
 ghost use mathlib.Core.Path.{_≡_};
 ghost use Rattle.rounding.specs.Rounding.{up, down, near};
 ghost use Rattle.binary32.specs.Number.{holdDown, holdUp, holdNear};
@@ -9,7 +9,7 @@ use crate::funnel::round_down;
 use crate::funnel::round_near;
 use crate::funnel::round_up;
 
-// Rounded down: minus infinity where there is no number.
+// Rounded down; minus infinity where there is no finite result.
 pub fn down_of(x: Exact) -> u32
     requires { ⌜ Safe x ⌝ }
     ensures { λ r. ⌜ r ≡ holdDown (exactly down x) ⌝ }
@@ -20,7 +20,7 @@ pub fn down_of(x: Exact) -> u32
     }
 }
 
-// Rounded up: infinity where there is no number.
+// Rounded up; infinity where there is no finite result.
 pub fn up_of(x: Exact) -> u32
     requires { ⌜ Safe x ⌝ }
     ensures { λ r. ⌜ r ≡ holdUp (exactly up x) ⌝ }
@@ -31,7 +31,7 @@ pub fn up_of(x: Exact) -> u32
     }
 }
 
-// Rounded to nearest: infinity where there is no number.
+// Rounded to nearest; infinity where there is no finite result.
 pub fn near_of(x: Exact) -> u32
     requires { ⌜ Safe x ⌝ }
     ensures { λ r. ⌜ r ≡ holdNear (exactly near x) ⌝ }

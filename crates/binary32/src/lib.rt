@@ -1,5 +1,5 @@
-// The numbers of binary32 on 32-bit patterns: each operation takes the exact value of its operands and rounds it once.
-// Minus zero is read as zero, and a zero result is the pattern 0. Whole numbers alone are used, no machine floats.
+// The operations of binary32 on 32-bit patterns: each rounds the exact result once. Only integer arithmetic is used, no machine floats.
+// The pattern of minus zero is read as zero, and a zero result is the pattern 0.
 ghost use mathlib.Core.Path.{_≡_};
 ghost use Rattle.binary32.specs.Operations.{addDown, addUp, addNear, subDown, subUp, subNear, mulDown, mulUp, mulNear};
 ghost use Rattle.binary32.specs.Operations.{midpointDown, midpointUp, midpointNear, rounded, checkedOf};
@@ -14,17 +14,19 @@ mod parts;
 
 use refusals::Refusal;
 
-// The format: precision, smallest exponent (one unit is 2^-149), and the patterns at its ends.
+// The format: its precision, its unit, 2^-149, and the patterns of its extreme values.
 pub struct Binary32 {
     pub bits: u32,
 }
 
 impl Binary32 {
+    // Bits of a significand.
     pub const PRECISION: u32 = 24;
 
+    // One unit, the smallest positive number, is 2^-149.
     pub const SMALLEST_EXPONENT: u32 = 149;
 
-    // Patterns: MAX and -MAX, and the infinities, which stand where there is no number.
+    // The patterns of MAX and -MAX, and of the infinities, which stand for "no finite result" inside the library.
     pub const LARGEST: u32 = 0x7F7F_FFFF;
 
     pub const LEAST: u32 = 0xFF7F_FFFF;
@@ -34,13 +36,13 @@ impl Binary32 {
     pub const MINUS_INFINITY: u32 = 0xFF80_0000;
 }
 
-// An operation's answer: a number's pattern, or 3, an operand has exponent field 255, or 5, no finite number is right.
+// The answer of an operation: the pattern of the result, or refusal 3 (an operand has exponent field 255) or 5 (the result is too large for binary32).
 pub enum Rounded {
     Number(u32),
     Refused(Refusal),
 }
 
-// The answer of an operation on a and b, where r is its result as a pattern that holds a number or none.
+// The answer of an operation on a and b with the result r, where exponent field 255 in r means that there is no finite result.
 fn checked(a: u32, b: u32, r: u32) -> Rounded
     ensures { λ z. ⌜ rounded z ≡ checkedOf a b r ⌝ }
 {

@@ -1,6 +1,6 @@
-// Operations on patterns that hold a number or none: a pattern with exponent field 255 holds none, an operand that holds none gives
-// none, and so does a result that has no finite number. A refusal is written as an infinity, the one on the side where it arose.
-// Sums and products of many steps are made of these: a test of the last result tells whether any step was refused.
+// Operations on patterns where exponent field 255 means "none" (no finite number): the result is none where an operand is none, or where it is
+// too large for binary32. None is returned as minus infinity by rounding down, as infinity otherwise.
+// So of many steps only the last result must be tested: it is none if any step was.
 ghost use mathlib.Core.Path.{_≡_};
 ghost use Rattle.rounding.specs.Rounding.{up, down, near};
 ghost use Rattle.binary32.specs.Number.{holdDown, holdUp, holdNear};

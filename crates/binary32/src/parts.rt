@@ -1,17 +1,17 @@
-// A pattern taken apart, and small steps on the machine's numbers.
+// A pattern split into significand and exponent, and small functions on integers. Used by exact.rt and funnel.rt.
 ghost use mathlib.Core.Path.{_≡_};
 ghost use Prim.Native.Nat.{_^_, _≤_, _<_, min};
 ghost use lib.IntN.{pos, natAbs};
 ghost use Rattle.binary32.specs.Number.{Finite, signedBy};
 ghost use Rattle.binary32.specs.Steps.{Decoded};
 
-// sig × 2^exp: of a pattern's number in units of 2^-149, of an exact product or sum in 2^-149 of a unit.
+// sig × 2^exp: in units for the number of a pattern, in 2^-149 of a unit for an exact product or sum.
 pub struct Parts {
     pub sig: i64,
     pub exp: u32,
 }
 
-// The smaller of two.
+// The smaller of a and b.
 pub fn smaller(a: u32, b: u32) -> u32
     ensures { λ r. ⌜ r ≡ min a b ⌝ }
 {
@@ -34,7 +34,7 @@ pub fn magnitude(x: i64) -> u64
     if x < 0 { (-x) as u64 } else { x as u64 }
 }
 
-// m, or -m where neg is set.
+// m, or -m where `neg` is set.
 pub fn with_sign(neg: bool, m: u64) -> i64
     requires { ⌜ m < 2 ^ 62 ⌝ }
     ensures { λ r. ⌜ r ≡ signedBy neg m ⌝ }
@@ -43,7 +43,7 @@ pub fn with_sign(neg: bool, m: u64) -> i64
     if neg { -s } else { s }
 }
 
-// The number of a pattern: its fraction, with the leading digit where the exponent field is not 0, and its exponent.
+// The number of a pattern: its fraction, with the implicit leading bit where the exponent field is not 0, and its exponent.
 pub fn decode(p: u32) -> Parts
     requires { ⌜ Finite p ⌝ }
     ensures { λ r. ⌜ Decoded p r ⌝ }

@@ -1,4 +1,4 @@
--- What a caller in C gets for a read of a sheet, and for a product of matrices. Definitions only.
+-- The answers of a read and of a product for a caller in C. Definitions only.
 use mathlib.Core.Path.{_≡_}
 use mathlib.Core.List.{List}
 use Prim.Native.Nat.{ℕ, _+_, _*_}
@@ -7,17 +7,17 @@ use Rattle.matrices.specs.Checks.{Given, called}
 use Rattle.matrices.specs.Product.{productOf, Left}
 use Rattle.matrices.specs.Demand.{Keeps}
 
--- rows and columns as one number
+-- rows and columns as one number: 100 × rows + columns
 abbrev pub sizesCode : ℕ × ℕ → ℕ
 sizesCode x = 100 * x .0 + x .1
 
--- of a product of what g says: 0, or the refusal's code; all that is lent as the product leaves it; and demand 3
+-- a product with the arguments g: returns 0 or the refusal's code, leaves the lent slices as `Left` says, and its result meets demand 3 (enclosure, width)
 pub record Answered (g : Given) (ma ra mb rb lo up : List ℕ) (r : ℕ) (ma′ ra′ mb′ rb′ lo′ up′ : List ℕ) : Type 0 where
   pub code : r ≡ coded (λ v. 0) (productOf g)
   pub left : Left g ma ra mb rb lo up (productOf g) ma′ ra′ mb′ rb′ lo′ up′
   pub keeps : Keeps g lo′ up′
 
--- the same of a call's own arguments
+-- the same, by the arguments of a call
 abbrev pub Called : (method ar ac br bc : ℕ) (al au bl bu ma ra mb rb lo up : List ℕ) (r : ℕ) (ma′ ra′ mb′ rb′ lo′ up′ : List ℕ) → Type 0
 Called method ar ac br bc al au bl bu ma ra mb rb lo up =
     Answered (called method ar ac br bc al au bl bu ma ra mb rb lo up) ma ra mb rb lo up

@@ -2,7 +2,7 @@
 use Prim.Native.Nat.{ℕ}
 use Rattle.refusals.specs.Answer.{Answer, gives, refuses}
 
--- a word d afterwards, by the conversion's answer: its first number, or its second; on a refusal as it was
+-- what a conversion leaves in a word that held d: the first or the second number of its answer, or d on a refusal
 abbrev pub firstAfter : Answer (ℕ × ℕ) → ℕ → ℕ
 firstAfter (gives v) d = v .0
 firstAfter (refuses r) d = d

@@ -1,5 +1,5 @@
-// Sheets and matrices for callers in C: reader, writer and product. An answer is one number: 100 × rows + columns of a read, the length
-// of a sheet written, 0 of a product, or 1,000,000 × number + 10,000 × matrix + 100 × row + column of the refusal.
+// Reading and writing sheets, and products of matrices, for callers in C. Each returns one number: a read 100 × rows + columns, a write the
+// length of the sheet, a product 0; or, where it refuses, 1,000,000 × number + 10,000 × matrix + 100 × row + column of the refusal.
 ghost use mathlib.Core.Path.{_≡_};
 ghost use lib.ListN.{length};
 ghost use Rattle.refusals.specs.Answer.{coded};
@@ -10,7 +10,7 @@ ghost use Rattle.coupling.specs.Cells.{sizesCode, Called};
 use sheets::Shape;
 use sheets::Written;
 
-// Reads a sheet's matrix into the front of the two slices; on a refusal they stay as they are.
+// Reads the matrix of a sheet into the front of the two slices; a refusal leaves both as they were.
 #[no_mangle]
 pub extern "C" fn coupling_read(sheet: &[u8], lowers: &mut [u32], uppers: &mut [u32]) -> u32
     ensures answer { λ r. ⌜ r ≡ coded sizesCode (readOf (now (sheet .entry)) (length (now (lowers .entry))) (length (now (uppers .entry)))) ⌝ }
@@ -25,7 +25,7 @@ pub extern "C" fn coupling_read(sheet: &[u8], lowers: &mut [u32], uppers: &mut [
     }
 }
 
-// Writes a matrix's sheet into the front of out; on a refusal out stays as it is. What is written reads back as the same matrix by value.
+// Writes the sheet of a matrix into the front of out; a refusal leaves out as it was. A read of the sheet gives a matrix with the same values.
 #[no_mangle]
 pub extern "C" fn coupling_write(
     rows: usize,
@@ -46,8 +46,8 @@ pub extern "C" fn coupling_write(
     }
 }
 
-// A times B by the method with this number: its bounds in lo and up, in ma, ra, mb and rb what A's and B's cells were converted to.
-// The bounds enclose every product of picks from A's and B's cells.
+// A times B by method 1, 3, 4 or 7: the bounds of the product in lo and up, the midpoints and radii of A and B in ma, ra, mb and rb.
+// The bounds enclose the product of any two matrices of fractions whose entries lie in the cells of A and B.
 #[no_mangle]
 pub extern "C" fn coupling_product(
     method: u32,

@@ -1,5 +1,5 @@
-// The two conversions of an interval for callers in C. Each takes two patterns, writes two words and returns 0, or
-// 1,000,000 × number of the refusal, which leaves both words as they were.
+// The two conversions of an interval, for callers in C. Each takes two patterns, writes two and returns 0; or it refuses, returns
+// 1,000,000 × number of the refusal and writes nothing.
 ghost use mathlib.Core.Path.{_≡_};
 ghost use Rattle.refusals.specs.Answer.{coded};
 ghost use Rattle.intervals.specs.Conversion.{midradOf, boundsOf};
@@ -9,7 +9,7 @@ use intervals::Converted;
 use intervals::to_bounds;
 use intervals::to_midrad;
 
-// From bounds to midpoint and radius.
+// Bounds to midpoint and radius.
 #[no_mangle]
 pub extern "C" fn coupling_to_midrad(lower: u32, upper: u32, mid: &mut u32, rad: &mut u32) -> u32
     ensures answer { λ r. ⌜ r ≡ coded (λ _. 0) (midradOf lower upper) ⌝ }
@@ -26,7 +26,7 @@ pub extern "C" fn coupling_to_midrad(lower: u32, upper: u32, mid: &mut u32, rad:
     }
 }
 
-// From midpoint and radius to bounds.
+// Midpoint and radius to bounds.
 #[no_mangle]
 pub extern "C" fn coupling_to_bounds(mid: u32, rad: u32, lower: &mut u32, upper: &mut u32) -> u32
     ensures answer { λ r. ⌜ r ≡ coded (λ _. 0) (boundsOf mid rad) ⌝ }

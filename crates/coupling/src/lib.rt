@@ -1,4 +1,4 @@
-// The library for callers in C. Here is the sheet job; the modules have sheets and products of matrices, operations, and conversions.
+// The library for callers in C: the sheet job here, sheets and matrix products in cells.rt, the operations and the conversions in files of their own.
 ghost use mathlib.Core.Path.{_≡_};
 ghost use lib.ListN.{length};
 ghost use Rattle.refusals.specs.Answer.{coded};
@@ -10,8 +10,9 @@ pub mod cells;
 pub mod conversions;
 pub mod operations;
 
-// The length of the sheet written, or 1,000,000 × number + 10,000 × matrix + 100 × row + column of the refusal.
-// The ranges of a sheet written, read back, enclose every product of picks from the two sheets.
+// Reads the sheets a and b, multiplies them and writes the sheet of the product to the front of out.
+// Returns its length, or 1,000,000 × number + 10,000 × matrix + 100 × row + column of the refusal.
+// The cells of the written sheet enclose the product of any two matrices of fractions whose entries lie in the cells of a and b.
 #[no_mangle]
 pub extern "C" fn coupling_multiply(method: u32, a: &[u8], b: &[u8], out: &mut [u8]) -> u32
     ensures answer { λ r. ⌜ r ≡ coded (λ n. n) (jobOf method (now (a .entry)) (now (b .entry)) (length (now (out .entry)))) ⌝ }

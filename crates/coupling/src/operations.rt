@@ -1,5 +1,5 @@
-// The operations of binary32 for callers in C. Each takes two patterns and returns the pattern of the result, or, where the operation is
-// refused, 0x7F800003 (refusal 3, an operand has exponent field 255) or 0x7F800005 (refusal 5, no finite number is right).
+// The operations of binary32, for callers in C. Each takes two patterns and returns the pattern of the result; or it refuses and returns
+// 0x7F800003 (refusal 3, an operand has exponent field 255) or 0x7F800005 (refusal 5, the result is too large for binary32).
 ghost use mathlib.Core.Path.{_≡_};
 ghost use Rattle.binary32.specs.Operations.{rounded, addDown, addUp, addNear, subDown, subUp, subNear};
 ghost use Rattle.binary32.specs.Operations.{mulDown, mulUp, mulNear, midpointDown, midpointUp, midpointNear};
@@ -7,7 +7,7 @@ ghost use Rattle.coupling.specs.Operations.{patternFor};
 use binary32::Binary32;
 use binary32::Rounded;
 
-// A number's pattern never has exponent field 255, so a refusal's number stands in such a pattern.
+// The pattern of the result, or the refusal's number added to the pattern of infinity: no result has exponent field 255.
 fn pattern_for(r: Rounded) -> u32
     ensures { λ z. ⌜ z ≡ patternFor (rounded r) ⌝ }
 {

@@ -1,5 +1,5 @@
--- The rounded arithmetic that the methods run over: three roundings of X / D units, and the constants of method 3. Definitions only.
--- The methods are defined over any such arithmetic; `of` is that of a number format.
+-- The rounded arithmetic that the methods use: three roundings of X / D units, and the constants of method 3. Definitions only.
+-- The methods are defined for any such arithmetic; `of` gives that of a number format.
 use mathlib.Core.Option.{Option}
 use Prim.Native.Nat.{ℕ, _-_, _^_}
 use lib.IntN.{ℤ}
@@ -8,7 +8,7 @@ use Rattle.rounding.specs.Format.{Format}
 use Rattle.rounding.specs.Rounding as Rounding
 
 pub record Arithmetic : Type 0 where
-  -- the least number not below X / D, the greatest not above it, the nearest; or none
+  -- X / D rounded up, down and to nearest, in units; none where the result is too large
   pub up : ℕ → ℤ → Option ℤ
   pub down : ℕ → ℤ → Option ℤ
   pub near : ℕ → ℤ → Option ℤ
@@ -16,10 +16,10 @@ pub record Arithmetic : Type 0 where
   pub units : ℕ
   -- 2 ^ -prec in units: 2 ^ -24 for binary32
   pub eps : ℕ
-  -- what method 3 adds to a radius: 2 ^ prec units, 2 ^ -125 for binary32
+  -- the constant that method 3 adds to a radius: 2 ^ prec units, 2 ^ -125 for binary32
   pub tiny : ℕ
 
--- of a format whose unit is at most 2 ^ -prec
+-- the arithmetic of a format whose unit is at most 2 ^ -prec
 abbrev pub of : Format → Arithmetic
 of f =
     record {

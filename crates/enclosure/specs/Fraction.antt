@@ -1,4 +1,4 @@
--- Fractions, and what it is to lie in an interval. Definitions only (01: "A fraction is any whole number, negative and zero too, over a
+-- Fractions, and the test that a fraction lies in an interval. Definitions only (01: "A fraction is any whole number, negative and zero too, over a
 -- whole number above zero. It is picked from a cell when it is neither below the cell's lower bound nor above its upper one").
 use Prim.Native.Nat.{ℕ, zero, suc, _*_, _<_}
 use native.Mathlib.Nat.{mul-pos}
@@ -12,6 +12,7 @@ pub record Fraction : Type 0 where
   pub den : ℕ
   pub above : 0 < den
 
+-- sum and product
 infixl 6 _⊹_
 infixl 7 _⊛_
 unfoldable pub _⊹_ : Fraction → Fraction → Fraction
@@ -25,7 +26,7 @@ unfoldable pub fsum : ℕ → (ℕ → Fraction) → Fraction
 fsum zero x = record { num = pos 0; den = 1; above = lit< tt }
 fsum (suc n) x = fsum n x ⊹ x n
 
--- l / Q ≤ x ≤ u / Q: the bounds l and u are in units, of which Q make 1. It is the one test for a pick from a cell and for a sum in an entry
+-- l / Q ≤ x ≤ u / Q: the bounds l and u are in units, of which Q make 1. The same test serves a pick from a cell and a sum in an entry
 pub record In (Q : ℕ) (l u : ℤ) (x : Fraction) : Type 0 where
   pub not-below : l *ℤ pos (x .den) ≼ x .num *ℤ pos Q
   pub not-above : x .num *ℤ pos Q ≼ u *ℤ pos (x .den)

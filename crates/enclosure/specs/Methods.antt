@@ -1,5 +1,5 @@
--- One entry of a product by each of the four methods, in the order in which its steps are rounded. Definitions only (01, "Four products").
--- The entry has k pairs: a l and b l are the cells of pair l, for l from 0 to k - 1. It is none where one of its steps is refused.
+-- One entry of a product by each of the four methods: every step is rounded, in the order given here. Definitions only (01, "Four products").
+-- The entry has k pairs of cells, a l and b l for l from 0 to k - 1. It is none where one of its steps overflows.
 use mathlib.Core.Option.{Option, some, bind}
 use Prim.Native.Nat.{ℕ, suc, _+_, _*_}
 use lib.IntN.{ℤ, pos, negsuc, negℤ, _+ℤ_, _*ℤ_, _-ℤ_}
@@ -15,12 +15,12 @@ pub data Method : Type 0 where
   four : Method
   seven : Method
 
--- an entry's bounds, in units
+-- the bounds of an entry, in units
 pub record Range : Type 0 where
   pub lower : ℤ
   pub upper : ℤ
 
--- method 7's p of a cell: sign(m) * min(|m|, r)
+-- method 7's p for a cell with midpoint m and radius r: sign(m) * min(|m|, r)
 unfoldable pub part : ℤ → ℤ → ℤ
 part (pos n) r = minℤ (pos n) r
 part (negsuc n) r = negℤ (minℤ (pos (suc n)) r)
@@ -28,7 +28,7 @@ part (negsuc n) r = negℤ (minℤ (pos (suc n)) r)
 module _ (A : Arithmetic) where
   open Arithmetic A using (up, down, near, units, eps, tiny)
 
-  -- ---- the terms of a pair, rounded
+  -- ---- the rounded terms of one pair
 
   -- the least of the four corner products, each rounded down; the greatest, each rounded up
   unfoldable pub leastTerm : Cell → Cell → Option ℤ
@@ -43,7 +43,7 @@ module _ (A : Arithmetic) where
   unfoldable pub innerTerm : Cell → Cell → Option ℤ
   innerTerm a b = up units (abs (a .mid) *ℤ b .rad)
 
-  -- |m| + r of a cell
+  -- |m| + r for a cell
   unfoldable pub outerRadius : ℤ → ℤ → Option ℤ
   outerRadius m r = up 1 (abs m +ℤ r)
 
@@ -51,7 +51,7 @@ module _ (A : Arithmetic) where
   unfoldable pub outerTerm : Cell → Cell → Option ℤ
   outerTerm a b = bind (outerRadius (b .mid) (b .rad)) λ w. up units (a .rad *ℤ w)
 
-  -- rB′ of a cell: (f × |m|) + r, for f = (k + 2) × 2^-24
+  -- method 3's rB′ for a cell: (f × |m|) + r, for f = (k + 2) × 2^-24
   unfoldable pub raisedRadius : ℤ → ℤ → ℤ → Option ℤ
   raisedRadius f m r = bind (up units (f *ℤ abs m)) λ t. up 1 (t +ℤ r)
 
@@ -63,7 +63,7 @@ module _ (A : Arithmetic) where
   unfoldable pub sharedTerm : Cell → Cell → Option ℤ
   sharedTerm a b = up units (negℤ (abs (part (a .mid) (a .rad)) *ℤ abs (part (b .mid) (b .rad))))
 
-  -- mA × mB and pA × pB, by one of the roundings
+  -- mA × mB and pA × pB, rounded by `way`
   unfoldable pub midTerm : (ℕ → ℤ → Option ℤ) → Cell → Cell → Option ℤ
   midTerm way a b = way units (a .mid *ℤ b .mid)
 
@@ -71,7 +71,7 @@ module _ (A : Arithmetic) where
   partTerm way a b = way units (part (a .mid) (a .rad) *ℤ part (b .mid) (b .rad))
 
   module _ (k : ℕ) (a b : ℕ → Cell) where
-    -- the sum of a term over the k pairs, from s, rounded by `way`
+    -- s plus the sum of a term over the k pairs, each addition rounded by `way`
     unfoldable pub total : (ℕ → ℤ → Option ℤ) → (Cell → Cell → Option ℤ) → ℤ → Option ℤ
     total way term s = sum (way 1) (λ l. term (a l) (b l)) s k
 
@@ -79,7 +79,7 @@ module _ (A : Arithmetic) where
     unfoldable pub entry₁ : Option Range
     entry₁ = bind (total down leastTerm (pos 0)) λ l. bind (total up greatestTerm (pos 0)) λ u. some (record { lower = l; upper = u })
 
-    -- ---- the radius R and the centre sums of the other methods
+    -- ---- methods 3, 4 and 7: the radius R, and the centre, which is the sum over midpoints and parts
     unfoldable pub radius₄ : Option ℤ
     radius₄ = bind (total up innerTerm (pos 0)) λ s. total up outerTerm s
 
@@ -95,11 +95,12 @@ module _ (A : Arithmetic) where
     unfoldable pub centre₇ : (ℕ → ℤ → Option ℤ) → Option ℤ
     centre₇ way = bind (centre way) λ s. total way (partTerm way) s
 
-  -- ---- centre - R down, centre + R up
+  -- ---- the bounds: lower centre - R rounded down, upper centre + R rounded up
   unfoldable pub ends : Option ℤ → Option ℤ → Option ℤ → Option Range
   ends radius low high =
       bind radius λ r. bind low λ s. bind high λ t. bind (down 1 (s -ℤ r)) λ l. bind (up 1 (t +ℤ r)) λ u. some (record { lower = l; upper = u })
 
+  -- the entry by a method
   unfoldable pub entry : Method → (k : ℕ) (a b : ℕ → Cell) → Option Range
   entry classical k a b = entry₁ k a b
   entry three k a b = ends (radius₃ k a b) (centre k a b near) (centre k a b near)

@@ -1,4 +1,4 @@
--- Sums of naturals over an index. Definitions only. Of integers it is algebra's `Σ<`.
+-- Sums of natural numbers over an index. Definitions only. For integers there is `Σ<` of the crate algebra.
 use Prim.Native.Nat.{ℕ, zero, suc, _+_}
 
 -- f 0 + f 1 + .. + f (n - 1)

@@ -1,4 +1,5 @@
-// A crate of definitions and laws: interval entries by the four methods, in specs/ and proofs/. A crate has at least one function.
+// One entry of an interval product by the four methods, as definitions (specs/) and laws (proofs/).
+// Nothing calls the function below: every crate must have one.
 ghost use mathlib.Core.Path.{_≡_};
 
 pub fn zero() -> u64

@@ -1,4 +1,4 @@
-// Intervals of binary32 numbers in both representations: bounds [a, b] with a ≤ b, and midpoint and radius <m, r> with r ≥ 0.
+// Intervals of binary32 numbers in two representations: bounds [a, b] with a ≤ b, and midpoint and radius <m, r> with r ≥ 0.
 ghost use mathlib.Core.Path.{_≡_};
 ghost use Rattle.intervals.specs.Conversion.{faultOf, radiusFaultOf, midOf, radOf, converted, midradOf, bounded, outwardOf, boundsOf};
 use binary32::Rounded;
@@ -23,7 +23,7 @@ pub enum Bounded {
     Refused(Refusal),
 }
 
-// What is wrong with a pair of bounds: 0, nothing; 3, exponent field 255; 4, the lower one is above.
+// The fault of a pair of bounds, as the number of a refusal: 3, a bound has exponent field 255; 4, the lower bound is above the upper; 0, none.
 pub fn check(lo: u32, hi: u32) -> u8
     ensures { λ r. ⌜ r ≡ faultOf lo hi ⌝ }
 {
@@ -33,7 +33,7 @@ pub fn check(lo: u32, hi: u32) -> u8
     if at_most(lo, hi) { 0 } else { 4 }
 }
 
-// The same of a midpoint and a radius: 4, the radius is below zero.
+// The fault of a midpoint and a radius: 3, one has exponent field 255; 4, the radius is negative; 0, none.
 fn check_radius(m: u32, r: u32) -> u8
     ensures { λ z. ⌜ z ≡ radiusFaultOf m r ⌝ }
 {
@@ -43,7 +43,7 @@ fn check_radius(m: u32, r: u32) -> u8
     if at_most(0, r) { 0 } else { 4 }
 }
 
-// The exact midpoint of two numbers in order, rounded up.
+// The exact midpoint of two bounds, rounded up.
 fn midpoint(lo: u32, hi: u32) -> u32
     requires { ⌜ faultOf lo hi ≡ 0 ⌝ }
     ensures { λ r. ⌜ r ≡ midOf lo hi ⌝ }
@@ -51,7 +51,7 @@ fn midpoint(lo: u32, hi: u32) -> u32
     partial::midpoint_up(lo, hi)
 }
 
-// The distance from it to the lower bound, rounded up: it reaches the upper bound too, and is never refused.
+// The distance from the midpoint to the lower bound, rounded up. The midpoint was rounded up, so the upper bound is no farther. Never refused.
 fn radius(lo: u32, hi: u32, mid: u32) -> u32
     requires { ⌜ (faultOf lo hi ≡ 0) × (mid ≡ midOf lo hi) ⌝ }
     ensures { λ r. ⌜ r ≡ radOf lo hi ⌝ }
@@ -59,7 +59,7 @@ fn radius(lo: u32, hi: u32, mid: u32) -> u32
     partial::sub_up(mid, lo)
 }
 
-// From bounds: m is the exact midpoint rounded up, r is m - a rounded up. It is never refused for overflow.
+// Bounds [a, b] to <m, r>: m is the exact midpoint rounded up, r is m - a rounded up. Neither overflows.
 pub fn to_midrad(lo: u32, hi: u32) -> Converted
     ensures { λ r. ⌜ converted r ≡ midradOf lo hi ⌝ }
 {
@@ -71,7 +71,7 @@ pub fn to_midrad(lo: u32, hi: u32) -> Converted
     Converted::MidRad(m, radius(lo, hi, m))
 }
 
-// lo less amount rounded down, and hi plus amount rounded up.
+// lo - amount rounded down and hi + amount rounded up.
 pub fn outward(lo: u32, hi: u32, amount: u32) -> Bounded
     ensures { λ r. ⌜ bounded r ≡ outwardOf lo hi amount ⌝ }
 {
@@ -84,7 +84,7 @@ pub fn outward(lo: u32, hi: u32, amount: u32) -> Bounded
     }
 }
 
-// To bounds: m - r rounded down, m + r rounded up.
+// <m, r> to bounds: m - r rounded down and m + r rounded up.
 pub fn to_bounds(m: u32, r: u32) -> Bounded
     ensures { λ z. ⌜ bounded z ≡ boundsOf m r ⌝ }
 {

@@ -1,15 +1,16 @@
-// Lent slices of patterns.
+// Clearing slices of patterns that the caller lent.
 ghost use mathlib.Core.Path.{_≡_};
 ghost use Prim.Native.Nat.{min};
 ghost use Rattle.intervals.specs.Slices.{cleared};
 
+// The smaller of a and b.
 fn shorter(a: usize, b: usize) -> usize
     ensures { λ r. ⌜ r ≡ min a b ⌝ }
 {
     if a <= b { a } else { b }
 }
 
-// Zeros in the first count patterns, or in all where there are fewer.
+// Sets the first count patterns to 0, or all where there are fewer.
 pub fn clear(count: usize, out: &mut [u32])
     ensures { λ _. ⌜ now (out .exit) ≡ cleared count (now (out .entry)) ⌝ }
 {

@@ -1,5 +1,5 @@
 // The sheet job: reads two coupling sheets, multiplies them by one of the four methods, and writes the result's sheet.
-// Work is in arrays of 1,024 numbers. A refusal leaves the out buffer as it was.
+// It works in arrays of 1,024 patterns on the stack. A refusal leaves the out buffer as it was.
 ghost use mathlib.Core.Path.{_≡_};
 ghost use lib.ListN.{length};
 ghost use Rattle.refusals.specs.Answer.{naming};
@@ -15,7 +15,7 @@ use refusals::sizes::MOST_CELLS;
 use sheets::Shape;
 use sheets::Written;
 
-// Reads a sheet; a refusal names this matrix.
+// Reads a sheet. Where it is refused, the refusal gets this matrix number.
 fn read_as(matrix: u8, s: &[u8], lowers: &mut [u32], uppers: &mut [u32]) -> Shape
     ensures answer { λ r. ⌜ shape r ≡ naming matrix (readOf (now (s .entry)) (length (now (lowers .entry))) (length (now (uppers .entry)))) ⌝ }
     ensures below { λ r. ⌜ now (lowers .exit) ≡ lowersAfter (now (s .entry)) (shape r) (now (lowers .entry)) ⌝ }
@@ -27,7 +27,7 @@ fn read_as(matrix: u8, s: &[u8], lowers: &mut [u32], uppers: &mut [u32]) -> Shap
     }
 }
 
-// The product of two matrices, with work arrays of its own.
+// The product of two matrices, with work slices on the stack.
 fn multiply(
     method: u32,
     a_rows: usize,
@@ -67,7 +67,7 @@ fn multiply(
     )
 }
 
-// 9, then A's sheet, then B's, then their product. That A's columns are B's rows is the product's first check.
+// Checks the method (refusal 9), reads A's sheet, reads B's, and multiplies. The product checks first that A has as many columns as B has rows.
 pub fn multiply_sheets(method: u32, a: &[u8], b: &[u8], lo: &mut [u32], up: &mut [u32]) -> Shape
     ensures { λ r. ⌜ Sheets method (now (a .entry)) (now (b .entry)) (now (lo .entry)) (now (up .entry))
         r (now (lo .exit)) (now (up .exit)) ⌝ }
@@ -106,8 +106,8 @@ pub fn multiply_sheets(method: u32, a: &[u8], b: &[u8], lo: &mut [u32], up: &mut
     }
 }
 
-// The whole job: the length of the sheet written, or the refusal; 11 names the result.
-// The ranges of a sheet written, read back, enclose every product of picks from the two sheets.
+// The whole job: returns the length of the sheet written, or the refusal. A refusal by the writer names matrix 3.
+// The cells of the written sheet enclose the product of any two matrices of fractions whose entries lie in the cells of a and b.
 pub fn run(method: u32, a: &[u8], b: &[u8], out: &mut [u8]) -> Written
     ensures answer { λ r. ⌜ written r ≡ jobOf method (now (a .entry)) (now (b .entry)) (length (now (out .entry))) ⌝ }
     ensures left { λ r. ⌜ now (out .exit) ≡ outOf method (now (a .entry)) (now (b .entry)) (written r) (now (out .entry)) ⌝ }

@@ -1,4 +1,4 @@
--- What a product checks before it works anything out, and in which order. Definitions only (01, "When a call is turned down").
+-- The checks of a product before it computes anything, in their order. Definitions only (01, "When a call is turned down").
 use mathlib.Core.Bool.{Bool, true, false, not, cond}
 use mathlib.Core.Option.{Option, none, some, Option·getD}
 use mathlib.Core.List.{List}
@@ -12,7 +12,7 @@ use Rattle.refusals.specs.Sizes.{checkSize, checkLengths}
 use Rattle.matrices.specs.Lists.{first}
 use Rattle.matrices.specs.Matrix.{Matrix, ofBounds, faultAt}
 
--- what a product is handed: the method's number, the sizes, the two matrices, and how long the lent slices are
+-- the arguments of a product: the method's number, the sizes, the two matrices, and the lengths of the slices lent for writing
 pub record Given : Type 0 where
   pub method : ℕ
   pub a-rows : ℕ
@@ -28,6 +28,7 @@ pub record Given : Type 0 where
   pub lowers : ℕ
   pub uppers : ℕ
 
+-- the arguments from the bounds of A and B and the lengths of the lent slices
 abbrev pub given : (method ar ac br bc : ℕ) (al au bl bu : List ℕ) (ma ra mb rb lo up : ℕ) → Given
 given method ar ac br bc al au bl bu ma ra mb rb lo up =
     record {
@@ -46,19 +47,20 @@ given method ar ac br bc al au bl bu ma ra mb rb lo up =
       uppers = up;
     }
 
--- the same with the lent slices themselves
+-- the same from the lent slices themselves
 abbrev pub called : (method ar ac br bc : ℕ) (al au bl bu ma ra mb rb lo up : List ℕ) → Given
 called method ar ac br bc al au bl bu ma ra mb rb lo up =
     given method ar ac br bc al au bl bu (length ma) (length ra) (length mb) (length rb) (length lo) (length up)
 
--- ---- 9: the method is 1, 3, 4 or 7
+-- ---- refusal 9: the method is not 1, 3, 4 or 7
 unfoldable pub methodOf : ℕ → Option Method
 methodOf n = cond (eqb n 1) (some classical) (cond (eqb n 3) (some three) (cond (eqb n 4) (some four) (cond (eqb n 7) (some seven) none)))
 
--- the method with a number that is known
+-- the method with the number n; where n is not 1, 3, 4 or 7 (refusal 9) this value is not used
 abbrev pub chosen : ℕ → Method
 chosen n = Option·getD (methodOf n) classical
 
+-- whether there is a method
 abbrev pub known : Option Method → Bool
 known (some m) = true
 known none = false
@@ -66,11 +68,11 @@ known none = false
 unfoldable pub checkMethod : ℕ → Answer (Unit {0})
 checkMethod n = unless (known (methodOf n)) (ofMatrix 9 0)
 
--- ---- 1: A's sizes (1), then B's or the mismatch (2)
+-- ---- refusal 1: A's sizes (matrix 1), then B's sizes or the mismatch of A's columns and B's rows (matrix 2)
 unfoldable pub checkSizes : ℕ → ℕ → ℕ → ℕ → Answer (Unit {0})
 checkSizes ar ac br bc = then (checkSize 1 ar ac) (then (checkSize 2 br bc) (unless (eqb ac br) (ofMatrix 1 2)))
 
--- ---- 2: each slice is as long as its cells, A's (1), B's (2), work (0, for method 1 too), result (3)
+-- ---- refusal 2: a slice is shorter than its cells; in this order A's (matrix 1), B's (2), work slices (0, for method 1 too), result (3)
 unfoldable pub checkOperands : (a b : ℕ) → Matrix → Matrix → Answer (Unit {0})
 checkOperands a b A B = then (checkLengths 1 a (length (A .lowers)) (length (A .uppers))) (checkLengths 2 b (length (B .lowers)) (length (B .uppers)))
 
@@ -84,7 +86,7 @@ checkSlices g =
     let c = g .a-rows * g .b-columns in
     then (checkOperands a b (g .A) (g .B)) (checkLent a b c (g .a-mids) (g .a-rads) (g .b-mids) (g .b-rads) (g .lowers) (g .uppers))
 
--- ---- 3 and 4: the first cell by rows with a fault, at each cell 3 before 4
+-- ---- refusals 3 and 4: the first faulty cell by rows; at each cell 3 before 4
 abbrev pub faulty : ℕ → Bool
 faulty n = not (eqb n 0)
 
@@ -97,13 +99,13 @@ checkCells matrix rows columns X =
 unfoldable pub checkBoth : (ar ac br bc : ℕ) → Matrix → Matrix → Answer (Unit {0})
 checkBoth ar ac br bc A B = then (checkCells 1 ar ac A) (checkCells 2 br bc B)
 
--- what a matrix must be for its cells to be looked at
+-- what the checks before have shown of a matrix when its cells are checked
 abbrev pub Covered : (rows columns : ℕ) → List ℕ → List ℕ → Type 0
 Covered rows columns lowers uppers = (0 < columns) × (rows ≤ 32) × (columns ≤ 32) × (rows * columns ≤ length lowers) × (rows * columns ≤ length uppers)
 
--- ---- all of them, in 01's order
+-- ---- all checks, in their order
 
--- 9 and 1
+-- refusals 9 and 1
 unfoldable pub checkShapes : Given → Answer (Unit {0})
 checkShapes g = then (checkMethod (g .method)) (checkSizes (g .a-rows) (g .a-columns) (g .b-rows) (g .b-columns))
 

@@ -1,4 +1,4 @@
--- A matrix as handed in: the patterns of its lower and of its upper bounds, cells by rows. Definitions only.
+-- A matrix as it is passed to a product: the patterns of its lower bounds and of its upper bounds, by rows. Definitions only.
 use mathlib.Core.Path.{_≡_}
 use mathlib.Core.List.{List}
 use Prim.Native.Nat.{ℕ, _<_}
@@ -24,21 +24,21 @@ module _ (X : Matrix) where
   abbrev pub upperAt : ℕ → ℕ
   upperAt c = getD (X .uppers) c 0
 
-  -- the cell at position c, in units, with what it is converted to
+  -- the cell at position c: its bounds, midpoint and radius in units
   unfoldable pub cellAt : ℕ → Cell
   cellAt c = cellOf (of binary32) (valueOf (lowerAt c)) (valueOf (upperAt c))
 
-  -- its midpoint and radius as patterns
+  -- the midpoint and the radius of the cell at position c, as patterns
   abbrev pub midAt : ℕ → ℕ
   midAt c = midOf (lowerAt c) (upperAt c)
 
   abbrev pub radAt : ℕ → ℕ
   radAt c = radOf (lowerAt c) (upperAt c)
 
-  -- the number of what is wrong with it
+  -- the fault of the cell at position c: 3, 4, or 0 for none
   abbrev pub faultAt : ℕ → ℕ
   faultAt c = faultOf (lowerAt c) (upperAt c)
 
--- the first n cells are numbers in order
+-- the first n cells have no fault
 abbrev pub AllFine : Matrix → ℕ → Type 0
 AllFine X n = (c : ℕ) → c < n → faultAt X c ≡ 0

@@ -1,4 +1,4 @@
-// All that a product checks before it works anything out, in 01's order: 9, 1, 2, A's cells by rows, then B's.
+// All checks of a product before it computes anything, in their fixed order: refusals 9, 1, 2, then 3 and 4 for A's cells by rows, then for B's.
 ghost use mathlib.Core.Path.{_≡_};
 ghost use Rattle.refusals.specs.Answer.{outcome};
 ghost use Rattle.matrices.specs.Matrix.{ofBounds};
@@ -9,7 +9,7 @@ use crate::methods::check_method;
 use refusals::Outcome;
 use refusals::sizes::check_lengths;
 
-// 2: A's slices, then B's.
+// Refusal 2 for the slices of A, then of B, with a and b cells.
 fn check_operands(a: usize, b: usize, al: &[u32], au: &[u32], bl: &[u32], bu: &[u32]) -> Outcome
     ensures { λ r. ⌜ outcome r ≡ checkOperands a b (ofBounds (now (al .entry)) (now (au .entry))) (ofBounds (now (bl .entry)) (now (bu .entry))) ⌝ }
 {
@@ -17,7 +17,7 @@ fn check_operands(a: usize, b: usize, al: &[u32], au: &[u32], bl: &[u32], bu: &[
     check_lengths(1, a, al.len(), au.len()).then(second)
 }
 
-// The lengths of the lent slices: work, then the result.
+// The lengths of the slices that a caller lends for writing: midpoints and radii of A and B, then the bounds of the result.
 pub struct Lent {
     pub ma: usize,
     pub ra: usize,
@@ -27,7 +27,7 @@ pub struct Lent {
     pub up: usize,
 }
 
-// 2: work, then the result.
+// Refusal 2 for the work slices, then for the result, with a, b and c cells.
 fn check_lent(a: usize, b: usize, c: usize, lent: Lent) -> Outcome
     ensures { λ r. ⌜ outcome r ≡ checkLent a b c (lent .ma) (lent .ra) (lent .mb) (lent .rb) (lent .lo) (lent .up) ⌝ }
 {
@@ -36,7 +36,7 @@ fn check_lent(a: usize, b: usize, c: usize, lent: Lent) -> Outcome
     check_lengths(0, a, lent.ma, lent.ra).then(second)
 }
 
-// 3 and 4: A's cells, then B's.
+// Refusals 3 and 4 for A's cells, then for B's.
 fn check_both(
     a_rows: usize,
     a_columns: usize,
@@ -57,7 +57,7 @@ fn check_both(
     }
 }
 
-// All of them, in 01's order.
+// All checks, in their order.
 pub fn check_all(
     method: u32,
     a_rows: usize,

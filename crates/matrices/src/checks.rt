@@ -1,4 +1,4 @@
-// What a product checks of its matrices: 1, and 3 and 4 cell by cell.
+// The checks of a product on its matrices: their sizes (refusal 1), and each cell (refusals 3 and 4).
 ghost use mathlib.Core.Path.{_≡_};
 ghost use lib.Dec.{eqb};
 ghost use Rattle.refusals.specs.Answer.{outcome, unless};
@@ -10,7 +10,7 @@ use refusals::Outcome;
 use refusals::Refusal;
 use refusals::sizes::check_size;
 
-// 1, of sizes that must agree.
+// Refusal 1 where A's columns are not as many as B's rows.
 fn check_inner(a_columns: usize, b_rows: usize) -> Outcome
     ensures { λ r. ⌜ outcome r ≡ unless (eqb «a_columns» «b_rows») (ofMatrix 1 2) ⌝ }
 {
@@ -20,7 +20,7 @@ fn check_inner(a_columns: usize, b_rows: usize) -> Outcome
     Outcome::Refused(Refusal::of_matrix(1, 2))
 }
 
-// 1
+// Refusal 1 for A's sizes, then for B's, then for the mismatch of the two.
 pub fn check_sizes(a_rows: usize, a_columns: usize, b_rows: usize, b_columns: usize) -> Outcome
     ensures { λ r. ⌜ outcome r ≡ checkSizes «a_rows» «a_columns» «b_rows» «b_columns» ⌝ }
 {
@@ -29,7 +29,7 @@ pub fn check_sizes(a_rows: usize, a_columns: usize, b_rows: usize, b_columns: us
     check_size(1, a_rows, a_columns).then(second)
 }
 
-// 3 and 4: the first cell by rows that has a fault.
+// Refusal 3 or 4 for the first faulty cell by rows.
 pub fn check_cells(
     matrix: u8,
     rows: usize,

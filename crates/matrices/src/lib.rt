@@ -1,4 +1,4 @@
-// Matrices of intervals as they are handed to a product, and what is checked of them before anything is worked out.
+// Matrices of intervals as they are passed to a product, and the checks on them before anything is computed. Called by the crates `products` and `job`.
 pub mod check_order;
 mod checks;
 pub mod methods;

@@ -1,11 +1,11 @@
-// The methods by their numbers.
+// The check of a method's number.
 ghost use mathlib.Core.Path.{_≡_};
 ghost use Rattle.refusals.specs.Answer.{outcome};
 ghost use Rattle.matrices.specs.Checks.{checkMethod};
 use refusals::Outcome;
 use refusals::Refusal;
 
-// 9
+// Refusal 9 where the number is not 1, 3, 4 or 7.
 pub fn check_method(method: u32) -> Outcome
     ensures { λ r. ⌜ outcome r ≡ checkMethod method ⌝ }
 {

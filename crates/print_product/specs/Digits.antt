@@ -13,7 +13,7 @@ unfoldable pub digits : ℕ → ℕ → ℕ → List ℕ
 digits b zero n = []
 digits b (suc k) n = digits b k (n / b) ++ (digit (n % b) ∷ [])
 
--- how many decimal digits n has; t bounds the divisions, and n of them are enough
+-- how many decimal digits n has, by at most t divisions by 10; n divisions are always enough
 unfoldable pub digitCountTo : ℕ → ℕ → ℕ
 digitCountTo zero n = 1
 digitCountTo (suc t) n = cond (ltb n 10) 1 (suc (digitCountTo t (n / 10)))
@@ -24,6 +24,6 @@ digitCount n = digitCountTo n n
 abbrev pub decimal : ℕ → List ℕ
 decimal n = digits 10 (digitCount n) n
 
--- a pattern: eight capitals
+-- a pattern in eight hexadecimal capitals
 abbrev pub hexadecimal : ℕ → List ℕ
 hexadecimal p = digits 16 8 p

@@ -1,4 +1,4 @@
--- What is read: one ASCII digit, sheet A, sheet B. Definitions only (01, "The printed product").
+-- The parts of the input: one ASCII digit, sheet A, sheet B. Definitions only (01, "The printed product").
 use mathlib.Core.Bool.{cond}
 use mathlib.Core.List.{List}
 use Prim.Native.Nat.{ℕ, _-_, _*_, min}
@@ -6,22 +6,22 @@ use lib.Dec.{ltb}
 use lib.ListN.{length, getD, take, drop}
 use Rattle.sheets.specs.Layout.{countOf}
 
--- the value of an ASCII digit; 0, which is no method, for any other byte
+-- the value of an ASCII digit; for any other byte 0, which is no method
 unfoldable pub digitValue : ℕ → ℕ
 digitValue b = cond (ltb b 48) 0 (cond (ltb 57 b) 0 (b - 48))
 
--- the method; 0 where there is no byte
+-- the method; 0 where the input is empty
 abbrev pub methodIn : List ℕ → ℕ
 methodIn input = digitValue (getD input 0 0)
 
 abbrev pub sheetsIn : List ℕ → List ℕ
 sheetsIn input = drop 1 input
 
--- A's length in s, both sheets: 16 × its record count, or all that is left if that is fewer or ends before the count
+-- the length of A in s, which has both sheets: 16 × A's record count, or all of s where s is shorter or ends before the count
 unfoldable pub lengthOfA : List ℕ → ℕ
 lengthOfA s = cond (ltb (length s) 6) (length s) (min (16 * countOf s) (length s))
 
--- A, and B, which is the rest
+-- sheet A, and sheet B, which is the rest
 abbrev pub sheetA : List ℕ → List ℕ
 sheetA s = take (lengthOfA s) s
 

@@ -1,4 +1,4 @@
--- What is printed for an input. Definitions only (01, "The printed product").
+-- The text that is printed for an input. Definitions only (01, "The printed product").
 use mathlib.Core.List.{List, [], _++_}
 use Prim.Native.Nat.{ℕ, zero, suc, _*_, _/_, _%_}
 use lib.ListN.{getD}
@@ -7,23 +7,24 @@ use Rattle.job.specs.Job.{sheetsProductOf, resultLowers, resultUppers}
 use Rattle.print_product.specs.Lines.{productLine, cellLine, refusedLine}
 use Rattle.print_product.specs.Input.{methodIn, sheetsIn, sheetA, sheetB}
 
--- the first p cells, by rows
+-- the lines of the first p cells by rows
 unfoldable pub cellLines : ℕ → List ℕ → List ℕ → ℕ → List ℕ
 cellLines columns lo up zero = []
 cellLines columns lo up (suc p) = cellLines columns lo up p ++ cellLine (p / columns) (p % columns) (getD lo p 0) (getD up p 0)
 
--- a product with these bounds
+-- the text of a product with the bounds lo and up
 abbrev pub productText : ℕ → ℕ → ℕ → List ℕ → List ℕ → List ℕ
 productText method rows columns lo up = productLine method rows columns ++ cellLines columns lo up (rows * columns)
 
--- the job's answer, by the method and the sheets A and B
+-- the text for the answer of the product of the sheets a and b
 abbrev pub answerText : ℕ → List ℕ → List ℕ → Answer (ℕ × ℕ) → List ℕ
 answerText method a b (gives x) = productText method (x .0) (x .1) (resultLowers method a b) (resultUppers method a b)
 answerText method a b (refuses x) = refusedLine x
 
--- s: both sheets
+-- the text for the method and s, which has both sheets
 unfoldable pub sheetsText : ℕ → List ℕ → List ℕ
 sheetsText method s = answerText method (sheetA s) (sheetB s) (sheetsProductOf method (sheetA s) (sheetB s) 1024 1024)
 
+-- the text for the whole input
 unfoldable pub printedOf : List ℕ → List ℕ
 printedOf input = sheetsText (methodIn input) (sheetsIn input)

@@ -1,10 +1,11 @@
-// The parts of the input: the method's digit, sheet A, sheet B.
+// Splits the input into its parts: the digit of the method, sheet A and sheet B.
 ghost use mathlib.Core.Path.{_≡_};
 ghost use Prim.Native.Nat.{_≤_, _<_, min};
 ghost use lib.ListN.{length, getD};
 ghost use Rattle.sheets.specs.Layout.{countOf};
 ghost use Rattle.print_product.specs.Input.{digitValue, methodIn, lengthOfA};
 
+// Byte p of s.
 fn byte(s: &[u8], p: usize) -> usize
     requires { ⌜ p < length (now s) ⌝ }
     ensures { λ r. ⌜ (r ≡ getD (now (s .entry)) p 0) × (r < 256) ⌝ }
@@ -12,7 +13,7 @@ fn byte(s: &[u8], p: usize) -> usize
     s[p] as usize
 }
 
-// A sheet's record count.
+// The record count in the head of the sheet s: bytes 4 and 5.
 fn count(s: &[u8]) -> usize
     requires { ⌜ 6 ≤ length (now s) ⌝ }
     ensures { λ r. ⌜ (r ≡ countOf (now (s .entry))) × (r < 65536) ⌝ }
@@ -20,6 +21,7 @@ fn count(s: &[u8]) -> usize
     byte(s, 4) + 256 * byte(s, 5)
 }
 
+// The smaller of a and b.
 pub fn least(a: usize, b: usize) -> usize
     ensures { λ r. ⌜ r ≡ min a b ⌝ }
 {
@@ -39,7 +41,7 @@ fn digit_value(b: usize) -> usize
     b - 48
 }
 
-// The method: the value of the first byte; 0 where there is none.
+// The method: the value of the first byte as a digit; 0, which is no method, where the input is empty.
 pub fn method(input: &[u8]) -> usize
     ensures { λ r. ⌜ r ≡ methodIn (now (input .entry)) ⌝ }
 {
@@ -49,7 +51,7 @@ pub fn method(input: &[u8]) -> usize
     digit_value(byte(input, 0))
 }
 
-// The length of sheet A, which stands in front of sheet B.
+// The length of sheet A in s, which has both sheets: 16 × A's record count, or all of s where s is shorter or ends before the count.
 pub fn length_of_a(s: &[u8]) -> usize
     ensures { λ r. ⌜ (r ≡ lengthOfA (now (s .entry))) × (r ≤ length (now (s .entry))) ⌝ }
 {

@@ -1,4 +1,4 @@
-// The printed lines, put into a buffer. Each function hands back where the next line starts.
+// The lines of the printed text, written into a buffer. Each function returns the index behind its last byte.
 ghost use Prim.Native.Nat.{_+_, _*_, _≤_, _<_};
 ghost use lib.ListN.{length};
 ghost use Rattle.print_product.specs.Lines.{productLine, cellLine, refusedLine};
@@ -7,7 +7,7 @@ ghost use Rattle.print_product.specs.Put.{Put};
 use crate::put;
 use refusals::Refusal;
 
-// "product", method, rows, columns.
+// The line "product", method, rows, columns, at the start of out.
 fn product_line(out: &mut [u8], method: usize, rows: usize, columns: usize) -> usize
     requires { ⌜ (method < 10) × (rows < 100) × (columns < 100) × (16 ≤ length (now out)) ⌝ }
     ensures { λ r. ⌜ Put 0 (productLine method rows columns) (now (out .entry)) r (now (out .exit)) ⌝ }
@@ -18,7 +18,7 @@ fn product_line(out: &mut [u8], method: usize, rows: usize, columns: usize) -> u
     put::decimal(out, at, columns, b'\n')
 }
 
-// Row, column, lower, upper.
+// The line of a cell: row, column, lower bound, upper bound.
 fn cell_line(
     out: &mut [u8],
     start: usize,
@@ -58,7 +58,7 @@ fn cell_lines(
     at
 }
 
-// A whole product.
+// The whole text of a product. 24,592 bytes are enough for it: 16 for the first line and 24 for each of 1,024 cells.
 pub fn product_text(
     out: &mut [u8],
     method: usize,
@@ -75,7 +75,7 @@ pub fn product_text(
     cell_lines(out, at, columns, rows * columns, lowers, uppers)
 }
 
-// "refused", number, matrix, row, column.
+// The line "refused", number, matrix, row, column, at the start of out.
 pub fn refused_line(out: &mut [u8], refusal: Refusal) -> usize
     requires { ⌜ 24 ≤ length (now out) ⌝ }
     ensures { λ r. ⌜ Put 0 (refusedLine refusal) (now (out .entry)) r (now (out .exit)) ⌝ }

@@ -1,6 +1,6 @@
 // Prints the product of two coupling sheets. Standard input is one ASCII digit, the method, then sheet A, then sheet B.
 // A product is printed as "product", method, rows and columns, then a line for each cell: row, column, and both bounds as hexadecimal patterns.
-// A refusal is printed as "refused", number, matrix, row and column. Proved: the text is what specs/Printed says of the bytes that were read.
+// A refusal is printed as "refused", number, matrix, row and column. Proved: the text is that of specs/Printed for the bytes that were read.
 ghost use mathlib.Core.Path.{_≡_};
 ghost use mathlib.Core.List.{_++_};
 ghost use Prim.Native.Nat.{_≤_, _<_};
@@ -17,13 +17,13 @@ use libc::STDOUT_FILENO;
 use refusals::sizes::MOST_CELLS;
 use sheets::Shape;
 
-// 1 + 16,400 + 16,401 bytes: one more than a digit and two sheets have at most. What is printed depends on no later byte (proofs/Cuts).
+// 1 + 16,400 + 16,401: a digit, the longest sheet A, and a sheet B that is one byte too long. Later bytes change nothing (proofs/Cuts).
 const INPUT: usize = 32802;
 
-// The longest text: a first line of 16 bytes, and 24 bytes for each of 1,024 cells.
+// The length of the longest text: a first line of 16 bytes, and 24 bytes for each of 1,024 cells.
 const TEXT: usize = 24592;
 
-// Puts the text for an input in the front of out, and hands back its length.
+// Writes the text for an input to the front of out and returns its length.
 fn printed(input: &[u8], out: &mut [u8]) -> usize
     requires { ⌜ 24592 ≤ length (now out) ⌝ }
     ensures size { λ r. ⌜ r ≡ length (printedOf (now (input .entry))) ⌝ }
@@ -33,7 +33,7 @@ fn printed(input: &[u8], out: &mut [u8]) -> usize
     sheets_text(input::method(input), &input[start..], out)
 }
 
-// The same for a method and the bytes of both sheets. The job's own reader and product are run.
+// The same for a method and the bytes of both sheets, by the sheet job's reader and product.
 fn sheets_text(method: usize, s: &[u8], out: &mut [u8]) -> usize
     requires { ⌜ (method < 10) × (24592 ≤ length (now out)) ⌝ }
     ensures { λ r. ⌜ Put 0 (sheetsText method (now (s .entry))) (now (out .entry)) r (now (out .exit)) ⌝ }

@@ -18,7 +18,6 @@ use Rattle.rounding.specs.Rounding.{up, down, negate}
 use Rattle.rounding.specs.Property.{UpTo, DownTo}
 use Rattle.rounding.proofs.Directed.{up-to, down-to}
 use Rattle.rounding.proofs.DirectedLaws.{up-nonneg}
-use Rattle.enclosure.specs.Arithmetic.{of}
 use Rattle.enclosure.specs.Methods.{outerRadius, raisedRadius}
 use Rattle.binary32.specs.Number.{valueOf, finite, held}
 use Rattle.binary32.specs.Operations.{mul, with₂}

@@ -1,4 +1,4 @@
--- A cell taken apart: the numbers of its bounds. Definitions only, for the contracts of inner functions.
+-- A cell whose bounds are unpacked. Definitions only, for the contracts of private functions.
 use Prim.Native.Nat.{ℕ}
 use lib.IntN.{pos}
 use Rattle.unpacked.specs.declared.Number.{Number}
@@ -6,21 +6,23 @@ use Rattle.binary32.specs.Number.{Finite}
 use Rattle.products.specs.declared.apart.Apart.{Apart}
 use Rattle.unpacked.specs.Number.{Unpacked, IsNumber}
 
+-- the lower bound, and the upper one
 abbrev pub lowerNumber : Apart → Number
 lowerNumber a = record { sig = a .«lower_sig»; exp = a .«lower_exp» }
 
 abbrev pub upperNumber : Apart → Number
 upperNumber a = record { sig = a .«upper_sig»; exp = a .«upper_exp» }
 
--- a is what the patterns lo and hi hold
+-- the bounds of a are the numbers of the patterns lo and hi
 pub record IsApart (lo hi : ℕ) (a : Apart) : Type 0 where
   pub lower : Unpacked lo (lowerNumber a)
   pub upper : Unpacked hi (upperNumber a)
 
+-- all fields are 0
 abbrev pub zeroApart : Apart
 zeroApart = record { «lower_sig» = pos 0; «upper_sig» = pos 0; «lower_exp» = 0; «upper_exp» = 0 }
 
--- the bounds of a cell taken apart, and of one in patterns, are numbers
+-- the bounds of the unpacked cell a and of the cell [bl, bu], given by patterns, are finite
 pub record Cells (a : Apart) (bl bu : ℕ) : Type 0 where
   pub a-lower : IsNumber (lowerNumber a)
   pub a-upper : IsNumber (upperNumber a)

@@ -1,4 +1,4 @@
--- Methods 3, 4 and 7 from lists of midpoints and radii. Definitions only, for the contracts of inner functions.
+-- The entries of methods 3, 4 and 7 from lists of midpoints and radii. Definitions only, for the contracts of private functions.
 use mathlib.Core.List.{List}
 use mathlib.Core.Option.{Option}
 use Prim.Native.Nat.{ℕ, _+_, _*_, _/_, _%_, _≤_}
@@ -11,7 +11,7 @@ use Rattle.enclosure.specs.Methods.{Method, Range, entry}
 use Rattle.binary32.specs.Number.{valueOf}
 use Rattle.products.specs.Derived.{MidRads}
 
--- the midpoint and the radius at position c of two lists; its bounds are not known, and no such method looks at them
+-- the cell with the midpoint and the radius at position c; its bounds are set to 0, since methods 3, 4 and 7 do not use them
 abbrev pub midRadAt : (m r : List ℕ) → ℕ → Cell
 midRadAt m r c = record { low = pos 0; high = pos 0; mid = valueOf (getD m c 0); rad = valueOf (getD r c 0) }
 
@@ -19,7 +19,7 @@ midRadAt m r c = record { low = pos 0; high = pos 0; mid = valueOf (getD m c 0);
 unfoldable pub entryFrom : Method → (k n : ℕ) → (ma ra mb rb : List ℕ) → ℕ → Option Range
 entryFrom method k n ma ra mb rb c = entry (of binary32) method k (λ l. midRadAt ma ra (c / n * k + l)) (λ l. midRadAt mb rb (l * n + c % n))
 
--- sizes up to 32, the midpoints and radii of A and B, and the lengths of the result
+-- sizes up to 32, lists of midpoints and radii that are long enough, and lengths of the result slices that are
 pub record Sized (m k n : ℕ) (ma ra mb rb : List ℕ) (lo up : ℕ) : Type 0 where
   pub rows : m ≤ 32
   pub inner : k ≤ 32

@@ -1,4 +1,5 @@
--- The running sums of one entry. Definitions only, for the contracts of inner functions (01: "One entry's running sum is a value that takes a pair of cells and comes back").
+-- The running sums of one entry by method 1. Definitions only, for the contracts of private functions
+-- (01: "One entry's running sum is a value that takes a pair of cells and comes back").
 use mathlib.Core.Bool.{Bool, true, cond}
 use mathlib.Core.Option.{Option, bind}
 use Prim.Native.Nat.{ℕ}
@@ -14,31 +15,33 @@ use Rattle.unpacked.specs.Number.{worth, IsNumber, Holds, Runs, zeroNumber}
 use Rattle.products.specs.Apart.{lowerNumber, upperNumber}
 use Rattle.unpacked.specs.Corners.{leastProduct, greatestProduct}
 
--- a sum v with a term more, rounded down
+-- v + t, rounded down; none where t is none
 abbrev pub plusDown : ℤ → Option ℤ → Option ℤ
 plusDown v t = bind t λ u. down binary32 1 (v +ℤ u)
 
 abbrev pub zeroSums : Sums
 zeroSums = record { lower = zeroNumber; opposed = zeroNumber }
 
+-- both sums are numbers
 pub record BothNumbers (s : Sums) : Type 0 where
   pub lower : IsNumber (s .lower)
   pub opposed : IsNumber (s .opposed)
 
--- r is s with the corner products of a and [bl, bu] more
+-- r is s after one step: the least corner product of a and [bl, bu] is added to the lower sum, the negated greatest to the negated upper sum
 pub record Stepped (s : Sums) (a : Apart) (bl bu : ℕ) (r : Sums) : Type 0 where
   pub lower : Holds (plusDown (worth (s .lower)) (leastProduct (worth (lowerNumber a)) (worth (upperNumber a)) (valueOf bl) (valueOf bu))) (r .lower)
   pub opposed : Holds (plusDown (worth (s .opposed)) (negate (greatestProduct (worth (lowerNumber a)) (worth (upperNumber a)) (valueOf bl) (valueOf bu)))) (r .opposed)
 
--- r is a centre less its radius and with it, the upper centre and the radius with the other sign
+-- r has the bounds of an entry: `low` is the lower centre, `high` the negated upper centre, `radius` the negated radius
 pub record Ended (low high radius : Number) (r : Sums) : Type 0 where
   pub lower : Holds (down binary32 1 (worth low +ℤ worth radius)) (r .lower)
   pub opposed : Holds (down binary32 1 (worth high +ℤ worth radius)) (r .opposed)
 
+-- whether one of the sums is none: its exponent is above 653, that of the largest number
 abbrev pub refusedSums : Sums → Bool
 refusedSums s = cond (ltb 653 (s .lower .exp)) true (ltb 653 (s .opposed .exp))
 
--- s is the lower sum and the opposite of the upper one, both numbers
+-- s has the lower sum `low` and the negated upper sum `up`, both numbers
 pub record Sum (low up : Option ℤ) (s : Sums) : Type 0 where
   pub lower : Runs low (s .lower)
   pub upper : Runs (negate up) (s .opposed)

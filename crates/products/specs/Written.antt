@@ -1,4 +1,4 @@
--- What the functions that work out the entries ask for and leave, and the end of a product. Definitions only, for the contracts of inner functions.
+-- The requirements and the results of the functions that compute the entries, and the end of a product. Definitions only, for private functions.
 use mathlib.Core.Path.{_≡_}
 use mathlib.Core.Bool.{cond}
 use mathlib.Core.List.{List}
@@ -16,7 +16,7 @@ use Rattle.matrices.specs.Entries.{lowerOf, upperOf, stopOf}
 use Rattle.products.specs.declared.sums.Place.{Place}
 use Rattle.products.specs.declared.sums.Place.the-variants.{Nowhere, At}
 
--- sizes from 1 to 32, slices as long as their cells, cells that are numbers in order
+-- sizes up to 32, slices that are at least as long as their cells, and cells without fault
 pub record Sizes (m k n : ℕ) (A B : Matrix) (lo up : ℕ) : Type 0 where
   pub rows : m ≤ 32
   pub inner : k ≤ 32
@@ -31,16 +31,17 @@ pub record Sizes (m k n : ℕ) (A B : Matrix) (lo up : ℕ) : Type 0 where
   pub a-fine : AllFine A (m * k)
   pub b-fine : AllFine B (k * n)
 
+-- the row and column of entry number `stop` of m by n, or Nowhere where `stop` is past the last one
 abbrev pub placeOf : ℕ → ℕ → ℕ → Place
 placeOf m n stop = cond (ltb stop (m * n)) (At (stop / n) (stop % n)) Nowhere
 
--- the entries before the first that is refused are written, and the cells from there on are as they were
+-- the entries before the first refused one are written, the cells from there on are as they were, and r is its row and column
 pub record Written (E : ℕ → Option Range) (m n : ℕ) (lo up : List ℕ) (r : Place) (lo′ up′ : List ℕ) : Type 0 where
   pub place : r ≡ placeOf m n (stopOf E (m * n))
   pub lowers : lo′ ≡ front (stopOf E (m * n)) (λ c. lowerOf (E c)) lo
   pub uppers : up′ ≡ front (stopOf E (m * n)) (λ c. upperOf (E c)) up
 
--- ---- the end of a product: an entry that is refused clears the result's cells
+-- ---- the end of a product: where an entry is refused, all cells of the result are set to 0
 
 abbrev pub answerAt : Place → Answer (Unit {0})
 answerAt Nowhere = done
@@ -55,7 +56,7 @@ abbrev pub InReach : Place → Type 0
 InReach Nowhere = Unit {0}
 InReach (At i j) = (i < 32) × (j < 32)
 
--- what `finish` leaves
+-- the answer of `finish`, and the result slices afterwards
 pub record Finished (place : Place) (count : ℕ) (lo up : List ℕ) (r : Answer (Unit {0})) (lo′ up′ : List ℕ) : Type 0 where
   pub answer : r ≡ answerAt place
   pub lowers : lo′ ≡ clearedAt place count lo

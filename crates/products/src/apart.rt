@@ -1,4 +1,4 @@
-// A cell taken apart, once for all entries of its row.
+// A cell of A whose bounds are unpacked: once for all entries of its row. Used by method 1 (classical.rt, sums.rt).
 ghost use mathlib.Core.Path.{_≡_};
 ghost use Prim.Native.Nat.{_+_};
 ghost use lib.Dec.{ltb};
@@ -6,8 +6,12 @@ ghost use Rattle.unpacked.specs.Number.{IsNumber};
 ghost use Rattle.products.specs.Apart.{IsApart, lowerNumber, upperNumber, zeroApart};
 use crate::pattern::unpack;
 use unpacked::Number;
+use unpacked::ZERO_EXPONENT;
 
-// A cell taken apart: significands and exponents of its bounds. Flat, so that it has no padding and an array of it is cleared at once.
+// The sum of the exponents of two zeros.
+const BOTH_ZERO: u32 = ZERO_EXPONENT + ZERO_EXPONENT;
+
+// Significands and exponents of the bounds. The fields are not two Numbers, so that there is no padding and an array is cleared by one memset.
 pub struct Apart {
     pub lower_sig: i64,
     pub upper_sig: i64,
@@ -16,7 +20,7 @@ pub struct Apart {
 }
 
 impl Apart {
-    // What an array of them begins as.
+    // The value that an array is filled with before its cells are known.
     pub fn zero() -> Self
         ensures { λ r. ⌜ r ≡ zeroApart ⌝ }
     {
@@ -28,7 +32,7 @@ impl Apart {
         }
     }
 
-    // Of the patterns of its bounds.
+    // The cell with the patterns lo and hi as bounds.
     pub fn new(lo: u32, hi: u32) -> Self
         ensures { λ r. ⌜ IsApart lo hi r ⌝ }
     {
@@ -42,6 +46,7 @@ impl Apart {
         }
     }
 
+    // The lower bound.
     pub fn lower(self) -> Number
         ensures { λ r. ⌜ r ≡ lowerNumber self ⌝ }
     {
@@ -51,6 +56,7 @@ impl Apart {
         }
     }
 
+    // The upper bound.
     pub fn upper(self) -> Number
         ensures { λ r. ⌜ r ≡ upperNumber self ⌝ }
     {
@@ -60,11 +66,11 @@ impl Apart {
         }
     }
 
-    // Whether the cell is not [0, 0], whose corner products are zeros and add nothing: zero alone has the exponent 64.
+    // Whether the cell is not [0, 0], whose corner products add nothing. Zero has the exponent 64, all other numbers a larger one.
     pub fn is_nonzero(self) -> bool
         requires { ⌜ IsNumber (lowerNumber self) × IsNumber (upperNumber self) ⌝ }
         ensures { λ r. ⌜ r ≡ ltb 128 (lowerNumber self .exp + upperNumber self .exp) ⌝ }
     {
-        128 < self.lower_exp + self.upper_exp
+        BOTH_ZERO < self.lower_exp + self.upper_exp
     }
 }

@@ -1,4 +1,4 @@
-// The cells of a matrix, converted into lent slices.
+// The cells of a matrix converted to midpoints and radii, into slices that the caller lent. Used by methods 3, 4 and 7.
 ghost use mathlib.Core.Path.{_≡_};
 ghost use Prim.Native.Nat.{_≤_};
 ghost use lib.ListN.{length};
@@ -7,7 +7,7 @@ ghost use Rattle.matrices.specs.Matrix.{ofBounds, AllFine, midAt, radAt};
 use intervals::Converted;
 use intervals::to_midrad;
 
-// The midpoints and radii of the first count cells.
+// Writes the midpoints and radii of the first count cells, which have no fault, to the front of mids and rads.
 pub fn convert(count: usize, lowers: &[u32], uppers: &[u32], mids: &mut [u32], rads: &mut [u32])
     requires { ⌜ (count ≤ length (now lowers)) × (count ≤ length (now uppers))
         × (count ≤ length (now mids)) × (count ≤ length (now rads)) × AllFine (ofBounds (now lowers) (now uppers)) count ⌝ }

@@ -1,4 +1,4 @@
-// Method 1: a row of A is taken apart once, each entry's sums are carried along its row and column, and the first overflow leaves all loops.
+// Method 1, classical: each row of A is unpacked once, each entry is two running sums over its k pairs, and the first overflow ends all loops.
 ghost use lib.ListN.{length};
 ghost use mathlib.Core.Path.{_≡_};
 ghost use Prim.Native.Nat.{_+_};
@@ -13,14 +13,14 @@ use crate::sums::Place;
 use crate::sums::Sums;
 use refusals::sizes::LARGEST_SIZE;
 
-// Whether a cell is not [0, 0], with zeros of either sign, whose corner products are zeros and add nothing.
+// Whether the cell [lo, hi] is not [0, 0], with zeros of either sign. The corner products of [0, 0] add nothing.
 fn is_nonzero(lo: u32, hi: u32) -> bool
     ensures { λ r. ⌜ r ≡ ltb 0 (magnitudeOf lo + magnitudeOf hi) ⌝ }
 {
     0 < lo % 0x8000_0000 + hi % 0x8000_0000
 }
 
-// Writes the entries by rows up to the first one that is refused, and says where that is.
+// Writes the entries by rows until one is refused, and returns its row and column, or Nowhere.
 pub fn entries(
     m: usize,
     k: usize,

@@ -1,4 +1,4 @@
-// Methods 3, 4 and 7 from midpoints and radii: what belongs to a cell is worked out once a cell, then the entries.
+// Methods 3, 4 and 7, from midpoints and radii: values that depend on one cell are computed first (derived.rt), then the entries.
 ghost use mathlib.Core.Path.{_≡_};
 ghost use mathlib.Core.Logic.{_⊎_};
 ghost use lib.ListN.{length};
@@ -15,6 +15,7 @@ use crate::sums::Place;
 use crate::three;
 use refusals::sizes::MOST_CELLS;
 
+// Method 3: vb has (c × |m|) + r and wb has |m| + r of B's cells.
 fn by_three(
     m: usize,
     k: usize,
@@ -37,6 +38,7 @@ fn by_three(
     three::entries(m, k, n, ma, ra, mb, rb, &vb, &wb, lo, up)
 }
 
+// Method 4: wb has |m| + r of B's cells.
 fn by_four(
     m: usize,
     k: usize,
@@ -57,6 +59,7 @@ fn by_four(
     four::entries(m, k, n, ma, ra, mb, rb, &wb, lo, up)
 }
 
+// Method 7: pa and pb have the parts of A's and B's cells, wb has |m| + r of B's.
 fn by_seven(
     m: usize,
     k: usize,
@@ -81,7 +84,7 @@ fn by_seven(
     seven::entries(m, k, n, ma, ra, &pa, mb, rb, &wb, &pb, lo, up)
 }
 
-// By the method with this number.
+// Writes the entries by this method by rows until one is refused, and returns its row and column, or Nowhere.
 pub fn entries(
     method: u32,
     m: usize,

@@ -1,4 +1,4 @@
-// The corner products of two cells: each exact, and compared as whole numbers.
+// The corner products of two cells (each bound of one times each bound of the other), exact, and the least and the greatest of them. Called by sums.rt.
 ghost use mathlib.Core.Path.{_≡_};
 ghost use lib.IntN.{natAbs};
 ghost use Prim.Native.Nat.{_^_, _≤_};
@@ -9,15 +9,19 @@ use unpacked::Corner;
 use unpacked::Number;
 use unpacked::Product;
 
+// 2^47, the least significand of 48 bits: of two positive products, the one with the larger exponent has at least as large a rank.
+const RANK_STEP: i64 = 0x8000_0000_0000;
+
+// |sig| + exp × 2^47 with the sign of sig: products are ordered as their ranks are.
 fn rank(sig: i64, exp: u32) -> i64
     requires { ⌜ (natAbs sig ≤ 2 ^ 48) × (exp ≤ 5000) ⌝ }
     ensures { λ r. ⌜ r ≡ rankOf sig exp ⌝ }
 {
-    let k = exp as i64 * 0x8000_0000_0000;
+    let k = exp as i64 * RANK_STEP;
     if sig < 0 { sig - k } else { sig + k }
 }
 
-// x × y
+// x × y, with its rank.
 pub fn corner_of(x: Number, y: Number) -> Corner
     requires { ⌜ Factors x y ⌝ }
     ensures { λ r. ⌜ CornerIs x y r ⌝ }
@@ -29,6 +33,7 @@ pub fn corner_of(x: Number, y: Number) -> Corner
     }
 }
 
+// The lesser of two products.
 pub fn lesser(x: Corner, y: Corner) -> Corner
     ensures { λ r. ⌜ r ≡ lesserOf x y ⌝ }
 {
@@ -38,6 +43,7 @@ pub fn lesser(x: Corner, y: Corner) -> Corner
     y
 }
 
+// The greater of two products.
 pub fn greater(x: Corner, y: Corner) -> Corner
     ensures { λ r. ⌜ r ≡ greaterOf x y ⌝ }
 {

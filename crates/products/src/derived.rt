@@ -1,4 +1,4 @@
-// What is worked out once a cell, from its midpoint m and its radius r, so that no entry works it out again.
+// Values that methods 3, 4 and 7 work out once for each cell, from its midpoint m and radius r, before the entries. Called by converted.rt.
 ghost use mathlib.Core.Path.{_≡_};
 ghost use Prim.Native.Nat.{_≤_};
 ghost use lib.ListN.{length};
@@ -11,14 +11,14 @@ use binary32::order::negate;
 use binary32::partial::add_up;
 use binary32::partial::mul_up;
 
-// |m| + r; (c × |m|) + r; p = sign(m) × min(|m|, r)
+// Outer: |m| + r. Raised(c): (c × |m|) + r, method 3's rB'. Part: sign(m) × min(|m|, r), method 7's p.
 pub enum Kind {
     Outer,
     Raised(u32),
     Part,
 }
 
-// (k + 2) × 2^-24 for k from 0 to 32, one exact number each.
+// The patterns of (k + 2) × 2^-24 for k from 0 to 32. Each is exact.
 const RAISED: [u32; 33] = [
     0x3400_0000,
     0x3440_0000,
@@ -55,7 +55,7 @@ const RAISED: [u32; 33] = [
     0x3608_0000,
 ];
 
-// Method 3's factor (k + 2) × 2^-24.
+// The pattern of method 3's factor (k + 2) × 2^-24.
 pub fn raised(k: usize) -> u32
     requires { ⌜ k ≤ 32 ⌝ }
     ensures { λ r. ⌜ held r ≡ raisedFactor k ⌝ }
@@ -75,6 +75,7 @@ fn part_of(m: u32, r: u32) -> u32
     negate(p)
 }
 
+// The value for one cell, each step rounded up; infinity where it overflows. A part is exact.
 pub fn derive(kind: Kind, m: u32, r: u32) -> u32
     requires { ⌜ MidRad m r ⌝ }
     ensures { λ p. ⌜ Derives kind m r p ⌝ }
@@ -86,7 +87,7 @@ pub fn derive(kind: Kind, m: u32, r: u32) -> u32
     }
 }
 
-// Of each of the first count cells.
+// The values of the first count cells, into the front of out.
 pub fn derive_all(kind: Kind, count: usize, m: &[u32], r: &[u32], out: &mut [u32])
     requires { ⌜ MidRads count (now m) (now r) × (count ≤ length (now out)) ⌝ }
     ensures { λ _. ⌜ Derived (derivedOf kind) count (now (m .entry)) (now (r .entry)) (now (out .exit)) ⌝ }

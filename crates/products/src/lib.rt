@@ -1,4 +1,4 @@
-// Products of interval matrices by four methods: classical, three, four and seven.
+// Products of interval matrices by four methods: 1 (classical), 3, 4 and 7. The result encloses all products of matrices that lie in A and B.
 ghost use Prim.Native.Nat.{_≤_};
 ghost use lib.ListN.{length};
 ghost use Rattle.refusals.specs.Answer.{outcome};
@@ -35,7 +35,7 @@ mod sums;
 mod three;
 mod times;
 
-// A refused entry clears the result's cells.
+// The end of a product: where an entry was refused, sets all cells of the result to 0 and returns refusal 5 with its row and column.
 fn finish(place: Place, count: usize, lo: &mut [u32], up: &mut [u32]) -> Outcome
     requires { ⌜ (count ≤ length (now lo)) × (count ≤ length (now up)) × InReach place ⌝ }
     ensures { λ r. ⌜ Finished place count (now (lo .entry)) (now (up .entry)) (outcome r) (now (lo .exit)) (now (up .exit)) ⌝ }
@@ -52,7 +52,7 @@ fn finish(place: Place, count: usize, lo: &mut [u32], up: &mut [u32]) -> Outcome
     }
 }
 
-// A times B by the method with this number: its cells in lo and up, in ma, ra, mb and rb what A's and B's cells were converted to.
+// A times B by this method: the bounds of the product in lo and up; by methods 3, 4 and 7 also the midpoints and radii of A and B in ma, ra, mb and rb.
 pub fn product(
     method: u32,
     a_rows: usize,

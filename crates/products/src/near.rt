@@ -1,4 +1,4 @@
-// Sums of numbers taken apart, to nearest: as those rounded down, with a last digit that stands for what the first shift lost.
+// Sums of unpacked numbers, rounded to nearest: as in plus.rt, with a sticky bit for what the shift of the smaller summand loses.
 ghost use mathlib.Core.Option.{Option, bind};
 ghost use Prim.Native.Nat.{_^_, _≤_, _<_};
 ghost use lib.IntN.{ℤ, natAbs, _+ℤ_};
@@ -6,6 +6,8 @@ ghost use Rattle.rounding.specs.Format.{binary32};
 ghost use Rattle.rounding.specs.Rounding.{near};
 ghost use Rattle.unpacked.specs.Number.{worth, Normal, IsNumber, Holds, Part};
 ghost use Rattle.unpacked.specs.Cuts.{Summands, SumNear, limitedNear, CutNear, Marked};
+use crate::number::DROPPED;
+use crate::number::GAIN;
 use crate::number::fits;
 use crate::number::or_low;
 use crate::shifts::added;
@@ -20,19 +22,19 @@ use crate::summands::second;
 use unpacked::Number;
 use unpacked::none;
 
-// w × 2^(exp - 436) units, rounded to nearest, to 24 digits.
+// w × 2^(exp - 436) units, rounded to nearest to 24 bits: as `cut_down`, with another last step.
 fn cut_near(w: i64, exp: u32) -> Number
     requires { ⌜ (natAbs w < 2 ^ 62) × (64 ≤ exp) × (exp ≤ 4000) ⌝ }
     ensures { λ r. ⌜ CutNear w exp r ⌝ }
 {
     let z = u64::leading_zeros(digits(w) * 4 + 3);
     Number {
-        sig: nearest(widened(w, z), 38),
-        exp: or_low(w, exp + 2 - z),
+        sig: nearest(widened(w, z), DROPPED),
+        exp: or_low(w, exp + GAIN - z),
     }
 }
 
-// t / 2^n rounded down, and made odd where digits were lost.
+// t / 2^n rounded down, with the last bit set where a bit was lost (sticky bit).
 fn marked(t: i64, n: u32) -> i64
     requires { ⌜ (natAbs t ≤ 2 ^ 60) × (n ≤ 61) ⌝ }
     ensures { λ r. ⌜ Marked t (2 ^ n) r ⌝ }
@@ -44,7 +46,7 @@ fn marked(t: i64, n: u32) -> i64
     lowered(v, 1) * 2 + 1
 }
 
-// x + y, rounded to nearest, to 24 digits, with no upper limit.
+// x + y, rounded to nearest to 24 bits, as if there were no largest number.
 fn add_near(x: Number, y: Number) -> Number
     requires { ⌜ Summands x y ⌝ }
     ensures { λ r. ⌜ SumNear x y r ⌝ }
@@ -55,7 +57,7 @@ fn add_near(x: Number, y: Number) -> Number
     cut_near(added(raised(b.sig), marked(raised(s.sig), d)), b.exp)
 }
 
-// A value of 24 digits, to nearest: none beyond the largest number.
+// x, which is rounded to 24 bits already, or none where |x| is above the largest number.
 pub fn limit_near(x: Number) -> Number
     requires { ⌜ Normal x × (x .exp ≤ 4002) ⌝ }
     ensures { λ r. ⌜ Holds (limitedNear (worth x)) r ⌝ }
@@ -66,7 +68,7 @@ pub fn limit_near(x: Number) -> Number
     none()
 }
 
-// The sum s and a partial result y more, to nearest.
+// s + y, rounded to nearest; none where y is none or the sum overflows.
 pub fn plus_near(s: Number, y: Number) -> Number
     requires { ⌜ IsNumber s × Part y ⌝ }
     ensures { λ r. ⌜ ((t : Option ℤ) → Holds t y → Holds (bind t λ v. near binary32 1 (worth s +ℤ v)) r) ⌝ }

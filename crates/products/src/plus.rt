@@ -1,4 +1,5 @@
-// Sums of numbers taken apart, rounded down: a shift, an addition, a count of leading zeros and a shift. A sum is a whole number of units, so that it has no subnormal case.
+// Sums of unpacked numbers, rounded down: a shift, an addition, a count of leading zeros and a shift.
+// A sum of two numbers is a whole number of units, so a subnormal sum is exact and needs no case of its own.
 ghost use mathlib.Core.Option.{Option, bind};
 ghost use Prim.Native.Nat.{_≤_};
 ghost use lib.IntN.{ℤ, _+ℤ_};
@@ -8,12 +9,23 @@ ghost use Rattle.unpacked.specs.Number.{worth, Normal, IsNumber, Below, Holds, 
 ghost use Rattle.unpacked.specs.Cuts.{Summands, SumDown, CutNegative, Filled, limited};
 use crate::number::cut_down;
 use crate::number::fits;
+use crate::shifts::GUARD;
 use crate::shifts::lowered;
 use crate::summands::align;
+use unpacked::LARGEST_EXPONENT;
 use unpacked::Number;
 use unpacked::none;
 
-// x + y, rounded down to 24 digits, with no upper limit.
+// 2^24 - 1, the significand of the largest number.
+const LARGEST_SIGNIFICAND: i64 = 0xFF_FFFF;
+
+// -2^60: below it a sum with 36 guard bits has 25 bits in front of them, one too many.
+const LONGEST: i64 = -0x1000_0000_0000_0000;
+
+// Dropped where a sum has 25 bits in front of the guard bits.
+const GUARD_AND_CARRY: u32 = GUARD + 1;
+
+// x + y, rounded down to 24 bits, as if there were no largest number.
 fn add_down(x: Number, y: Number) -> Number
     requires { ⌜ Summands x y ⌝ }
     ensures { λ r. ⌜ SumDown x y r ⌝ }
@@ -22,24 +34,24 @@ fn add_down(x: Number, y: Number) -> Number
     cut_down(s.w, s.exp)
 }
 
-// w × 2^(exp - 436) units, rounded down to 24 digits, for w from -2^61 to -2^59 or 0: no leading zeros are counted.
+// w × 2^(exp - 436) units, rounded down to 24 bits, for w from -2^61 to -2^59 or 0: its length is known, so no leading zeros are counted.
 fn cut_negative(w: i64, exp: u32) -> Number
     requires { ⌜ Filled w × (exp ≤ 4000) ⌝ }
     ensures { λ r. ⌜ CutNegative w exp r ⌝ }
 {
-    if w < -0x1000_0000_0000_0000 {
+    if w < LONGEST {
         return Number {
-            sig: lowered(w, 37),
+            sig: lowered(w, GUARD_AND_CARRY),
             exp: exp + 1,
         };
     }
     Number {
-        sig: lowered(w, 36),
+        sig: lowered(w, GUARD),
         exp: exp,
     }
 }
 
-// x + y where neither is above zero, so that nothing cancels; rounded down to 24 digits, with no upper limit.
+// x + y, rounded down to 24 bits as if there were no largest number, where neither is above zero, so that no leading bits cancel.
 fn add_negative(x: Number, y: Number) -> Number
     requires { ⌜ Summands x y × Below x × Below y ⌝ }
     ensures { λ r. ⌜ SumDown x y r ⌝ }
@@ -48,7 +60,7 @@ fn add_negative(x: Number, y: Number) -> Number
     cut_negative(s.w, s.exp)
 }
 
-// A value of 24 digits that is beyond the largest number or near it, rounded down.
+// x, which is rounded down to 24 bits already, as a binary32 number: the largest number where x is above it, none where x is below all numbers.
 pub fn limit(x: Number) -> Number
     requires { ⌜ Normal x × (x .exp ≤ 4002) ⌝ }
     ensures { λ r. ⌜ Holds (limited (worth x)) r ⌝ }
@@ -60,23 +72,23 @@ pub fn limit(x: Number) -> Number
         return none();
     }
     Number {
-        sig: 0xFF_FFFF,
-        exp: 653,
+        sig: LARGEST_SIGNIFICAND,
+        exp: LARGEST_EXPONENT,
     }
 }
 
-// A value of 24 digits, rounded down: the largest number above all, none below.
+// The same, with the usual case first: a smaller exponent than that of the largest number.
 fn limit_down(x: Number) -> Number
     requires { ⌜ Normal x × (x .exp ≤ 4002) ⌝ }
     ensures { λ r. ⌜ Holds (limited (worth x)) r ⌝ }
 {
-    if x.exp < 653 {
+    if x.exp < LARGEST_EXPONENT {
         return x;
     }
     limit(x)
 }
 
-// The sum s and a partial result y more, rounded down.
+// s + y, rounded down; none where y is none or the sum is below all numbers.
 pub fn plus_down(s: Number, y: Number) -> Number
     requires { ⌜ IsNumber s × Part y ⌝ }
     ensures { λ r. ⌜ ((t : Option ℤ) → Holds t y → Holds (bind t λ v. down binary32 1 (worth s +ℤ v)) r) ⌝ }
@@ -84,7 +96,7 @@ pub fn plus_down(s: Number, y: Number) -> Number
     limit_down(add_down(s, y))
 }
 
-// The same where neither is above zero.
+// The same where neither s nor y is above zero.
 pub fn plus_negative(s: Number, y: Number) -> Number
     requires { ⌜ IsNumber s × Part y × Below s × Below y ⌝ }
     ensures { λ r. ⌜ ((t : Option ℤ) → Holds t y → Holds (bind t λ v. down binary32 1 (worth s +ℤ v)) r) ⌝ }

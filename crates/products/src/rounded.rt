@@ -1,4 +1,4 @@
-// Exact products rounded down, up and to nearest, of their 48 digits alone.
+// Exact products of 48 bits rounded to binary32: down, up and to nearest. The usual case is in times.rt, the rare ones are here.
 ghost use Prim.Native.Nat.{_^_, _≤_, _<_};
 ghost use lib.IntN.{ℤ, natAbs};
 ghost use Rattle.rounding.specs.Format.{binary32};
@@ -11,6 +11,9 @@ use crate::plus::limit;
 use crate::shifts::cap;
 use crate::shifts::lowered;
 use crate::shifts::nearest;
+use crate::times::LARGEST_PRODUCT;
+use crate::times::PRODUCT_BIAS;
+use crate::times::WHOLE;
 use crate::times::is_usual;
 use crate::times::shortened;
 use crate::times::shortened_near;
@@ -19,29 +22,29 @@ use unpacked::Number;
 use unpacked::Product;
 use unpacked::none;
 
-// A product below 2^24 units, rounded down: whole units.
+// A product of at most 2^23 units (subnormal or zero), rounded down to a whole number of units.
 fn small(p: Product) -> Number
     requires { ⌜ (natAbs (p .sig) ≤ 2 ^ 48) × (p .exp < 926) ⌝ }
     ensures { λ r. ⌜ ((X : ℤ) → Exact X p → Holds (down binary32 (2 ^ 149) X) r) ⌝ }
 {
-    whole(lowered(p.sig, cap(950 - p.exp)))
+    whole(lowered(p.sig, cap(PRODUCT_BIAS - p.exp)))
 }
 
-// A product that is small, near the largest number or beyond it, zero or none, rounded down.
+// A product that is subnormal, zero, near the largest number or above it, or that has a factor none, rounded down.
 fn rare_down(p: Product) -> Number
     requires { ⌜ Formed p ⌝ }
     ensures { λ r. ⌜ RoundedDown p r ⌝ }
 {
-    if p.exp < 926 {
+    if p.exp < WHOLE {
         return small(p);
     }
-    if 1307 < p.exp {
+    if LARGEST_PRODUCT < p.exp {
         return none();
     }
     limit(shortened(p))
 }
 
-// p, rounded down; none where a factor is none.
+// p, rounded down; none where a factor is none or p is below all numbers.
 pub fn rounded_down(p: Product) -> Number
     requires { ⌜ Formed p ⌝ }
     ensures { λ r. ⌜ RoundedDown p r ⌝ }
@@ -52,7 +55,7 @@ pub fn rounded_down(p: Product) -> Number
     rare_down(p)
 }
 
-// The opposite of p, which is rounded up.
+// -q, where q is p rounded up; none where a factor is none or p is above all numbers. It is computed as -p rounded down.
 pub fn rounded_up(p: Product) -> Number
     requires { ⌜ Formed p ⌝ }
     ensures { λ r. ⌜ RoundedUp p r ⌝ }
@@ -60,29 +63,29 @@ pub fn rounded_up(p: Product) -> Number
     rounded_down(turned(p))
 }
 
-// A product below 2^24 units, to nearest: whole units.
+// A product of at most 2^23 units (subnormal or zero), rounded to nearest to a whole number of units.
 fn small_near(p: Product) -> Number
     requires { ⌜ (natAbs (p .sig) ≤ 2 ^ 48) × (p .exp < 926) ⌝ }
     ensures { λ r. ⌜ ((X : ℤ) → Exact X p → Holds (near binary32 (2 ^ 149) X) r) ⌝ }
 {
-    whole(nearest(p.sig, cap(950 - p.exp)))
+    whole(nearest(p.sig, cap(PRODUCT_BIAS - p.exp)))
 }
 
-// A product that is small, near the largest number or beyond it, zero or none, to nearest.
+// As `rare_down`, rounded to nearest.
 fn rare_near(p: Product) -> Number
     requires { ⌜ Formed p ⌝ }
     ensures { λ r. ⌜ RoundedNear p r ⌝ }
 {
-    if p.exp < 926 {
+    if p.exp < WHOLE {
         return small_near(p);
     }
-    if 1307 < p.exp {
+    if LARGEST_PRODUCT < p.exp {
         return none();
     }
     limit_near(shortened_near(p))
 }
 
-// p, to nearest; none where a factor is none.
+// p, rounded to nearest; none where a factor is none or p overflows.
 pub fn rounded_near(p: Product) -> Number
     requires { ⌜ Formed p ⌝ }
     ensures { λ r. ⌜ RoundedNear p r ⌝ }

@@ -1,4 +1,4 @@
-// Small steps on the machine's integers, each with its value as its contract.
+// Shifts, products and roundings of 64-bit integers: each function's contract is the exact integer that it returns.
 ghost use mathlib.Core.Path.{_≡_};
 ghost use Prim.Native.Nat.{_-_, _*_, _^_, _≤_, _<_, min};
 ghost use lib.IntN.{pos, natAbs, _+ℤ_, _*ℤ_};
@@ -6,6 +6,12 @@ ghost use lib.Signed.{mag, shrZ};
 ghost use Rattle.rounding.specs.Quotient.{rem};
 ghost use Rattle.binary32.specs.Number.{signedBy};
 ghost use Rattle.unpacked.specs.Cuts.{nearestOf};
+
+// How many guard bits a significand gets before it is added: 24 + 36 bits, a carry and the sign fit into 64 bits.
+pub const GUARD: u32 = 36;
+
+// A shift by this many places loses all bits of a significand with its guard bits: 0 or -1 remains.
+const ALL: u32 = 61;
 
 // 2^n
 fn power(n: u32) -> i64
@@ -32,14 +38,14 @@ pub fn with_sign(neg: bool, m: u64) -> i64
     if neg { -s } else { s }
 }
 
-// At most 61: a shift past all digits.
+// d, or 61 where d is more.
 pub fn cap(d: u32) -> u32
     ensures { λ r. ⌜ r ≡ min d 61 ⌝ }
 {
-    if d <= 61 { d } else { 61 }
+    if d <= ALL { d } else { ALL }
 }
 
-// s × 2^36
+// s × 2^36: s with its guard bits.
 pub fn raised(s: i64) -> i64
     requires { ⌜ natAbs s ≤ 2 ^ 24 ⌝ }
     ensures { λ r. ⌜ r ≡ s *ℤ pos (2 ^ 36) ⌝ }
@@ -47,7 +53,7 @@ pub fn raised(s: i64) -> i64
     s * 0x10_0000_0000
 }
 
-// t / 2^n, rounded down.
+// t / 2^n, rounded down, for negative t too: the shift keeps the sign.
 pub fn lowered(t: i64, n: u32) -> i64
     requires { ⌜ n ≤ 63 ⌝ }
     ensures { λ r. ⌜ r ≡ shrZ t (2 ^ n) ⌝ }
@@ -63,7 +69,7 @@ pub fn added(x: i64, y: i64) -> i64
     x + y
 }
 
-// w, or -1 - w where w is negative.
+// w, or -1 - w where w is negative. It has as many bits as w in two's complement, without the sign.
 pub fn digits(w: i64) -> u64
     ensures { λ r. ⌜ r ≡ mag w ⌝ }
 {
@@ -78,7 +84,7 @@ pub fn widened(w: i64, z: u32) -> i64
     w * power(z)
 }
 
-// The last digit of c.
+// The last bit of c.
 fn odd(c: i64) -> i64
     requires { ⌜ natAbs c ≤ 2 ^ 61 ⌝ }
     ensures { λ r. ⌜ r ≡ pos (rem c 2) ⌝ }
@@ -86,7 +92,7 @@ fn odd(c: i64) -> i64
     c - lowered(c, 1) * 2
 }
 
-// 2^(n - 1) - 1, just less than half of 2^n.
+// 2^(n - 1) - 1, which is one less than half of 2^n.
 fn half(n: u32) -> i64
     requires { ⌜ (1 ≤ n) × (n ≤ 61) ⌝ }
     ensures { λ r. ⌜ r ≡ pos (2 ^ (n - 1) - 1) ⌝ }
@@ -94,7 +100,7 @@ fn half(n: u32) -> i64
     power(n - 1) - 1
 }
 
-// t / 2^n to the nearest, the even one of two.
+// t / 2^n to nearest, ties to even: floor((t + 2^(n-1) - 1 + last bit of floor(t / 2^n)) / 2^n).
 pub fn nearest(t: i64, n: u32) -> i64
     requires { ⌜ (natAbs t ≤ 2 ^ 62) × (1 ≤ n) × (n ≤ 61) ⌝ }
     ensures { λ r. ⌜ r ≡ nearestOf t (2 ^ n) ⌝ }

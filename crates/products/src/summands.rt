@@ -1,4 +1,4 @@
-// Two summands over one exponent, the larger of theirs.
+// Two summands brought to the larger of their exponents and added, before the sum is rounded. Called by plus.rt and near.rt.
 ghost use mathlib.Core.Path.{_≡_};
 ghost use Rattle.unpacked.specs.Cuts.{Summands, AlignedIs, earlier, later};
 use crate::shifts::added;
@@ -8,7 +8,7 @@ use crate::shifts::raised;
 use unpacked::Aligned;
 use unpacked::Number;
 
-// Of the two the one with the larger exponent; x where they are equal.
+// The summand with the larger exponent; x where the exponents are equal.
 pub fn first(x: Number, y: Number) -> Number
     ensures { λ r. ⌜ r ≡ earlier x y ⌝ }
 {
@@ -18,7 +18,7 @@ pub fn first(x: Number, y: Number) -> Number
     x
 }
 
-// The other one.
+// The other summand.
 pub fn second(x: Number, y: Number) -> Number
     ensures { λ r. ⌜ r ≡ later x y ⌝ }
 {
@@ -28,7 +28,7 @@ pub fn second(x: Number, y: Number) -> Number
     y
 }
 
-// x + y: exact, or of at least 58 digits and rounded down.
+// x + y with 36 guard bits: exact, or, where the smaller summand loses bits by its shift, rounded down in the last guard bit.
 pub fn align(x: Number, y: Number) -> Aligned
     requires { ⌜ Summands x y ⌝ }
     ensures { λ r. ⌜ AlignedIs x y r ⌝ }

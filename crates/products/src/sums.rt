@@ -1,4 +1,4 @@
-// One entry's running sums, a value that takes a pair of cells and comes back.
+// The running sums of one entry by method 1: a value that a step takes, with a pair of cells, and returns. Its last step, `ends`, serves all methods.
 ghost use mathlib.Core.Path.{_≡_};
 ghost use lib.IntN.{negℤ};
 ghost use Rattle.binary32.specs.Number.{patternOf};
@@ -19,19 +19,20 @@ use unpacked::Number;
 use unpacked::is_none;
 use unpacked::zero;
 
-// The lower sum, and the opposite of the upper one: rounding up is rounding down with the other sign, so that both are rounded down. Each is a number or none.
+// The lower sum, and the negated upper sum: rounding x up is negating -x rounded down, so both sums are rounded down. Each is a number or none.
 pub struct Sums {
     pub lower: Number,
     pub opposed: Number,
 }
 
-// The first entry by rows that is refused, if there is one.
+// The row and column of the first refused entry by rows, if there is one.
 pub enum Place {
     Nowhere,
     At(usize, usize),
 }
 
 impl Sums {
+    // Both sums are zero.
     pub fn new() -> Self
         ensures { λ r. ⌜ r ≡ zeroSums ⌝ }
     {
@@ -41,7 +42,7 @@ impl Sums {
         }
     }
 
-    // The classical step: the lower sum and the least of the four corner products of a and [bl, bu], each rounded down; the upper sum and the greatest, each rounded up.
+    // Adds the least of the four corner products of a and [bl, bu] to the lower sum, all rounded down, and the greatest to the upper sum, all rounded up.
     pub fn step(self, a: Apart, bl: u32, bu: u32) -> Sums
         requires { ⌜ BothNumbers self × Cells a bl bu ⌝ }
         ensures { λ r. ⌜ Stepped self a bl bu r ⌝ }
@@ -62,7 +63,7 @@ impl Sums {
         }
     }
 
-    // Whether a sum is none.
+    // Whether one of the sums is none: a step overflowed.
     pub fn refused(self) -> bool
         ensures { λ r. ⌜ r ≡ refusedSums self ⌝ }
     {
@@ -89,7 +90,8 @@ impl Sums {
     }
 }
 
-// Centre less radius down, centre and radius up, of a lower centre and of the opposites of the upper centre and of the radius.
+// The bounds of an entry by methods 3, 4 and 7: lower centre - radius, rounded down, and upper centre + radius, rounded up.
+// `opposed` is the negated upper centre, and `radius` the negated radius.
 pub fn ends(lower: Number, opposed: Number, radius: Number) -> Sums
     requires { ⌜ IsNumber lower × IsNumber opposed × IsNumber radius ⌝ }
     ensures { λ r. ⌜ Ended lower opposed radius r ⌝ }

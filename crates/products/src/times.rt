@@ -1,4 +1,4 @@
-// Products of numbers taken apart: exact in 48 digits, of which 24 are kept.
+// Products of unpacked numbers: exact in 48 bits, and rounded to the first 24 of these.
 ghost use mathlib.Core.Path.{_≡_};
 ghost use mathlib.Core.Bool.{cond, false};
 ghost use Prim.Native.Nat.{_^_, _≤_};
@@ -10,16 +10,40 @@ use crate::shifts::lowered;
 use crate::shifts::multiplied;
 use crate::shifts::nearest;
 use crate::shifts::twice;
+use unpacked::BIAS;
+use unpacked::LARGEST_EXPONENT;
 use unpacked::Number;
 use unpacked::Product;
 
-// x × y, exactly.
+// The bias of a Product's exponent: its value is sig × 2^(exp - 950) units. 950 is 2 × 400 for the factors' biases, 149 since a unit times a unit
+// is 2^-149 units, and 1 since a product of 47 bits is doubled to have 48.
+pub const PRODUCT_BIAS: u32 = 950;
+
+// 2^47: a product below it has 47 bits.
+const FULL: u64 = 0x8000_0000_0000;
+
+// Half of a product's 48 bits.
+const HALF: u32 = 24;
+
+// From this exponent on, the first 24 bits of a product are a whole number of units, so that rounding keeps all of them.
+pub const WHOLE: u32 = PRODUCT_BIAS - HALF;
+
+// The exponent of a product less that of the number made of its first 24 bits.
+const TO_NUMBER: u32 = WHOLE - BIAS;
+
+// From this exponent on, a rounded product has the exponent of the largest number or a larger one, and may overflow.
+const LARGE: u32 = TO_NUMBER + LARGEST_EXPONENT;
+
+// The largest exponent of a product of two numbers; above it a factor is none.
+pub const LARGEST_PRODUCT: u32 = LARGEST_EXPONENT + LARGEST_EXPONENT + 1;
+
+// x × y, exact: a product of 47 bits is doubled, so that all have 48.
 pub fn times(x: Number, y: Number) -> Product
     requires { ⌜ Factors x y ⌝ }
     ensures { λ r. ⌜ ProductIs x y r ⌝ }
 {
     let p = multiplied(x.sig, y.sig);
-    if digits(p) < 0x8000_0000_0000 {
+    if digits(p) < FULL {
         return Product {
             sig: twice(p),
             exp: x.exp + y.exp,
@@ -31,24 +55,24 @@ pub fn times(x: Number, y: Number) -> Product
     }
 }
 
-// Whether 24 digits of a product with the exponent e are a number, rounded either way.
+// Whether rounding a product with the exponent e to its first 24 bits gives a number in every direction: neither subnormal nor too large.
 pub fn is_usual(e: u32) -> bool
     ensures { λ r. ⌜ r ≡ cond (ltb e 926) false (ltb e 1179) ⌝ }
 {
-    if e < 926 {
+    if e < WHOLE {
         return false;
     }
-    e < 1179
+    e < LARGE
 }
 
-// Its first 24 digits, rounded down.
+// p, rounded down to its first 24 bits.
 pub fn shortened(p: Product) -> Number
     requires { ⌜ (natAbs (p .sig) ≤ 2 ^ 48) × (926 ≤ p .exp) ⌝ }
     ensures { λ r. ⌜ Shortened p r ⌝ }
 {
     Number {
-        sig: lowered(p.sig, 24),
-        exp: p.exp - 526,
+        sig: lowered(p.sig, HALF),
+        exp: p.exp - TO_NUMBER,
     }
 }
 
@@ -63,13 +87,13 @@ pub fn turned(p: Product) -> Product
     }
 }
 
-// The first 24 digits, to nearest.
+// p, rounded to nearest to its first 24 bits.
 pub fn shortened_near(p: Product) -> Number
     requires { ⌜ (natAbs (p .sig) ≤ 2 ^ 48) × (926 ≤ p .exp) ⌝ }
     ensures { λ r. ⌜ ShortenedNear p r ⌝ }
 {
     Number {
-        sig: nearest(p.sig, 24),
-        exp: p.exp - 526,
+        sig: nearest(p.sig, HALF),
+        exp: p.exp - TO_NUMBER,
     }
 }

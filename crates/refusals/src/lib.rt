@@ -1,11 +1,11 @@
-// The refusals, each a number with what comes with it, and the two checks that every matrix meets first: 1, its sizes, and 2, its slices' lengths.
+// A refusal: why a call was not carried out, as a number with matrix, row and column. Also the checks of sizes and slice lengths (sizes.rt).
 ghost use mathlib.Core.Path.{_≡_};
 ghost use Rattle.refusals.specs.Refusal.{ofMatrix, ofCell, named, codeOf};
 ghost use Rattle.refusals.specs.Answer.{outcome, then, coded};
 
 pub mod sizes;
 
-// 01's number, the matrix (1 A, 2 B, 3 result, else 0), and the row and column of a cell; zero where none is named.
+// The number, 1 to 11, which says why; the matrix: 1 A, 2 B, 3 the result, 0 none of them; and the row and column of a cell, 0 where no cell is named.
 pub struct Refusal {
     pub number: u8,
     pub matrix: u8,
@@ -13,14 +13,14 @@ pub struct Refusal {
     pub column: u8,
 }
 
-// Done, or the first refusal whose condition holds.
+// The answer of a call that returns no value.
 pub enum Outcome {
     Done,
     Refused(Refusal),
 }
 
 impl Refusal {
-    // Of no cell.
+    // A refusal that names no cell.
     pub fn of_matrix(number: u8, matrix: u8) -> Self
         ensures { λ r. ⌜ r ≡ ofMatrix number matrix ⌝ }
     {
@@ -32,6 +32,7 @@ impl Refusal {
         }
     }
 
+    // A refusal that names a cell.
     pub fn of_cell(number: u8, matrix: u8, row: u8, column: u8) -> Self
         ensures { λ r. ⌜ r ≡ ofCell number matrix row column ⌝ }
     {
@@ -43,7 +44,7 @@ impl Refusal {
         }
     }
 
-    // The same of another matrix.
+    // The same refusal with this matrix number.
     pub fn named(self, matrix: u8) -> Refusal
         ensures { λ r. ⌜ r ≡ named matrix self ⌝ }
     {
@@ -68,7 +69,7 @@ impl Refusal {
 }
 
 impl Outcome {
-    // The first refusal of two answers.
+    // This refusal, or else the next one: the first refusal of two checks.
     pub fn then(self, next: Outcome) -> Outcome
         ensures { λ r. ⌜ outcome r ≡ then (outcome self) (outcome next) ⌝ }
     {

@@ -1,15 +1,17 @@
-// What 1 and 2 ask of one matrix: sizes from 1 to 32, and slices that are as long as its cells.
+// The checks of one matrix for refusals 1 and 2: sizes from 1 to 32, and slices with at least as many words as the matrix has cells.
 ghost use mathlib.Core.Path.{_≡_};
 ghost use Rattle.refusals.specs.Answer.{outcome};
 ghost use Rattle.refusals.specs.Sizes.{sized, checkSize, checkLengths, checkFit};
 use crate::Outcome;
 use crate::Refusal;
 
-// The largest size, and how many cells a matrix has at most.
+// The most rows or columns of a matrix.
 pub const LARGEST_SIZE: usize = 32;
 
+// The most cells of a matrix.
 pub const MOST_CELLS: usize = LARGEST_SIZE * LARGEST_SIZE;
 
+// Whether both sizes are from 1 to 32.
 fn are_sizes(rows: usize, columns: usize) -> bool
     ensures { λ r. ⌜ r ≡ sized rows columns ⌝ }
 {
@@ -25,7 +27,7 @@ fn are_sizes(rows: usize, columns: usize) -> bool
     columns <= LARGEST_SIZE
 }
 
-// 1
+// Refusal 1 where a size is not from 1 to 32.
 pub fn check_size(matrix: u8, rows: usize, columns: usize) -> Outcome
     ensures { λ r. ⌜ outcome r ≡ checkSize matrix rows columns ⌝ }
 {
@@ -35,7 +37,7 @@ pub fn check_size(matrix: u8, rows: usize, columns: usize) -> Outcome
     Outcome::Refused(Refusal::of_matrix(1, matrix))
 }
 
-// 2
+// Refusal 2 where a slice is shorter than the matrix has cells.
 pub fn check_lengths(matrix: u8, cells: usize, lowers: usize, uppers: usize) -> Outcome
     ensures { λ r. ⌜ outcome r ≡ checkLengths matrix cells lowers uppers ⌝ }
 {
@@ -48,7 +50,7 @@ pub fn check_lengths(matrix: u8, cells: usize, lowers: usize, uppers: usize) -> 
     Outcome::Done
 }
 
-// 1, then 2.
+// Refusal 1, then 2.
 pub fn check_fit(matrix: u8, rows: usize, columns: usize, lowers: usize, uppers: usize) -> Outcome
     ensures { λ r. ⌜ outcome r ≡ checkFit matrix rows columns lowers uppers ⌝ }
 {

@@ -1,4 +1,4 @@
-// A crate of definitions and laws: rounding to a binary number format, in specs/ and proofs/. A crate has at least one function.
+// Rounding to a binary number format as definitions (specs/) and laws (proofs/). Nothing calls the function below: every crate must have one.
 ghost use mathlib.Core.Path.{_≡_};
 
 pub fn zero() -> u64

@@ -9,23 +9,23 @@ use Rattle.intervals.specs.Conversion.{faultOf, outwardOf}
 use Rattle.sheets.specs.declared.cell.HandedIn.{HandedIn}
 use Rattle.sheets.specs.declared.cell.HandedIn.the-variants as H
 
--- the pattern of the number that p stands for: minus zero as 0
+-- the pattern of the value of p: p itself, or 0 for minus zero
 unfoldable pub canonicalOf : ℕ → ℕ
 canonicalOf p = patternOf (valueOf p)
 
--- two patterns that are both 0
+-- whether both patterns are 0
 unfoldable pub bothZero : ℕ → ℕ → Bool
 bothZero a b = cond (eqb a 0) (eqb b 0) false
 
--- a cell that is handed in: 3, then 4; else [0, 0] by value, or its bounds
+-- a cell to be written: faulty by 3, else by 4; else [0, 0], with zeros of either sign; else its bounds
 unfoldable pub handedOf : ℕ → ℕ → HandedIn
 handedOf a b = cond (eqb (faultOf a b) 0) (cond (bothZero (canonicalOf a) (canonicalOf b)) H.Zero (H.Cell (canonicalOf a) (canonicalOf b))) (H.Faulty (faultOf a b))
 
--- a cell that is read: 3, then 4; then lower less w, down, and upper plus w, up, or 5 where one of them has no finite number
+-- a cell that is read: refusal 3, then 4; then a - w rounded down and b + w rounded up, or refusal 5 where one of them overflows
 unfoldable pub widenedOf : ℕ → ℕ → ℕ → Answer (ℕ × ℕ)
 widenedOf a b w = passing (faultOf a b) (outwardOf a b w)
 
--- whether it is 5, of a cell by its widened bounds
+-- the flag says whether the widened bounds v of a cell are refusal 5
 abbrev pub OverflowOf : Answer (ℕ × ℕ) → Bool → Type 0
 OverflowOf v true = v ≡ refuse 5
 OverflowOf v false = (x : ℕ × ℕ) × (v ≡ gives x)

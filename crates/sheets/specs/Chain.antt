@@ -1,4 +1,4 @@
--- The walk along a sheet's chain, and what it makes of each record. Definitions only (01, "The coupling sheet" and "When a call is turned down").
+-- The chain of a sheet, followed record by record with all checks. Definitions only (01, "The coupling sheet" and "When a call is turned down").
 use mathlib.Core.Bool.{cond}
 use mathlib.Core.List.{List, [], _∷_}
 use Prim.Native.Nat.{ℕ, zero, suc, _+_, _*_}
@@ -15,22 +15,22 @@ use Rattle.sheets.specs.Cell.{widenedOf}
 
 -- ---- one record
 
--- a cell's position by rows
+-- the position of a cell by rows: row × columns + column
 abbrev pub positionOf : ℕ → Record → ℕ
 positionOf columns r = r .row * columns + r .column
 
--- a `Step` of the code
+-- the answer that a `Step` of the code stands for
 abbrev pub stepped : Step → Answer Cell
 stepped (S.Cell c) = gives c
 stepped (S.Refused r) = refuses r
 
--- 3, 4, 5 of a cell, by its widened bounds
+-- the cell of a record with its widened bounds, or their refusal (3, 4 or 5) with row and column
 abbrev pub cellFrom : ℕ → Record → Answer (ℕ × ℕ) → Answer Cell
 cellFrom columns r (gives x) = gives (record { next = r .next; position = positionOf columns r; lower = x .0; upper = x .1 })
 cellFrom columns r (refuses x) = refuses (placed (r .row) (r .column) x)
 
--- one record on the chain: 7, 8, 6, 10, then 3, 4, 5. `least` is one past the position of the cell before, 0 for the first cell:
--- a position of `least` or more is one that rises by row, then column (proofs/Order, `unordered-is`)
+-- the checks of one record: 7, 8, 6, 10, then 3, 4, 5. `least` is one past the position of the cell before, 0 for the first cell, so that
+-- a position of `least` or more comes later by row, then column (proofs/Order, `unordered-is`)
 unfoldable pub judgeOf : ℕ → ℕ → ℕ → Record → Answer Cell
 judgeOf rows columns least r =
     cond (leb rows (r .row)) (refuse 7)
@@ -43,35 +43,39 @@ judgeOf rows columns least r =
 
 -- ---- the chain
 
--- a walk along the chain: the cells that it passed, and how it ended
+-- the result of following the chain: the cells up to its end or to the first refusal, and done or that refusal
 pub record Walk : Type 0 where
   pub cells : List Cell
   pub verdict : Answer (Unit {0})
 
+-- no cell, with this verdict
 abbrev pub stopped : Answer (Unit {0}) → Walk
 stopped v = record { cells = []; verdict = v }
 
+-- one cell in front of a walk
 abbrev pub more : Cell → Walk → Walk
 more c w = record { cells = c ∷ w .cells; verdict = w .verdict }
 
+-- a cell and the walk f behind it, or the refusal
 abbrev pub onward : Answer Cell → (Cell → Walk) → Walk
 onward (gives c) f = more c (f c)
 onward (refuses r) f = stopped (refuses r)
 
--- the record at an index that is followed: 7 at or past the record count
+-- the checks of the record at an index: 7 where the index is not below the record count, then those of the record
 unfoldable pub visitOf : List ℕ → ℕ → ℕ → ℕ → ℕ → Answer Cell
 visitOf s rows columns index least = cond (leb (countOf s) index) (refuse 7) (judgeOf rows columns least (recordOf s index))
 
--- from record `index` on; zero ends the chain. Positions rise, so rows × columns + 1 turns are enough for any bytes (proofs/Walking, `enough`)
+-- the walk from record `index` on; index 0 ends the chain. Positions rise, so rows × columns + 1 turns are enough (proofs/Walking, `enough`)
 unfoldable pub walk : List ℕ → ℕ → ℕ → ℕ → ℕ → ℕ → Walk
 walk s rows columns zero index least = stopped done
 walk s rows columns (suc turns) index least =
     cond (eqb index 0) (stopped done)
     (onward (visitOf s rows columns index least) (λ c. walk s rows columns turns (c .next) (c .position + 1)))
 
--- the whole walk of a matrix with so many rows and columns
+-- the whole walk, for a matrix with this many rows and columns and a chain that starts at record `first`
 abbrev pub walkAll : List ℕ → ℕ → ℕ → ℕ → Walk
 walkAll s rows columns first = walk s rows columns (rows * columns + 1) first 0
 
+-- the walk of a sheet, by its head
 unfoldable pub chainOf : List ℕ → Walk
 chainOf s = walkAll s (rowsOf s) (columnsOf s) (firstOf s)

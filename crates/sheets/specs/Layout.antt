@@ -6,14 +6,14 @@ use lib.Dec.{leb, eqb}
 use lib.ListN.{length, getD}
 use Rattle.sheets.specs.declared.layout.Record.{Record}
 
--- little-endian numbers at byte p
+-- the little-endian numbers of two and of four bytes at byte p
 unfoldable pub u16At : List ℕ → ℕ → ℕ
 u16At s p = getD s p 0 + 256 * getD s (p + 1) 0
 
 unfoldable pub u32At : List ℕ → ℕ → ℕ
 u32At s p = getD s p 0 + 256 * getD s (p + 1) 0 + 65536 * getD s (p + 2) 0 + 16777216 * getD s (p + 3) 0
 
--- the n bytes from p on are zero
+-- whether the n bytes from p on are zero
 unfoldable pub blank : List ℕ → ℕ → ℕ → Bool
 blank s p zero = true
 blank s p (suc n) = cond (eqb (getD s p 0) 0) (blank s (p + 1) n) false
@@ -43,7 +43,7 @@ columnsOf s = getD s 3 0
 abbrev pub countOf : List ℕ → ℕ
 countOf s = u16At s 4
 
--- 6 on length and head is not met: a multiple of 16 from 16 to 16,400, the record count, the rest of the head zero
+-- whether length and head pass refusal 6: the length is a multiple of 16 from 16 to 16,400 and fits the record count; the rest of the head is zero
 unfoldable pub framed : List ℕ → Bool
 framed s =
     cond (eqb (length s % 16) 0)

@@ -1,4 +1,4 @@
--- The sheet that a matrix is written as. Definitions only (01, "The coupling sheet").
+-- The bytes of the sheet that is written for a matrix. Definitions only (01, "The coupling sheet").
 use mathlib.Core.Bool.{cond}
 use mathlib.Core.List.{List, [], _∷_, _++_}
 use Prim.Native.Nat.{ℕ, zero, suc, _+_, _*_, _/_, _%_}
@@ -10,8 +10,8 @@ use Rattle.sheets.specs.Cell.{handedOf}
 
 -- ---- bytes
 
--- a record: next, row, column, two numbers of four bytes, and zeros (class 0 and bytes 13 to 15).
--- The head has the same form, with the index of the first cell, rows, columns and the number of records
+-- a record: next index, row, column, lower and upper bound, then zeros (wear class 0 and bytes 13 to 15).
+-- The head has the same form: index of the first cell, rows, columns, number of records and 0
 unfoldable pub recordBytes : ℕ → ℕ → ℕ → ℕ → ℕ → List ℕ
 recordBytes n r c l u =
     n % 256 ∷ n / 256 % 256 ∷ r ∷ c
@@ -19,29 +19,32 @@ recordBytes n r c l u =
     ∷ u % 256 ∷ u / 256 % 256 ∷ u / 65536 % 256 ∷ u / 16777216 % 256
     ∷ 0 ∷ 0 ∷ 0 ∷ 0 ∷ []
 
--- `out` with `bytes` put in from m on
+-- `out` with `bytes` written from index m on
 unfoldable pub over : ℕ → List ℕ → List ℕ → List ℕ
 over m bytes out = take m out ++ bytes ++ drop (m + length bytes) out
 
 -- ---- the cells that are not [0, 0], by rows
 
+-- the cell at position p of the matrix with the bounds lo and up
 abbrev pub cellAt : List ℕ → List ℕ → ℕ → HandedIn
 cellAt lo up p = handedOf (getD lo p 0) (getD up p 0)
 
+-- how many records a cell gets: 0 or 1
 unfoldable pub tally : HandedIn → ℕ
 tally H.Zero = 0
 tally (H.Cell a b) = 1
 tally (H.Faulty n) = 0
 
--- how many of the first p
+-- how many records the first p cells get
 unfoldable pub countTo : List ℕ → List ℕ → ℕ → ℕ
 countTo lo up zero = 0
 countTo lo up (suc p) = countTo lo up p + tally (cellAt lo up p)
 
--- the index after k of a chain 1, 2, .. total, k = 0 being the head; 0 where it ends
+-- the next index in record k of a chain of records 1 to `total`, where record 0 is the head: k + 1, or 0 in the last record
 unfoldable pub nextOf : ℕ → ℕ → ℕ
 nextOf total k = cond (ltb k total) (k + 1) 0
 
+-- the record of a cell, or no bytes for [0, 0]
 unfoldable pub cellBytes : ℕ → ℕ → ℕ → HandedIn → List ℕ
 cellBytes n r c H.Zero = []
 cellBytes n r c (H.Cell a b) = recordBytes n r c a b

@@ -1,4 +1,4 @@
-// The two bounds of one cell: as they are handed in to be written, and as they are widened when they are read.
+// The two bounds of one cell: checked before they are written, and widened by the wear class when they are read.
 ghost use mathlib.Core.Path.{_≡_};
 ghost use Prim.Native.Nat.{_<_};
 ghost use Rattle.binary32.specs.Number.{Finite};
@@ -10,14 +10,14 @@ use intervals::Bounded;
 use intervals::check;
 use intervals::outward;
 
-// A cell that is handed in: [0, 0], or its bounds with minus zero as 0; or 3 or 4.
+// A cell to be written: [0, 0], which gets no record; its bounds, with minus zero replaced by 0; or the number of its fault, 3 or 4.
 pub enum HandedIn {
     Zero,
     Cell(u32, u32),
     Faulty(u8),
 }
 
-// The pattern of the same number: minus zero as 0.
+// The pattern p, or 0 for minus zero.
 fn canonical(p: u32) -> u32
     requires { ⌜ Finite p ⌝ }
     ensures { λ r. ⌜ r ≡ canonicalOf p ⌝ }
@@ -25,7 +25,7 @@ fn canonical(p: u32) -> u32
     if p == 0x8000_0000 { 0 } else { p }
 }
 
-// Whether [a, b] is [0, 0], for two patterns with minus zero as 0.
+// Whether both patterns are 0.
 fn is_zero(a: u32, b: u32) -> bool
     ensures { λ r. ⌜ r ≡ bothZero a b ⌝ }
 {
@@ -35,6 +35,7 @@ fn is_zero(a: u32, b: u32) -> bool
     b == 0
 }
 
+// Checks a cell that is to be written.
 pub fn handed(lower: u32, upper: u32) -> HandedIn
     ensures { λ r. ⌜ r ≡ handedOf lower upper ⌝ }
 {
@@ -50,7 +51,7 @@ pub fn handed(lower: u32, upper: u32) -> HandedIn
     HandedIn::Cell(a, b)
 }
 
-// A cell that 3 and 4 pass, moved outward by its class. Class 0 leaves the numbers as they are.
+// A cell without fault, its bounds moved outward by the amount of its wear class. Class 0 leaves their values as they are.
 pub fn widen(lower: u32, upper: u32, class: usize) -> Bounded
     requires { ⌜ («class» < 8) × (faultOf lower upper ≡ 0) ⌝ }
     ensures { λ r. ⌜ bounded r ≡ outwardOf lower upper (amountOf «class») ⌝ }
@@ -61,7 +62,7 @@ pub fn widen(lower: u32, upper: u32, class: usize) -> Bounded
     outward(lower, upper, crate::wear::amount(class))
 }
 
-// 5: whether `widen` finds no number. An amount is so small that it moves none but the largest number past all.
+// Whether `widen` would overflow (refusal 5). An amount is at most 2^-4, so only the lower bound -MAX and the upper bound MAX do.
 pub fn overflows(lower: u32, upper: u32, class: usize) -> bool
     requires { ⌜ («class» < 8) × (faultOf lower upper ≡ 0) ⌝ }
     ensures { λ r. ⌜ OverflowOf (outwardOf lower upper (amountOf «class»)) r ⌝ }

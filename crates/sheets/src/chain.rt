@@ -1,4 +1,4 @@
-// The chain of a sheet's cells, followed to judge it: 7, 8, 6, 10, 3, 4, 5 of each record on the way. Nothing is widened.
+// Follows the chain of a sheet's cells and checks each record for refusals 7, 8, 6, 10, 3, 4 and 5, in this order. Writes nothing.
 ghost use mathlib.Core.Path.{_≡_};
 ghost use Prim.Native.Nat.{_+_, _*_, _≤_};
 ghost use lib.ListN.{length};
@@ -11,7 +11,7 @@ use intervals::check;
 use refusals::Outcome;
 use refusals::Refusal;
 
-// A cell of the chain, widened; position: row × columns + column.
+// A cell of the chain with its widened bounds. `next` is the index of the next record, `position` is row × columns + column.
 pub struct Cell {
     pub next: usize,
     pub position: usize,
@@ -19,12 +19,13 @@ pub struct Cell {
     pub upper: u32,
 }
 
+// A cell of the chain, or the refusal of its record.
 pub enum Step {
     Cell(Cell),
     Refused(Refusal),
 }
 
-// One record of the chain: 7, 8, 6, 10, 3, 4, 5. Its position must be least or more: the cell before stands at least - 1.
+// Checks one record of the chain: 7, 8, 6, 10, 3, 4, 5. Its position must be `least` or more, one past that of the cell before it.
 fn judge(rows: usize, columns: usize, least: usize, r: Record) -> Outcome
     requires { ⌜ (rows ≤ 32) × (columns ≤ 32) ⌝ }
     ensures { λ v. ⌜ outcome v ≡ then (judgeOf rows columns least r) done ⌝ }
@@ -60,7 +61,7 @@ fn judge(rows: usize, columns: usize, least: usize, r: Record) -> Outcome
     Outcome::Done
 }
 
-// Whether the chain passes, from its first index on.
+// Checks the whole chain, whose first record has the index `first`. Index 0 ends the chain.
 pub fn follow(s: &[u8], rows: usize, columns: usize, first: usize) -> Outcome
     requires { ⌜ (rows ≤ 32) × (columns ≤ 32) × (16 * countOf (now s) ≡ length (now s)) ⌝ }
     ensures { λ v. ⌜ outcome v ≡ walkAll (now (s .entry)) rows columns first .verdict ⌝ }

@@ -1,10 +1,10 @@
-// The layout of a coupling sheet: little-endian numbers, records of 16 bytes, and the head in record 0.
+// The layout of a coupling sheet: records of 16 bytes, of which record 0 is the head, with little-endian numbers.
 ghost use mathlib.Core.Path.{_≡_};
 ghost use Prim.Native.Nat.{_+_, _*_, _≤_, _<_};
 ghost use lib.ListN.{length, getD};
 ghost use Rattle.sheets.specs.Layout.{u16At, u32At, blank, recordOf, framed};
 
-// A record read as a cell; spare: its last three bytes are zero.
+// A record read as a cell. `wear` is its wear class, and `spare` says whether its last three bytes are zero.
 pub struct Record {
     pub next: usize,
     pub row: usize,
@@ -15,6 +15,7 @@ pub struct Record {
     pub spare: bool,
 }
 
+// Byte p of s.
 pub fn byte(s: &[u8], p: usize) -> usize
     requires { ⌜ p < length (now s) ⌝ }
     ensures { λ r. ⌜ (r ≡ getD (now (s .entry)) p 0) × (r < 256) ⌝ }
@@ -22,6 +23,7 @@ pub fn byte(s: &[u8], p: usize) -> usize
     s[p] as usize
 }
 
+// The two-byte number at byte p.
 pub fn u16_at(s: &[u8], p: usize) -> usize
     requires { ⌜ p + 1 < length (now s) ⌝ }
     ensures { λ r. ⌜ (r ≡ u16At (now (s .entry)) p) × (r < 65536) ⌝ }
@@ -29,6 +31,7 @@ pub fn u16_at(s: &[u8], p: usize) -> usize
     byte(s, p) + 256 * byte(s, p + 1)
 }
 
+// The four-byte number at byte p.
 fn u32_at(s: &[u8], p: usize) -> u32
     requires { ⌜ p + 3 < length (now s) ⌝ }
     ensures { λ r. ⌜ r ≡ u32At (now (s .entry)) p ⌝ }
@@ -77,7 +80,7 @@ pub fn record_at(s: &[u8], i: usize) -> Record
     }
 }
 
-// 6 on length and head: whether it is not met.
+// Whether length and head pass the check for refusal 6.
 pub fn is_framed(s: &[u8]) -> bool
     ensures { λ r. ⌜ r ≡ framed (now (s .entry)) ⌝ }
 {

@@ -1,4 +1,4 @@
-// The coupling sheet: a matrix of intervals as records of 16 bytes, chained by a next index. Reads, writes, and checks of both.
+// The coupling sheet: a matrix of intervals as records of 16 bytes, each with the index of the next one. Reading, writing, and the checks of both.
 ghost use mathlib.Core.Path.{_≡_};
 ghost use lib.ListN.{length};
 ghost use Rattle.sheets.specs.Reading.{shape, readOf, lowersAfter, uppersAfter};
@@ -19,19 +19,19 @@ use refusals::Refusal;
 use refusals::sizes::check_fit;
 use tally::Tallied;
 
-// What a read answers: rows and columns of the matrix, or why it is refused.
+// The answer of a read: rows and columns of the matrix, or the refusal.
 pub enum Shape {
     Sizes(usize, usize),
     Refused(Refusal),
 }
 
-// What a write answers: the length of the sheet, or why it is refused.
+// The answer of a write: the length of the sheet in bytes, or the refusal.
 pub enum Written {
     Bytes(usize),
     Refused(Refusal),
 }
 
-// The answer of a read into slices of these lengths: 6 on length and head, 1, 2, then the chain's cells.
+// The answer of a read into slices of these lengths. Checks length and head (6), sizes (1), slice lengths (2), then each cell of the chain.
 pub fn check_read(s: &[u8], lowers: usize, uppers: usize) -> Shape
     ensures { λ r. ⌜ shape r ≡ readOf (now (s .entry)) lowers uppers ⌝ }
 {
@@ -49,7 +49,7 @@ pub fn check_read(s: &[u8], lowers: usize, uppers: usize) -> Shape
     }
 }
 
-// Reads the sheet's matrix into the front of the two slices; on a refusal they stay as they are.
+// Reads the matrix of a sheet into the front of the two slices; a refusal leaves both as they were.
 pub fn read(s: &[u8], lowers: &mut [u32], uppers: &mut [u32]) -> Shape
     ensures answer { λ r. ⌜ shape r ≡ readOf (now (s .entry)) (length (now (lowers .entry))) (length (now (uppers .entry))) ⌝ }
     ensures below { λ r. ⌜ now (lowers .exit) ≡ lowersAfter (now (s .entry)) (shape r) (now (lowers .entry)) ⌝ }
@@ -66,7 +66,7 @@ pub fn read(s: &[u8], lowers: &mut [u32], uppers: &mut [u32]) -> Shape
     }
 }
 
-// The answer of a write into a buffer of this length: 1, 2, 3 and 4 by cells, 11.
+// The answer of a write into a buffer of `room` bytes. Checks sizes (1), slice lengths (2), the cells by rows (3, 4), then the room (11).
 pub fn check_write(
     rows: usize,
     columns: usize,
@@ -91,8 +91,8 @@ pub fn check_write(
     }
 }
 
-// Writes the matrix's sheet into the front of out; on a refusal out stays as it is.
-// What is written, `read` reads back as the same matrix by value.
+// Writes the sheet of a matrix into the front of out; a refusal leaves out as it was.
+// `read` of what was written gives a matrix with the same values.
 pub fn put(rows: usize, columns: usize, lowers: &[u32], uppers: &[u32], out: &mut [u8]) -> Written
     ensures answer { λ r. ⌜ written r ≡ writeOf rows columns (now (lowers .entry)) (now (uppers .entry)) (length (now (out .entry))) ⌝ }
     ensures left { λ r. ⌜ now (out .exit) ≡ outAfter rows columns (now (lowers .entry)) (now (uppers .entry)) (written r) (now (out .entry)) ⌝ }
@@ -117,8 +117,8 @@ pub fn put(rows: usize, columns: usize, lowers: &[u32], uppers: &[u32], out: &mu
     }
 }
 
-// The same, and hands back the written front part of out itself: it starts where out does, and is empty on a refusal.
-// What is left in the rest of out is `put`'s to say.
+// The same, but returns the part of out that was written, from its start; the part is empty on a refusal.
+// The contract of `put` says what is left in the rest of out.
 pub fn write<'a, 'b>(
     rows: usize,
     columns: usize,

@@ -1,4 +1,4 @@
-// The matrix of a sheet whose chain passes: zeros, and each cell, widened, in its position.
+// The matrix of a sheet whose chain passed all checks (chain.rt): each cell of the chain, widened, is put at its position.
 ghost use mathlib.Core.Path.{_≡_};
 ghost use Prim.Native.Nat.{_+_, _*_, _≤_, _<_};
 ghost use lib.ListN.{length};
@@ -16,7 +16,7 @@ use crate::layout::record_at;
 use intervals::Bounded;
 use refusals::Refusal;
 
-// The cell of a record that passes.
+// The widened cell of a record that passed all checks.
 fn passed(columns: usize, r: Record) -> Step
     requires { ⌜ (columns ≤ 32) × (r .row < 32) × (r .column < 32) × (r .wear < 8) × (faultOf (r .lower) (r .upper) ≡ 0) ⌝ }
     ensures { λ s. ⌜ stepped s ≡ cellFrom columns r (widenedOf (r .lower) (r .upper) (amountOf (r .wear))) ⌝ }
@@ -38,7 +38,7 @@ fn passed(columns: usize, r: Record) -> Step
     }
 }
 
-// Puts the cells of a chain that passes in their positions. The rising positions show that the walk ends.
+// Puts the cells of the chain at their positions. The loop ends because positions rise; `least` serves only that proof.
 pub fn fill(
     s: &[u8],
     rows: usize,

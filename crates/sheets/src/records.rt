@@ -1,4 +1,4 @@
-// The cells of a matrix as the records of a sheet, written into a buffer.
+// Writes the cells of a matrix into a buffer as the records of a sheet.
 ghost use mathlib.Core.Path.{_≡_};
 ghost use mathlib.Core.List.{_++_};
 ghost use Prim.Native.Nat.{_+_, _*_, _≤_, _<_};
@@ -8,7 +8,7 @@ ghost use Rattle.sheets.specs.Sheet.{recordBytes, over, tally, countTo, 
 use crate::cell::HandedIn;
 use crate::cell::handed;
 
-// The sixteen bytes of a record, class 0.
+// The 16 bytes of a record with wear class 0. The head has the same form, with the record count in place of the lower bound.
 fn record_bytes(next: usize, row: usize, column: usize, lower: u32, upper: u32) -> [u8; 16]
     requires { ⌜ (row < 256) × (column < 256) ⌝ }
     ensures { λ r. ⌜ r ≡ recordBytes next row column lower upper ⌝ }
@@ -33,7 +33,7 @@ fn record_bytes(next: usize, row: usize, column: usize, lower: u32, upper: u32) 
     ]
 }
 
-// A record's sixteen bytes, from at on.
+// Writes the 16 bytes of a record from index `at` on.
 pub fn put_record(
     out: &mut [u8],
     at: usize,
@@ -54,7 +54,7 @@ pub fn put_record(
     }
 }
 
-// The index after k of the chain 1, 2, .. total; 0 at its end.
+// The next index in record k of a chain of records 1 to `total`: k + 1, or 0 in the last record.
 pub fn next_of(total: usize, k: usize) -> usize
     requires { ⌜ k ≤ 1024 ⌝ }
     ensures { λ r. ⌜ r ≡ nextOf total k ⌝ }
@@ -62,7 +62,7 @@ pub fn next_of(total: usize, k: usize) -> usize
     if k < total { k + 1 } else { 0 }
 }
 
-// One cell's record as number k + 1, unless it is [0, 0]; hands back the number of cells written so far.
+// Writes a cell as record k + 1, unless it is [0, 0]; returns the number of cells written so far.
 fn put_cell(
     out: &mut [u8],
     k: usize,
@@ -86,7 +86,7 @@ fn put_cell(
     }
 }
 
-// The cells' records behind the head.
+// Writes the records of all cells that are not [0, 0] behind the head.
 pub fn put_cells(
     out: &mut [u8],
     columns: usize,

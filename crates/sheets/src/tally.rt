@@ -1,4 +1,4 @@
-// The count of a matrix's cells that are not [0, 0], with 3 and 4 by cells.
+// Checks the cells of a matrix that is to be written, and counts those that are not [0, 0].
 ghost use mathlib.Core.Path.{_≡_};
 ghost use Prim.Native.Nat.{_*_, _≤_, _<_};
 ghost use lib.ListN.{length};
@@ -7,12 +7,13 @@ use crate::cell::HandedIn;
 use crate::cell::handed;
 use refusals::Refusal;
 
+// The count, or the refusal of the first faulty cell.
 pub enum Tallied {
     Counted(usize),
     Refused(Refusal),
 }
 
-// 3 and 4 by cells; else the number of cells that are not [0, 0].
+// Refusal 3 or 4 for the first faulty cell by rows, or the number of cells that are not [0, 0].
 pub fn scan(columns: usize, cells: usize, lowers: &[u32], uppers: &[u32]) -> Tallied
     requires { ⌜ (0 < columns) × (columns ≤ 32) × (cells ≤ 32 * columns) × (cells ≤ length (now lowers)) × (cells ≤ length (now uppers)) ⌝ }
     ensures { λ r. ⌜ tallied r ≡ scanTo columns (now (lowers .entry)) (now (uppers .entry)) cells ⌝ }

@@ -1,11 +1,11 @@
-// The wear classes: how far a cell is widened when it is read.
+// The amount of each wear class: how far both bounds of a cell are moved outward when it is read.
 ghost use mathlib.Core.Path.{_≡_};
 ghost use Prim.Native.Nat.{_<_};
 ghost use lib.IntN.{pos};
 ghost use Rattle.binary32.specs.Number.{valueOf};
 ghost use Rattle.sheets.specs.Wear.{unitsOf, amountOf};
 
-// 0 for class 0, 2^(c-11) for class c from 1 to 7.
+// The patterns of the amounts: 0 for class 0, 2^(c - 11) for class c from 1 to 7.
 const WEAR: [u32; 8] = [
     0,
     0x3A80_0000,
@@ -17,6 +17,7 @@ const WEAR: [u32; 8] = [
     0x3D80_0000,
 ];
 
+// The amount of a class.
 pub fn amount(class: usize) -> u32
     requires { ⌜ «class» < 8 ⌝ }
     ensures { λ r. ⌜ (r ≡ amountOf «class») × (valueOf r ≡ pos (unitsOf «class»)) ⌝ }

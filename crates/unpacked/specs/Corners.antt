@@ -1,4 +1,4 @@
--- The corner products of two cells [al, au] and [bl, bu]: each rounded, and exact. Definitions only.
+-- The corner products of two cells [al, au] and [bl, bu], rounded and exact, and their order. Definitions only.
 use mathlib.Core.Path.{_≡_}
 use mathlib.Core.Bool.{cond}
 use mathlib.Core.Option.{Option, some, bind}
@@ -12,7 +12,9 @@ use Rattle.unpacked.specs.declared.Number.{Number}
 use Rattle.unpacked.specs.declared.Corner.{Corner}
 use Rattle.unpacked.specs.Exact.{ProductIs}
 
--- ---- rounded: the least of the four, each rounded down; the greatest, each rounded up
+-- ---- rounded: the least of the four products, each rounded down, and the greatest, each rounded up
+
+-- f of four results, or none where one of them is none
 
 abbrev pub all₄ : (ℤ → ℤ → ℤ → ℤ → ℤ) → Option ℤ → Option ℤ → Option ℤ → Option ℤ → Option ℤ
 all₄ f w x y z = bind w λ p. bind x λ q. bind y λ r. bind z λ s. some (f p q r s)
@@ -25,21 +27,23 @@ greatestProduct al au bl bu = all₄ greatest₄ (mul up al bl) (mul up al bu) (
 
 -- ---- exact
 
--- one of the two extremes of the four exact products
+-- the least or the greatest (f) of the four exact products
 abbrev pub corner₄ : (ℤ → ℤ → ℤ → ℤ → ℤ) → ℤ → ℤ → ℤ → ℤ → ℤ
 corner₄ f al au bl bu = f (al *ℤ bl) (al *ℤ bu) (au *ℤ bl) (au *ℤ bu)
 
--- ---- ranks
+-- ---- ranks: integers that are ordered as the products are
 
--- exponent and digits in one number
+-- |sig| + e × 2 ^ 47 with the sign of sig: 2 ^ 47 is the least significand of a product that is not zero
 unfoldable pub rankOf : ℤ → ℕ → ℤ
 rankOf (pos n) e = pos n +ℤ pos (e * 2 ^ 47)
 rankOf (negsuc n) e = negsuc n -ℤ pos (e * 2 ^ 47)
 
+-- r is the exact product of x and y, with its rank
 pub record CornerIs (x y : Number) (r : Corner) : Type 0 where
   pub product : ProductIs x y (r .product)
   pub rank : r .rank ≡ rankOf (r .product .sig) (r .product .exp)
 
+-- the corner with the lesser rank, and with the greater
 unfoldable pub lesserOf : Corner → Corner → Corner
 lesserOf x y = cond (leZ (x .rank) (y .rank)) x y
 

@@ -1,28 +1,41 @@
-// Numbers unpacked into significand and exponent, and what their sums and products become on the way: the forms, with their definitions in specs/ and
-// their laws in proofs/. The functions on them are private modules of `products`, since they need operands in normal form.
+// The forms in which the crate `products` keeps numbers, sums and exact products while it works: a signed significand and an exponent, in place of a pattern.
+// Their definitions are in specs/, their laws in proofs/. The functions on them are private modules of `products`, since they need operands in normal form.
 ghost use mathlib.Core.Path.{_≡_};
 ghost use lib.Dec.{ltb};
 ghost use Rattle.unpacked.specs.Number.{zeroNumber, noNumber, minusTiny};
 
-// sig × 2^(exp - 400) units: 24 digits, or 2^24. Zero has the exponent 64, far below all others; none, a value far below all numbers, has 2000.
+// The bias of a Number's exponent: its value is sig × 2^(exp - BIAS) units. The smallest number, 2^23 × 2^-23 units, has the exponent 377.
+pub const BIAS: u32 = 400;
+
+// The exponent of zero: far below 377, so that zero is the summand that is shifted, and 60 or more, so that normalising a sum makes no exponent negative.
+pub const ZERO_EXPONENT: u32 = 64;
+
+// The exponent of the largest number, which is (2^24 - 1) × 2^253 units.
+pub const LARGEST_EXPONENT: u32 = BIAS + 253;
+
+// The exponent of none. A sum with none has an exponent near it, a product with none a larger one than any product of two numbers.
+pub const NONE_EXPONENT: u32 = 2000;
+
+// A number, sig × 2^(exp - BIAS) units, with |sig| from 2^23 to 2^24, or zero; or none, which stands for an overflow or a pattern with exponent field 255.
+// None is a negative value far below all numbers, so that a sum with it is far below all numbers too.
 pub struct Number {
     pub sig: i64,
     pub exp: u32,
 }
 
-// A sum before it is rounded: w × 2^(exp - 436) units.
+// The sum of two numbers before it is rounded: w × 2^(exp - 436) units. 436 is BIAS + 36, since w has 36 guard bits.
 pub struct Aligned {
     pub w: i64,
     pub exp: u32,
 }
 
-// An exact product: sig × 2^(exp - 950) units, 48 digits.
+// The exact product of two numbers: sig × 2^(exp - 950) units, with |sig| from 2^47 to 2^48, or zero.
 pub struct Product {
     pub sig: i64,
     pub exp: u32,
 }
 
-// An exact product and its rank among all: exponent and digits in one whole number, whose order is that of the products.
+// An exact product and its rank: an integer made of exponent and significand, such that ranks are ordered as the products are.
 pub struct Corner {
     pub product: Product,
     pub rank: i64,
@@ -31,7 +44,10 @@ pub struct Corner {
 pub fn zero() -> Number
     ensures { λ r. ⌜ r ≡ zeroNumber ⌝ }
 {
-    Number { sig: 0, exp: 64 }
+    Number {
+        sig: 0,
+        exp: ZERO_EXPONENT,
+    }
 }
 
 pub fn none() -> Number
@@ -39,11 +55,11 @@ pub fn none() -> Number
 {
     Number {
         sig: -0x80_0000,
-        exp: 2000,
+        exp: NONE_EXPONENT,
     }
 }
 
-// -2^-125: 2^23 × 2^(401 - 400) units, with the other sign.
+// -2^-125, which is -2^23 × 2^1 units: what method 3 adds to a radius, negated. 401 is BIAS + 1.
 pub fn minus_tiny() -> Number
     ensures { λ r. ⌜ r ≡ minusTiny ⌝ }
 {
@@ -53,9 +69,9 @@ pub fn minus_tiny() -> Number
     }
 }
 
-// Whether x, a number or none, is none.
+// Whether x is none: its exponent is above that of the largest number.
 pub fn is_none(x: Number) -> bool
     ensures { λ r. ⌜ r ≡ ltb 653 (x .exp) ⌝ }
 {
-    653 < x.exp
+    LARGEST_EXPONENT < x.exp
 }
