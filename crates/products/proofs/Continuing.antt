@@ -1,5 +1,5 @@
 -- Sums continued over the pairs of a row and a column: a step makes a sum of one pair more of them, a pair with a zero factor is passed over,
--- and a sum that was refused stays refused.
+-- and a sum that was refused stays refused. Before that, what a step takes from the radius of method 7: the magnitude of a product, rounded down.
 use mathlib.Core.Path.{_≡_, refl, sym, ap, ap₂, _∙_, subst}
 use mathlib.Core.Bool.{Bool, true, false, cond}
 use mathlib.Core.List.{[], _∷_}
@@ -122,6 +122,7 @@ module _ (p : Line) where
       let z = adds-not (first p l) (second p l) t in
       (up-same _ v l (zero-sizes (first p l) (second p l) (z .0) (z .1) up up-zero) s (S .0), S .1)
 
+  -- at the first overflow
   pub growth-none : (x : Number) (l : ℕ) (s r : Number) → l < p .k → GrowthRuns (negℤ (worth x)) l s → Grown s (first p l) (second p l) r → ltb 653 (r .exp) ≡ true → Continued p x r
   unfolding grownBy
   growth-none x l s r m S G t =
@@ -129,6 +130,7 @@ module _ (p : Line) where
       let e = holds-none _ r h t in
       subst (λ w. Holds w r) (e ∙ sym (ap negate (sum-stays (up binary32 1) _ (negℤ (worth x)) l (p .k) m (negate-none _ e)))) h
 
+  -- after all pairs
   pub growth-whole : (x : Number) (l : ℕ) (r : Number) → l ≡ p .k → GrowthRuns (negℤ (worth x)) l r → Continued p x r
   unfolding GrowthRuns
   growth-whole x l r e S = subst (λ n. Holds (negate (grownBy p (negℤ (worth x)) n)) r) e (runs-holds (S .0))
@@ -159,12 +161,12 @@ module _ (p : Line) where
       let w = second p l in
       centred-same _ _ _ _ _ _ l r (zero-product u w z f down down-zero) (zero-product u w z f up up-zero) (ap negate (zero-sizes u w z f down down-zero)) S
 
-  -- the sums of all pairs
+  -- after all pairs
   pub parts-whole : (s : Centred) (l : ℕ) (r : Centred) → l ≡ p .k → PartsSum p s l r → PartsAdded p s r
   parts-whole s l r e S =
       let W : PartsSum p s (p .k) r = subst (λ n. PartsSum p s n r) e S in
       record { numbers = λ t. W; refused = λ t. centred-none _ _ _ r (centred-holds r W) t }
 
-  -- refused at pair l
+  -- where a step was refused
   pub parts-refused : (s : Centred) (r : Centred) → refusedCentred r ≡ true → PartsNone p s (p .k) → PartsAdded p s r
   parts-refused s r t N = record { numbers = λ f. true-false (sym t ∙ f); refused = λ u. N }

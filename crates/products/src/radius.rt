@@ -21,7 +21,8 @@ fn grown(radius: Number, u: u32, v: u32) -> Number
     plus_negative(radius, rounded_up(times(unpack(a), unpack(b))))
 }
 
-// |u| × |w| more for each pattern u in row i of ra, which has k columns, and its w in column j of wb, which has n. The loop ends at the first overflow, and the result is then none.
+// |u| × |w| more for each l below k, with u in row i and column l of ra (k columns) and w in row l and column j of wb (n columns).
+// The loop ends at the first overflow, and the result is then none.
 pub fn outer(
     radius: Number,
     k: usize,

@@ -1,4 +1,5 @@
-// Method 7: the entries by rows, the sums of method 4 continued with the parts: their products more in both centres, their magnitudes' products less in the radius; until the first that is refused.
+// Method 7: the entries by rows, until the first that is refused. The sums of method 4 are continued with the products of the parts:
+// these are added to both centres, and their magnitudes are taken from the radius.
 ghost use lib.ListN.{length};
 ghost use Prim.Native.Nat.{_*_};
 ghost use Rattle.enclosure.specs.Methods.{seven};
@@ -15,7 +16,7 @@ use crate::sums::ends;
 use unpacked::Number;
 use unpacked::is_none;
 
-// The sums after a step with each x in row i of pa, which has k columns, and its y in column j of pb, which has n.
+// The sums after a step for each l below k, with x in row i and column l of pa (k columns) and y in row l and column j of pb (n columns).
 // The loop ends at the first overflow, and the result is then refused.
 fn parts(
     lower: Number,
@@ -28,8 +29,11 @@ fn parts(
     pa: &[u32],
     pb: &[u32],
 ) -> Centred
-    requires { ⌜ AllNumbers (record { lower = lower; opposed = opposed; radius = radius }) × Reaches (record { k = k; n = n; i = i; j = j; row = now pa; column = now pb }) × Numbers (record { k = k; n = n; i = i; j = j; row = now pa; column = now pb }) ⌝ }
-    ensures { λ r. ⌜ PartsAdded (record { k = k; n = n; i = i; j = j; row = now (pa .entry); column = now (pb .entry) }) (record { lower = lower; opposed = opposed; radius = radius }) r ⌝ }
+    requires { ⌜ AllNumbers (record { lower = lower; opposed = opposed; radius = radius })
+        × Reaches (record { k = k; n = n; i = i; j = j; row = now pa; column = now pb })
+        × Numbers (record { k = k; n = n; i = i; j = j; row = now pa; column = now pb }) ⌝ }
+    ensures { λ r. ⌜ PartsAdded (record { k = k; n = n; i = i; j = j; row = now (pa .entry); column = now (pb .entry) })
+        (record { lower = lower; opposed = opposed; radius = radius }) r ⌝ }
 {
     let mut s = Centred {
         lower: lower,
