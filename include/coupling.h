@@ -93,8 +93,8 @@ extern "C" {
      matrix 1     A's sheet, as coupling_read refuses it (never 2)
      matrix 2     B's sheet, likewise
      1, matrix 2  A's columns are not B's rows
-     5, matrix 3  a step of this entry, the first such by rows, has no finite
-                  number
+     5, matrix 3  a result is too large for binary32, in a step of this entry,
+                  the first such by rows
      11, matrix 3 out is shorter than the product's sheet
    The ranges that were written enclose: whatever numbers are picked, one from
    each cell of a row of A and of a column of B, as read, the sum of the products
@@ -127,9 +127,9 @@ uint32_t coupling_write(size_t rows, size_t columns, const uint32_t *lowers, siz
      2            an array is shorter than its cells: A (matrix 1), B (2), work
                   (0), result (3)
      3, 4         A's cells by rows (matrix 1), then B's (2)
-     5, matrix 3  a step of this entry, the first such by rows, has no finite
-                  number: the result's cells are then 0, and the work arrays hold
-                  midpoints and radii
+     5, matrix 3  a result is too large for binary32, in a step of this entry,
+                  the first such by rows: the result's cells are then 0, and the
+                  work arrays hold midpoints and radii
    The ranges enclose, as those of coupling_multiply do. */
 uint32_t coupling_product(uint32_t method, size_t a_rows, size_t a_columns, size_t b_rows, size_t b_columns,
                           const uint32_t *a_lowers, size_t a_lowers_len, const uint32_t *a_uppers, size_t a_uppers_len,
@@ -144,7 +144,8 @@ uint32_t coupling_product(uint32_t method, size_t a_rows, size_t a_columns, size
    rounded once: down to the greatest number not above it, up to the least not
    below it, or to nearest, ties to even. Each returns the pattern of the result,
    or COUPLING_INFINITY + number: 3 where a or b has exponent field 255, 5 where
-   no finite number is right. COUPLING_OPERATION_REFUSED tells the two apart. */
+   the result is too large for binary32. COUPLING_OPERATION_REFUSED tells the two
+   apart. */
 uint32_t coupling_add_down(uint32_t a, uint32_t b);
 uint32_t coupling_add_up(uint32_t a, uint32_t b);
 uint32_t coupling_add_near(uint32_t a, uint32_t b);

@@ -42,7 +42,8 @@ fn multiply(
     up: &mut [u32],
 ) -> Outcome
     ensures { λ r. ⌜ Multiplied (given method «a_rows» «a_columns» «b_rows» «b_columns» (now (al .entry)) (now (au .entry)) (now (bl .entry)) (now (bu .entry))
-        mostCells mostCells mostCells mostCells (length (now (lo .entry))) (length (now (up .entry)))) (now (lo .entry)) (now (up .entry)) r (now (lo .exit)) (now (up .exit)) ⌝ }
+        mostCells mostCells mostCells mostCells (length (now (lo .entry))) (length (now (up .entry))))
+        (now (lo .entry)) (now (up .entry)) r (now (lo .exit)) (now (up .exit)) ⌝ }
 {
     let mut ma = [0u32; MOST_CELLS];
     let mut ra = [0u32; MOST_CELLS];

@@ -1,5 +1,5 @@
 // The running sums of methods 4 and 7, a value that takes a pair of factors for the centre and one for the radius and comes back.
-// A step has a function for each loop that takes it: the compiler puts a function with one caller into its loop, and a step is too large to be put into several.
+// Each loop has a step function of its own with the same body: the compiler inlines a function with one caller, and a step is too large to be inlined twice.
 ghost use mathlib.Core.Path.{_≡_};
 ghost use lib.Dec.{ltb};
 ghost use Rattle.binary32.specs.Number.{Finite};
