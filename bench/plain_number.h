@@ -25,7 +25,7 @@ struct number {
 
 static inline bool is_finite(uint32_t p)
 {
-    return !COUPLING_OPERATION_REFUSED(p);
+    return (p & 0x7FFFFFFF) < COUPLING_INFINITY;
 }
 
 static inline struct number decode(uint32_t p)

@@ -33,7 +33,7 @@
    to. No call uses a heap or writable global data, does input or output, or reads
    or changes floating-point state.
 
-   Stack: on x86-64 a call of coupling_multiply took at most 54,072 bytes below
+   Stack: on x86-64 a call of coupling_multiply took at most 54,136 bytes below
    its caller's frame, measured on 32 by 32 by 32 products by each method
    (tests/drivers/stack.c); the other calls take less. COUPLING_STACK bytes are enough for
    each call. */
