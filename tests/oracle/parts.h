@@ -9,6 +9,7 @@
 #define SIGN_BIT 0x80000000u
 #define MAX_SIZE 32
 #define MAX_CELLS 1024
+#define RECORD 16        /* bytes of a record of a sheet */
 
 static const struct refusal ACCEPTED = {0, 0, 0, 0};
 

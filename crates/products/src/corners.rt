@@ -7,7 +7,6 @@ ghost use Rattle.unpacked.specs.Corners.{CornerIs, rankOf, lesserOf, greaterOf}
 use crate::times::times;
 use unpacked::Corner;
 use unpacked::Number;
-use unpacked::Product;
 
 // 2^47, the least significand of 48 bits: of two positive products, the one with the larger exponent has at least as large a rank.
 const RANK_STEP: i64 = 0x8000_0000_0000;

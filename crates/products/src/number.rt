@@ -2,10 +2,10 @@
 ghost use mathlib.Core.Path.{_≡_};
 ghost use mathlib.Core.Option.{some};
 ghost use Prim.Native.Nat.{_^_, _≤_};
-ghost use lib.Dec.{leb, ltb};
+ghost use lib.Dec.{leb};
 ghost use lib.IntN.{natAbs};
 ghost use Rattle.rounding.specs.Format.{binary32, MAX};
-ghost use Rattle.unpacked.specs.Number.{worth, Normal, Holds, Opposite, Absolute, zeroNumber, noNumber, minusTiny};
+ghost use Rattle.unpacked.specs.Number.{worth, Normal, Holds, Opposite, Absolute};
 ghost use Rattle.unpacked.specs.Cuts.{CutDown, OrLow};
 use crate::shifts::GUARD;
 use crate::shifts::digits;
