@@ -19,16 +19,16 @@ use Rattle.products.specs.declared.nearest.Nearest.{Nearest}
 use Rattle.unpacked.specs.Number.{worth, IsNumber, Below, Holds, Runs, zeroNumber}
 use Rattle.products.specs.Running.{plusDown}
 
--- ---- a radius, kept with the other sign, so that it is not above zero and is rounded down
+-- ---- a radius, kept negated: it is not above zero, and rounding it up is rounding down
 
--- what |u| × |v| adds to it, and what it takes away
+-- what is added to it when |u| × |v| is added to the radius, and when |u| × |v| is taken from the radius
 abbrev pub growth : ℕ → ℕ → Option ℤ
 growth u v = negate (with₂ (mul up) (magnitudeOf u) (magnitudeOf v))
 
 abbrev pub shrinkage : ℕ → ℕ → Option ℤ
 shrinkage u v = with₂ (mul down) (magnitudeOf u) (magnitudeOf v)
 
--- r is x with |u| × |v| more
+-- r is the radius x plus |u| × |v|
 abbrev pub Grown : Number → ℕ → ℕ → Number → Type 0
 Grown x u v r = Holds (plusDown (worth x) (growth u v)) r
 
@@ -46,7 +46,7 @@ pub record AllNumbers (s : Centred) : Type 0 where
   pub opposed : IsNumber (s .opposed)
   pub radius : IsNumber (s .radius)
 
--- r is s with x × y more in both centres, and t in the radius
+-- r is s with x × y added to both centres and t to the radius
 pub record Added (s : Centred) (x y : ℕ) (t : Option ℤ) (r : Centred) : Type 0 where
   pub lower : Holds (plusDown (worth (s .lower)) (with₂ (mul down) x y)) (r .lower)
   pub opposed : Holds (plusDown (worth (s .opposed)) (negate (with₂ (mul up) x y))) (r .opposed)
@@ -60,7 +60,7 @@ pub record SizeDown (p : Product) (r : Number) : Type 0 where
 abbrev pub refusedCentred : Centred → Bool
 refusedCentred s = cond (ltb 653 (s .lower .exp)) true (cond (ltb 653 (s .opposed .exp)) true (ltb 653 (s .radius .exp)))
 
--- s is the lower centre, the upper centre and the radius, the last two with the other sign, all numbers
+-- s is the lower centre, the upper centre and the radius, the last two negated, and all are numbers
 pub record CentredSum (low high rad : Option ℤ) (s : Centred) : Type 0 where
   pub lower : Runs low (s .lower)
   pub upper : Runs (negate high) (s .opposed)

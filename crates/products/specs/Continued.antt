@@ -43,30 +43,30 @@ module _ (p : Line) where
   abbrev pub Numbers : Type 0
   Numbers = (l : ℕ) → l < p .k → Finite (second l)
 
-  -- ---- a radius, from v with |u| × |w| more for each of l pairs
+  -- ---- a radius: v plus |u| × |w| for each of the first l pairs, all up
   unfoldable pub grownBy : ℤ → ℕ → Option ℤ
   grownBy v l = sum (up binary32 1) (λ l. with₂ (mul up) (magnitudeOf (first l)) (magnitudeOf (second l))) v l
 
-  -- r is the radius x with all of them, both with the other sign
+  -- r is the radius x after all k pairs; both are kept negated
   abbrev pub Continued : Number → Number → Type 0
   Continued x r = Holds (negate (grownBy (negℤ (worth x)) (p .k))) r
 
-  -- ---- method 7's parts: a centre, from v with x × y more for each of l pairs, and a radius with |x| × |y| less
+  -- ---- method 7's parts: a centre, v plus x × y for each of the first l pairs, and a radius, v less |x| × |y| for each
   unfoldable pub centreBy : Way → ℤ → ℕ → Option ℤ
   centreBy way v l = sum (way binary32 1) (λ l. with₂ (mul way) (first l) (second l)) v l
 
   unfoldable pub shrunkBy : ℤ → ℕ → Option ℤ
   shrunkBy v l = sum (up binary32 1) (λ l. negate (shrinkage (first l) (second l))) v l
 
-  -- r is s with l of them, all numbers
+  -- r is s after the first l pairs, and all three sums are numbers
   abbrev pub PartsSum : Centred → ℕ → Centred → Type 0
   PartsSum s l r = CentredSum (centreBy down (worth (s .lower)) l) (centreBy up (negℤ (worth (s .opposed))) l) (shrunkBy (negℤ (worth (s .radius))) l) r
 
-  -- with l of them one is none
+  -- after the first l pairs one of the three sums is none
   abbrev pub PartsNone : Centred → ℕ → Type 0
   PartsNone s l = OneNone (centreBy down (worth (s .lower)) l) (centreBy up (negℤ (worth (s .opposed))) l) (shrunkBy (negℤ (worth (s .radius))) l)
 
-  -- r is s with all of them, or it is refused and one of the sums is none
+  -- r is s after all k pairs, or it is refused and one of the sums is none
   pub record PartsAdded (s r : Centred) : Type 0 where
     pub numbers : refusedCentred r ≡ false → PartsSum s (p .k) r
     pub refused : refusedCentred r ≡ true → PartsNone s (p .k)

@@ -1,4 +1,4 @@
-// The running sums of methods 4 and 7, a value that takes a pair of factors for the centre and one for the radius and comes back.
+// The running sums of methods 4 and 7: a value whose step adds one product to the centres and one to the radius and hands back the next value.
 // Each loop has a step function of its own with the same body: the compiler inlines a function with one caller, and a step is too large to be inlined twice.
 ghost use mathlib.Core.Path.{_≡_};
 ghost use lib.Dec.{ltb};
@@ -20,7 +20,7 @@ use unpacked::Product;
 use unpacked::is_none;
 use unpacked::zero;
 
-// The lower centre, and the opposites of the upper centre and of the radius: all are rounded down.
+// The lower centre, and the upper centre and the radius negated, so that all three are rounded down.
 pub struct Centred {
     pub lower: Number,
     pub opposed: Number,
@@ -34,7 +34,7 @@ pub fn is_nonzero(p: u32) -> bool
     0 < p % 0x8000_0000
 }
 
-// Whether u × w, where u is a number and w a number or none, adds something or is none.
+// Whether the step for u × w cannot be left out: u is not zero, or w is none. u is a number.
 pub fn adds(u: u32, w: u32) -> bool
     ensures { λ r. ⌜ r ≡ addsOf u w ⌝ }
 {
@@ -66,7 +66,7 @@ impl Centred {
         }
     }
 
-    // Method 4: x × y more in both centres, |x| × |v| in the radius.
+    // Method 4: adds x × y to both centres and |x| × |v| to the radius.
     pub fn step_four(self, x: u32, y: u32, v: u32) -> Centred
         requires { ⌜ AllNumbers self × Below (self .radius) × Finite x ⌝ }
         ensures { λ r. ⌜ Added self x y (growth x v) r ⌝ }
@@ -82,7 +82,7 @@ impl Centred {
         }
     }
 
-    // Method 7, with the midpoints: the same.
+    // Method 7, for the midpoints: the same as in method 4.
     pub fn step_seven(self, x: u32, y: u32, v: u32) -> Centred
         requires { ⌜ AllNumbers self × Below (self .radius) × Finite x ⌝ }
         ensures { λ r. ⌜ Added self x y (growth x v) r ⌝ }
@@ -98,7 +98,7 @@ impl Centred {
         }
     }
 
-    // Method 7, with the parts: x × y more in both centres, |x| × |y| less in the radius.
+    // Method 7, for the parts: adds x × y to both centres and takes |x| × |y| from the radius.
     pub fn step_parts(self, x: u32, y: u32) -> Centred
         requires { ⌜ AllNumbers self ⌝ }
         ensures { λ r. ⌜ Added self x y (shrinkage x y) r ⌝ }
@@ -113,7 +113,7 @@ impl Centred {
         }
     }
 
-    // Whether one of them is none.
+    // Whether one of the three sums is none.
     pub fn refused(self) -> bool
         ensures { λ r. ⌜ r ≡ refusedCentred self ⌝ }
     {

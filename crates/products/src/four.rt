@@ -1,4 +1,4 @@
-// Method 4: the entries by rows, the centre rounded down for the lower end and up for the upper one, until the first that is refused.
+// Method 4: computes the entries by rows up to the first that is refused. The centre is summed twice: down for the lower bound, up for the upper one.
 ghost use lib.ListN.{length};
 ghost use Prim.Native.Nat.{_*_};
 ghost use Rattle.enclosure.specs.Methods.{four};
@@ -12,7 +12,7 @@ use crate::sums::Place;
 use crate::sums::ends;
 use unpacked::is_none;
 
-// From midpoints and radii; wb has |m| + r of B's cells.
+// From midpoints and radii. wb has |m| + r for each cell of B.
 pub fn entries(
     m: usize,
     k: usize,

@@ -1,4 +1,4 @@
-// The running sums of method 3, a value that takes a pair of factors for the centre and one for the radius and comes back.
+// The running sums of method 3: a value whose step adds one product to the centre and one to the radius and hands back the next value.
 ghost use mathlib.Core.Path.{_≡_};
 ghost use Rattle.binary32.specs.Number.{Finite};
 ghost use Rattle.products.specs.Centred.{NearNumbers, NearAdded, refusedNearest, zeroNearest};
@@ -14,7 +14,7 @@ use unpacked::Number;
 use unpacked::is_none;
 use unpacked::zero;
 
-// The centre, to nearest, and the opposite of the radius.
+// The centre, rounded to nearest, and the radius, negated and rounded down.
 pub struct Nearest {
     pub centre: Number,
     pub radius: Number,
@@ -30,7 +30,7 @@ impl Nearest {
         }
     }
 
-    // x × y more in the centre, |x| × |v| in the radius.
+    // Adds x × y to the centre and |x| × |v| to the radius.
     pub fn step(self, x: u32, y: u32, v: u32) -> Nearest
         requires { ⌜ NearNumbers self × Finite x ⌝ }
         ensures { λ r. ⌜ NearAdded self x y x v r ⌝ }
@@ -45,7 +45,7 @@ impl Nearest {
         }
     }
 
-    // Whether one of them is none.
+    // Whether one of the two sums is none.
     pub fn refused(self) -> bool
         ensures { λ r. ⌜ r ≡ refusedNearest self ⌝ }
     {

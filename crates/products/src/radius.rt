@@ -1,4 +1,4 @@
-// The radius of methods 3, 4 and 7, continued with rA × (|mB| + rB). It is kept with the other sign, so that what is rounded up is rounded down.
+// The second sum of the radius of methods 3, 4 and 7: rA × (|mB| + rB) over l. A radius is kept negated, so that rounding it up is rounding down.
 ghost use Rattle.unpacked.specs.Number.{IsNumber, Below};
 ghost use Rattle.products.specs.Centred.{Grown};
 ghost use Rattle.products.specs.Continued.{Reaches, Continued};
@@ -11,7 +11,7 @@ use binary32::order::magnitude;
 use unpacked::Number;
 use unpacked::is_none;
 
-// |u| × |v| more.
+// The radius plus |u| × |v|, rounded up.
 fn grown(radius: Number, u: u32, v: u32) -> Number
     requires { ⌜ IsNumber radius × Below radius ⌝ }
     ensures { λ r. ⌜ Grown radius u v r ⌝ }
@@ -21,7 +21,7 @@ fn grown(radius: Number, u: u32, v: u32) -> Number
     plus_negative(radius, rounded_up(times(unpack(a), unpack(b))))
 }
 
-// |u| × |w| more for each l below k, with u in row i and column l of ra (k columns) and w in row l and column j of wb (n columns).
+// The radius plus |u| × |w| for each l below k, where u is in row i and column l of ra (k columns) and w in row l and column j of wb (n columns).
 // The loop ends at the first overflow, and the result is then none.
 pub fn outer(
     radius: Number,

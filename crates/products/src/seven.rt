@@ -1,5 +1,5 @@
-// Method 7: the entries by rows, until the first that is refused. The sums of method 4 are continued with the products of the parts:
-// these are added to both centres, and their magnitudes are taken from the radius.
+// Method 7: computes the entries by rows up to the first that is refused. It continues the sums of method 4 over the parts p:
+// pA × pB is added to both centres, and |pA| × |pB| is taken from the radius.
 ghost use lib.ListN.{length};
 ghost use Prim.Native.Nat.{_*_};
 ghost use Rattle.enclosure.specs.Methods.{seven};
@@ -16,7 +16,7 @@ use crate::sums::ends;
 use unpacked::Number;
 use unpacked::is_none;
 
-// The sums after a step for each l below k, with x in row i and column l of pa (k columns) and y in row l and column j of pb (n columns).
+// The sums after a step for each l below k, where x is in row i and column l of pa (k columns) and y in row l and column j of pb (n columns).
 // The loop ends at the first overflow, and the result is then refused.
 fn parts(
     lower: Number,
@@ -52,7 +52,7 @@ fn parts(
     s
 }
 
-// From midpoints and radii; pa and pb have the parts of A's and B's cells, wb |m| + r of B's.
+// From midpoints and radii. pa and pb have the part p for each cell of A and of B, wb |m| + r for each cell of B.
 pub fn entries(
     m: usize,
     k: usize,

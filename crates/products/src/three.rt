@@ -1,4 +1,4 @@
-// Method 3: the entries by rows, one centre to nearest for both ends, until the first that is refused.
+// Method 3: computes the entries by rows up to the first that is refused. One centre, rounded to nearest, serves both bounds.
 ghost use lib.ListN.{length};
 ghost use Prim.Native.Nat.{_*_};
 ghost use Rattle.enclosure.specs.Methods.{three};
@@ -15,7 +15,7 @@ use crate::sums::ends;
 use unpacked::is_none;
 use unpacked::minus_tiny;
 
-// From midpoints and radii; vb has rB' of B's cells, wb |m| + r. The radius gets 2^-125 between its two sums.
+// From midpoints and radii. vb has rB' for each cell of B, wb |m| + r. The radius gets 2^-125 between its two sums.
 pub fn entries(
     m: usize,
     k: usize,
