@@ -11,7 +11,7 @@ samples := target/samples/motor_to_lever.sheet target/samples/lever_to_bar.sheet
 help: ## list the commands
 	@sed -n 's/^\([a-z]*\): .*## /make \1	/p' $(MAKEFILE_LIST) | expand -t 16
 
-run: $(samples) ## multiply the two sample sheets by method 1 and print the product
+run: $(samples) ## multiply two sample sheets by method 1 and print the product
 	@$(prove)
 	@printf 1 | cat - $(samples) | target/bin/print_product >target/samples/product
 	@cat target/samples/product
@@ -27,7 +27,7 @@ test: ## all tests, from nothing: ends in 'N passed, 0 failed'
 check: ## prove what changed since the last check
 	@rt check
 
-bench: $(archive) ## time operations, sheets and sheet jobs beside their peers; ROUNDS=N sets the rounds
+bench: $(archive) ## time operations, sheets, sheet jobs and trains beside their peers; ROUNDS=N sets the rounds
 	@$(MAKE) --no-print-directory -C bench $(if $(ROUNDS),ROUNDS=$(ROUNDS))
 
 install: $(archive) ## install archive, headers and coupling.pc under PREFIX, /usr/local unless given

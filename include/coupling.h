@@ -15,10 +15,11 @@
    Refusals: a call that turns its arguments down returns
    1,000,000 x number + 10,000 x matrix + 100 x row + column, which
    COUPLING_REFUSED tells from every other answer. The matrix is 1 for A, 2 for B,
-   3 for the result and 0 for none; row and column count from 0, and are the place
-   of a cell for 3, 4, 5 and 10, else 0. The first refusal in the order that is
-   given for each call is returned. Single operations return one number alone, and
-   have a form of their own below.
+   3 for the result and 0 for none; in a train it is the sheet's position, 1 to 8,
+   or 9 for a product or the writing. Row and column count from 0, and are the
+   place of a cell for 3, 4, 5 and 10, else 0. The first refusal in the order that
+   is given for each call is returned. Single operations return one number alone,
+   and have a form of their own below.
 
    Lent memory: a refusal leaves all of it as it was, but for number 5 of
    coupling_product. What lies beyond the cells or bytes that a call writes stays
@@ -33,10 +34,10 @@
    to. No call uses a heap or writable global data, does input or output, or reads
    or changes floating-point state.
 
-   Stack: on x86-64 a call of coupling_multiply took at most 54,136 bytes below
-   its caller's frame, measured on 32 by 32 by 32 products by each method
-   (tests/drivers/stack.c); the other calls take less. COUPLING_STACK bytes are enough for
-   each call. */
+   Stack: on x86-64 a call of coupling_multiply or coupling_train took at most
+   54,264 bytes below its caller's frame, measured on 32 by 32 sheets by each
+   method (tests/drivers/stack.c); the other calls take less. COUPLING_STACK bytes
+   are enough for each call. */
 #ifndef COUPLING_H
 #define COUPLING_H
 
@@ -46,6 +47,7 @@
 #define COUPLING_SIZE_MAX 32     /* rows or columns of the largest matrix */
 #define COUPLING_CELLS_MAX 1024  /* its cells */
 #define COUPLING_SHEET_MAX 16400 /* bytes of the longest sheet; a buffer of this length is never too short */
+#define COUPLING_SHEETS_MAX 8    /* sheets of the longest train */
 #define COUPLING_STACK 65536     /* bytes of stack that are enough for a call */
 
 /* The numbers of the refusals; coupling_sentences.h has a sentence for each. */
@@ -60,6 +62,7 @@
 #define COUPLING_METHOD 9
 #define COUPLING_CLASS 10
 #define COUPLING_ROOM 11
+#define COUPLING_COUNT 12
 
 /* Whether r, which a call returned, is a refusal; and the parts of r if it is. */
 #define COUPLING_REFUSED(r) ((r) >= 1000000u)
@@ -100,6 +103,29 @@ extern "C" {
    each cell of a row of A and of a column of B, as read, the sum of the products
    lies in the entry's range. */
 uint32_t coupling_multiply(uint32_t method, const uint8_t *a, size_t a_len, const uint8_t *b, size_t b_len, uint8_t *out, size_t out_len);
+
+/* ---- A train of couplings ----
+
+   The same for count sheets, 1 to COUPLING_SHEETS_MAX, that stand back to back in
+   sheets: they are multiplied from the left by one method, each product of two
+   being the next left factor, and the sheet of the last product is written to the
+   front of out. A sheet has 16 x its record count bytes, or all that is left
+   where that is fewer or ends before the count; the last sheet has all that is
+   left. Returns the length written, or the first of these refusals:
+     9            the method is not 1, 3, 4 or 7
+     12           count is 0 or above 8
+   then sheet by sheet, p being its position from 1 on; no byte of a sheet is
+   looked at before its turn:
+     matrix p     the sheet, as coupling_read refuses it (never 2)
+     1, matrix p  the columns of the product so far are not the sheet's rows
+     5, matrix 9  a result is too large for binary32, in a step of this entry of
+                  the product, the first such by rows
+   and at last:
+     11, matrix 9 out is shorter than the last product's sheet
+   One sheet alone is returned as it was read: widened, class 0 in each cell. The
+   ranges that were written enclose: whatever matrices of numbers are picked, one
+   number from each cell of each sheet as read, their product lies in them. */
+uint32_t coupling_train(uint32_t method, uint32_t count, const uint8_t *sheets, size_t sheets_len, uint8_t *out, size_t out_len);
 
 /* ---- Sheets ----
 

@@ -9,7 +9,7 @@
 static inline const char *coupling_sentence(uint32_t number)
 {
     switch (number) {
-    case 1: return "a size is not from 1 to 32, or A's columns are not B's rows";
+    case 1: return "a size is not from 1 to 32, or the left factor's columns are not the right one's rows";
     case 2: return "a slice is shorter than its cells";
     case 3: return "a bound is not a finite number";
     case 4: return "a lower bound is above the upper bound";
@@ -20,6 +20,7 @@ static inline const char *coupling_sentence(uint32_t number)
     case 9: return "the method is not 1, 3, 4 or 7";
     case 10: return "a wear class is above 7";
     case 11: return "the out buffer is shorter than the sheet to be written";
+    case 12: return "the number of sheets is not from 1 to 8";
     default: return "no refusal has this number";
     }
 }

@@ -12,7 +12,7 @@ RECORD = 16
 MOST_BYTES = RECORD * (1 + MOST_CELLS)
 
 SENTENCES = {
-    1: "a size is not from 1 to 32, or A's columns are not B's rows",
+    1: "a size is not from 1 to 32, or the left factor's columns are not the right one's rows",
     2: "a slice is shorter than its cells",
     3: "a bound is not a finite number",
     4: "a lower bound is above the upper bound",
@@ -23,6 +23,7 @@ SENTENCES = {
     9: "the method is not 1, 3, 4 or 7",
     10: "a wear class is above 7",
     11: "the out buffer is shorter than the sheet to be written",
+    12: "the number of sheets is not from 1 to 8",
 }
 
 # records: what stands behind the head, in order. A record is a Cell, or the 16 bytes of a record outside the chain.

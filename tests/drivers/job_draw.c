@@ -1,10 +1,10 @@
-/* Test drivers of jobs and of the printed product, not proved: random arguments. */
+/* Test drivers of jobs, of trains and of the printed product, not proved: random arguments. */
 #include "job_draw.h"
 
 #include "draw.h"
 #include "sheet_draw.h"
 
-static uint32_t draw_method(void)
+uint32_t draw_method(void)
 {
     static const uint32_t methods[] = {1, 3, 4, 7};
     int which = from_to(0, 3);

@@ -1,4 +1,4 @@
-/* Test drivers of jobs and of the printed product, not proved: random arguments. */
+/* Test drivers of jobs, of trains and of the printed product, not proved: random arguments. */
 #ifndef JOB_DRAW_H
 #define JOB_DRAW_H
 
@@ -10,8 +10,11 @@ struct job {
     uint8_t a[GUARDED(BYTES)], b[GUARDED(BYTES)];
 };
 
-/* Draws a method, which is mostly 1, 3, 4 or 7, and two sheets, which can be multiplied,
-   cannot, or are damaged. The sheets are put behind guard bytes, which are filled. */
+/* 1, 3, 4 or 7, or now and then any digit. */
+uint32_t draw_method(void);
+
+/* Draws a method and two sheets, which can be multiplied, cannot, or are damaged. The
+   sheets are put behind guard bytes, which are filled. */
 void draw_job(struct job *job);
 
 #endif

@@ -50,10 +50,12 @@ static unsigned long fewest_calls(const struct outcome *o)
 
 static void print_outcome(const struct table *table, const struct outcome *o)
 {
-    if (o->number == 0)
-        printf("   none      -");
-    else
+    if (o->number != 0)
         printf("%7u %6u", o->number, o->matrix);
+    else if (o->matrix != 0)
+        printf("   none %6u", o->matrix);
+    else
+        printf("   none      -");
     for (int column = 0; table->columns[column] != NULL; column++)
         if ((o->met_by >> column & 1) != 0)
             printf(" %13lu", o->calls[column]);

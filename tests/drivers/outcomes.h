@@ -11,7 +11,8 @@
 #define COLUMNS 12  /* the most columns of a table */
 #define PLACES 32   /* rows and columns of the largest matrix */
 
-/* An outcome: the number and the matrix of a refusal; both are 0 for an accepted call. */
+/* An outcome: the number and the matrix of a refusal; both are 0 for an accepted call, but
+   the matrix of an accepted train is its number of sheets. */
 struct outcome {
     uint32_t number, matrix;
     unsigned met_by;            /* a bit for each column in which it can occur */
@@ -41,12 +42,12 @@ bool met_enough(const struct table *table);
 /* Prints the rest of a line: how many refusals there are, and how often each occurred. */
 void print_summary(const struct table *table);
 
-/* For products and jobs: one column for each method, and one for all other numbers. */
+/* For products, jobs and trains: one column for each method, and one for all other numbers. */
 extern const char *const method_columns[];
 enum { METHODS = 0xF, OTHER_METHOD = 0x10 };
 int method_column(uint32_t method);
 
-/* The refusals of sheet m, in a job or in the printed product. */
+/* The refusals of sheet m, in a job, in a train or in the printed product. */
 #define SHEET_REFUSALS(m, columns) \
     {.number = 6, .matrix = m, .met_by = columns}, {.number = 1, .matrix = m, .met_by = columns}, \
     {.number = 7, .matrix = m, .met_by = columns}, {.number = 8, .matrix = m, .met_by = columns}, \

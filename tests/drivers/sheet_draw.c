@@ -13,7 +13,7 @@ static uint32_t draw_finite(bool moderate)
 {
     uint32_t pattern = 0;
     if (moderate)
-        return draw_number(from_to(100, 149), draw_fraction());
+        return draw_number(from_to(100, 136), draw_fraction());
     do
         pattern = draw_pattern();
     while ((pattern & INFINITE) == INFINITE);

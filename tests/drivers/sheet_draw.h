@@ -7,7 +7,8 @@
 #include <stddef.h>
 #include <stdint.h>
 
-/* Two numbers, the lower one first: of moderate size, or any. */
+/* Two numbers, the lower one first: any, or of moderate size, below 2^10, so that no
+   product of eight matrices of such numbers is too large. */
 void draw_bounds(bool moderate, uint32_t *lower, uint32_t *upper);
 
 /* A sheet without fault, except that a bound may overflow when it is widened. The

@@ -34,6 +34,7 @@ int untouched(const uint32_t *words, size_t count);
 void put_sheet(uint8_t *sheet);
 
 void test_job(void);
+void test_train(void);
 void test_sheets(void);
 void test_product(void);
 void test_operations(void);

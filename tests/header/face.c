@@ -50,20 +50,21 @@ static void test_macros(void)
     CHECK(COUPLING_INFINITY == COUPLING_LARGEST + 1);
     CHECK(!COUPLING_OPERATION_REFUSED(COUPLING_LARGEST) && !COUPLING_OPERATION_REFUSED(MINUS | COUPLING_LARGEST));
     CHECK(COUPLING_OPERATION_REFUSED(COUPLING_INFINITY + 5) && COUPLING_OPERATION_NUMBER(COUPLING_INFINITY + 5) == 5);
-    for (uint32_t n = COUPLING_SIZE; n <= COUPLING_ROOM; n++)
+    for (uint32_t n = COUPLING_SIZE; n <= COUPLING_COUNT; n++)
         CHECK(strcmp(coupling_sentence(n), coupling_sentence(0)) != 0);
-    CHECK(strcmp(coupling_sentence(12), coupling_sentence(0)) == 0);
+    CHECK(COUPLING_COUNT == 12 && strcmp(coupling_sentence(13), coupling_sentence(0)) == 0);
 }
 
 int main(void)
 {
     test_macros();
     test_job();
+    test_train();
     test_sheets();
     test_product();
     test_operations();
     test_conversions();
     test_surroundings();
-    printf("18 functions: macros, each refusal, zero lengths, guards, two threads, floating-point environment\n");
+    printf("19 functions: macros, each refusal, zero lengths, guards, two threads, floating-point environment\n");
     return 0;
 }

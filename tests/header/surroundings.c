@@ -12,13 +12,13 @@
 #define CELLS COUPLING_CELLS_MAX
 #define SIZE COUPLING_SIZE_MAX
 
-static uint8_t full[COUPLING_SHEET_MAX];
-static uint32_t low[CELLS], high[CELLS]; /* what the full sheet is read as */
+static uint8_t full[COUPLING_SHEET_MAX], sheets[COUPLING_SHEETS_MAX][COUPLING_SHEET_MAX]; /* each of a train is the full one */
+static uint32_t low[CELLS], high[CELLS];                                                  /* what the full sheet is read as */
 
 /* All that one round of calls returns and writes. */
 struct answers {
-    uint32_t read, write, multiply[4], product[4], operations[12], to_midrad, to_bounds, words[4];
-    uint8_t sheet[COUPLING_SHEET_MAX], out[4][COUPLING_SHEET_MAX];
+    uint32_t read, write, multiply[4], train[4], product[4], operations[12], to_midrad, to_bounds, words[4];
+    uint8_t sheet[COUPLING_SHEET_MAX], out[4][COUPLING_SHEET_MAX], last[4][COUPLING_SHEET_MAX];
     uint32_t lowers[CELLS], uppers[CELLS], lent[4][6][CELLS];
 };
 
@@ -28,6 +28,7 @@ static void multiply_all(struct answers *x)
     for (int i = 0; i < 4; i++) {
         uint32_t(*lent)[CELLS] = x->lent[i];
         x->multiply[i] = coupling_multiply(methods[i], full, sizeof full, full, sizeof full, x->out[i], sizeof x->out[i]);
+        x->train[i] = coupling_train(methods[i], COUPLING_SHEETS_MAX, sheets[0], sizeof sheets, x->last[i], sizeof x->last[i]);
         x->product[i] = coupling_product(methods[i], SIZE, SIZE, SIZE, SIZE, low, CELLS, high, CELLS, low, CELLS, high, CELLS,
                                          lent[0], CELLS, lent[1], CELLS, lent[2], CELLS, lent[3], CELLS, lent[4], CELLS, lent[5], CELLS);
     }
@@ -56,11 +57,13 @@ static struct answers first, other[2];
 static void call_first(void)
 {
     put_full(full);
+    for (int i = 0; i < COUPLING_SHEETS_MAX; i++)
+        put_full(sheets[i]);
     CHECK(coupling_read(full, sizeof full, low, CELLS, high, CELLS) == 100 * SIZE + SIZE);
     call_all(&first);
     CHECK(first.read == 100 * SIZE + SIZE && first.write == sizeof full && first.to_midrad == 0 && first.to_bounds == 0);
     for (int i = 0; i < 4; i++)
-        CHECK(first.multiply[i] == sizeof full && first.product[i] == 0);
+        CHECK(first.multiply[i] == sizeof full && first.train[i] == sizeof full && first.product[i] == 0);
     for (int i = 0; i < 12; i++)
         CHECK(!COUPLING_OPERATION_REFUSED(first.operations[i]));
 }

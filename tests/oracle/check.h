@@ -35,6 +35,7 @@ void check_reading(void);
 void check_read_refusals(void);
 void check_writing(void);
 void check_job(void);
+void check_train(void);
 void check_print(void);
 
 #endif

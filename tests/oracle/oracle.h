@@ -13,8 +13,9 @@
 enum operation { ADD, SUB, MUL, MIDPOINT };
 enum direction { DOWN, UP, NEAR };
 
-/* number: 1 to 11, or 0 for an accepted call; then the other three are 0 too.
-   matrix: 1 is A, 2 is B, 3 is the result, 0 is none of them. */
+/* number: 1 to 12, or 0 for an accepted call; then the other three are 0 too.
+   matrix: 1 is A, 2 is B, 3 is the result, 0 is none of them; in a train it is the
+   position of a sheet, 1 to 8, or 9 for a product or the writing. */
 struct refusal { uint32_t number, matrix, row, column; };
 
 /* One operation, rounded once. Returns 0, or the refusal 3 or 5; *result is written only
@@ -66,6 +67,12 @@ struct refusal oracle_write(size_t rows, size_t columns,
 uint32_t oracle_job(uint32_t method, const uint8_t *a, size_t a_len,
                     const uint8_t *b, size_t b_len,
                     uint8_t *out, size_t out_len);
+
+/* The train: reads `count` sheets, which stand back to back in len bytes, multiplies them
+   from the left, each product being the next left factor, and writes the sheet of the
+   last product. Returns as the sheet job does. */
+uint32_t oracle_train(uint32_t method, uint32_t count, const uint8_t *sheets, size_t len,
+                      uint8_t *out, size_t out_len);
 
 /* The output of the program print_product for this standard input. Returns the length of
    the whole text and puts as much of it into text as there is room for. */

@@ -53,8 +53,21 @@ struct entry three_products(const struct pair *pairs, size_t k);
 struct entry four_products(const struct pair *pairs, size_t k);
 struct entry seven_products(const struct pair *pairs, size_t k);
 
-/* job.c: reads both sheets and multiplies; a refusal has the matrix number of the job. */
+/* sheet_read.c: the length of the first of the sheets that stand back to back in len bytes:
+   16 for each of its records, or all bytes where they are fewer or end before the record
+   count. */
+size_t length_of_first(const uint8_t *sheets, size_t len);
+
+/* job.c; a refusal has the matrix number of the job */
+struct refusal read_sheet(uint32_t matrix, const uint8_t *s, size_t len, struct matrix *cells);
+struct refusal multiply_matrices(uint32_t method, const struct matrix *a, const struct matrix *b,
+                                 struct matrix *c);
 struct refusal multiply_sheets(uint32_t method, const uint8_t *a, size_t a_len,
                                const uint8_t *b, size_t b_len, struct matrix *c);
+
+/* job.c: writes the sheet of c unless r is a refusal. Returns its length, or the code of
+   the refusal; that of the writer gets this matrix number. */
+uint32_t write_result(struct refusal r, const struct matrix *c, uint32_t matrix,
+                      uint8_t *out, size_t out_len);
 
 #endif

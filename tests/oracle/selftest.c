@@ -139,6 +139,7 @@ int main(void)
     check_read_refusals();
     check_writing();
     check_job();
+    check_train();
     check_print();
     printf("%d checks, %d failures\n", checks, failures);
     return failures == 0 ? 0 : 1;

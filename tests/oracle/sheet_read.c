@@ -38,6 +38,14 @@ static bool frame_is_good(const uint8_t *s, size_t len)
         && all_zero(s + 6, 10);
 }
 
+size_t length_of_first(const uint8_t *sheets, size_t len)
+{
+    if (len < 6)
+        return len;
+    size_t wanted = RECORD * (size_t)get_16(sheets + 4);
+    return wanted < len ? wanted : len;
+}
+
 /* Checks one cell for refusals 6, 10, 3, 4, 5; when it passes, gives the widened bounds. */
 static uint32_t read_cell(const uint8_t *record, uint32_t *lo, uint32_t *hi)
 {

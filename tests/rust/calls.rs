@@ -1,4 +1,4 @@
-//! Tests of the Rust wrapper beside the sheet job, not proved: sheets, product, operations and conversions, with each refusal.
+//! Tests of the Rust wrapper beside the sheet job and the train, not proved: sheets, product, operations, conversions, each refusal.
 use coupling::*;
 
 const HALF: u32 = 0x3F00_0000;

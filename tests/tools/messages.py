@@ -108,7 +108,7 @@ def test_good(folder):
 
 
 def test_sentences():
-    """Each place has the same eleven sentences."""
+    """Each place has the same twelve sentences."""
     forms = {
         "include/coupling_sentences.h": r'case (\d+): return "(.*)";',
         "bindings/rust/src/refusal.rs": r'(\d+) => "(.*)",',

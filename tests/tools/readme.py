@@ -1,5 +1,5 @@
 """Test of README.md, not proved: readme.py PROGRAM, where PROGRAM is the independent implementation of the program that prints a product.
-The lines of C and the outputs that it shows are those of the example, of the sample sheets and of their product."""
+The lines of C and the outputs that it shows are those of the examples, of a sample sheet and of the product of two."""
 import os
 import re
 import subprocess
@@ -8,6 +8,9 @@ import tempfile
 from textwrap import indent
 
 from support import ROOT, ok, tool
+
+# In the order in which README.md shows them.
+EXAMPLES = ("controller", "train")
 
 
 def text_of(*names):
@@ -33,10 +36,13 @@ def printed(program):
 
 
 def main(program):
-    readme, example = text_of("README.md"), text_of("examples", "controller.c")
-    code = re.search("```c\n(.*?)```", readme, re.DOTALL).group(1)
-    assert indent(code, "    ") in example, code
-    for output in (text_of("tests", "header", "controller.expected"), shown(packed("lever_to_bar.txt")), printed(program)):
+    readme = text_of("README.md")
+    codes = re.findall("```c\n(.*?)```", readme, re.DOTALL)
+    assert len(codes) == len(EXAMPLES), codes
+    for code, example in zip(codes, EXAMPLES):
+        assert indent(code, "    ") in text_of("examples", f"{example}.c"), code
+    outputs = [text_of("tests", "header", f"{example}.expected") for example in EXAMPLES]
+    for output in (*outputs, shown(packed("lever_to_bar.txt")), printed(program)):
         assert indent(output, "    ") in readme, output
     ok("README.md", "its C and its outputs are as they are printed")
 

@@ -3,6 +3,7 @@
 #[link(name = "coupling", kind = "static")]
 extern "C" {
     pub fn coupling_multiply(method: u32, a: *const u8, a_len: usize, b: *const u8, b_len: usize, out: *mut u8, out_len: usize) -> u32;
+    pub fn coupling_train(method: u32, count: u32, sheets: *const u8, sheets_len: usize, out: *mut u8, out_len: usize) -> u32;
 
     pub fn coupling_read(
         sheet: *const u8, sheet_len: usize,

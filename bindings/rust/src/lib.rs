@@ -1,5 +1,6 @@
-//! Safe Rust wrapper of the coupling library: the sheet job, sheets, products of interval matrices, and single operations in
-//! rounded binary32. Not proved; what the library itself promises is, and `include/coupling.h` has the contract of each call.
+//! Safe Rust wrapper of the coupling library: the sheet job, trains of sheets, sheets, products of interval matrices, and single
+//! operations in rounded binary32. Not proved; what the library itself promises is, and `include/coupling.h` has the contract of each
+//! call.
 //!
 //! A binary32 number is passed as its pattern, a `u32` with the bits of the float (`f32::to_bits`, `f32::from_bits`). A pattern
 //! with exponent field 255, an infinity or no number, is refused. A refusal leaves what is lent as it was, but for number 5 of
@@ -13,7 +14,7 @@ mod operations;
 mod refusal;
 
 pub use intervals::{to_bounds, to_midrad};
-pub use matrices::{multiply, product, read, write, Matrix, Method, Work};
+pub use matrices::{multiply, product, read, train, write, Matrix, Method, Work};
 pub use operations::{add_down, add_near, add_up, midpoint_down, midpoint_near, midpoint_up};
 pub use operations::{mul_down, mul_near, mul_up, sub_down, sub_near, sub_up};
 pub use refusal::Refusal;
@@ -26,6 +27,9 @@ pub const CELLS_MAX: usize = 1_024;
 
 /// Bytes of the longest sheet; an out buffer of this length is never too short.
 pub const SHEET_MAX: usize = 16_400;
+
+/// Sheets of the longest train.
+pub const SHEETS_MAX: u32 = 8;
 
 /// The pattern of the largest number.
 pub const LARGEST: u32 = 0x7F7F_FFFF;

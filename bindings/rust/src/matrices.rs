@@ -1,5 +1,5 @@
-//! The sheet job, reader and writer of sheets, and the product of two matrices.
-use crate::calls::{coupling_multiply, coupling_product, coupling_read, coupling_write};
+//! The sheet job, the train, reader and writer of sheets, and the product of two matrices.
+use crate::calls::{coupling_multiply, coupling_product, coupling_read, coupling_train, coupling_write};
 use crate::Refusal;
 
 /// How to multiply.
@@ -41,13 +41,21 @@ pub struct Work<'a> {
     pub b_rads: &'a mut [u32],
 }
 
-// SAFETY, of all four calls: slices are never null and valid for their lengths, those for writing are borrowed alone, and no
+// SAFETY, of all five calls: slices are never null and valid for their lengths, those for writing are borrowed alone, and no
 // pointer is kept.
 
 /// Multiplies sheet `a` by sheet `b` and writes the product's sheet to the front of `out`: the length written, or the first
 /// refusal.
 pub fn multiply(method: Method, a: &[u8], b: &[u8], out: &mut [u8]) -> Result<usize, Refusal> {
     let code = unsafe { coupling_multiply(method as u32, a.as_ptr(), a.len(), b.as_ptr(), b.len(), out.as_mut_ptr(), out.len()) };
+    Refusal::unless(code).map(|length| length as usize)
+}
+
+/// Multiplies the `count` sheets, 1 to [`SHEETS_MAX`](crate::SHEETS_MAX), that stand back to back in `sheets`, from the left, and
+/// writes the last product's sheet to the front of `out`: the length written, or the first refusal. One sheet alone is written as
+/// it was read.
+pub fn train(method: Method, count: u32, sheets: &[u8], out: &mut [u8]) -> Result<usize, Refusal> {
+    let code = unsafe { coupling_train(method as u32, count, sheets.as_ptr(), sheets.len(), out.as_mut_ptr(), out.len()) };
     Refusal::unless(code).map(|length| length as usize)
 }
 

@@ -5,9 +5,10 @@ use std::fmt;
 /// Why a call was turned down, and where.
 #[derive(Clone, Copy, Debug, PartialEq, Eq)]
 pub struct Refusal {
-    /// 1 to 11.
+    /// 1 to 12.
     pub number: u32,
-    /// 1 is A, 2 is B, 3 is the result, 0 is none of them.
+    /// 1 is A, 2 is B, 3 is the result, 0 is none of them; in a train it is the sheet's position, 1 to 8, or 9 for a product or the
+    /// writing.
     pub matrix: u32,
     /// From 0; the place of a cell for numbers 3, 4, 5 and 10, otherwise 0.
     pub row: u32,
@@ -39,7 +40,7 @@ impl Refusal {
     /// The refusal in plain English, without the place.
     pub fn sentence(&self) -> &'static str {
         match self.number {
-            1 => "a size is not from 1 to 32, or A's columns are not B's rows",
+            1 => "a size is not from 1 to 32, or the left factor's columns are not the right one's rows",
             2 => "a slice is shorter than its cells",
             3 => "a bound is not a finite number",
             4 => "a lower bound is above the upper bound",
@@ -50,6 +51,7 @@ impl Refusal {
             9 => "the method is not 1, 3, 4 or 7",
             10 => "a wear class is above 7",
             11 => "the out buffer is shorter than the sheet to be written",
+            12 => "the number of sheets is not from 1 to 8",
             _ => "no refusal has this number",
         }
     }

@@ -1,31 +1,36 @@
 -- Laws of what a caller in C is answered by reader, writer, product and conversions, from what these ensure. Assumes nothing.
 use mathlib.Core.Path.{_≡_, ap, subst, _∙_}
 use mathlib.Core.List.{List}
-use Prim.Native.Nat.{ℕ}
+use Prim.Native.Nat.{ℕ, _≤_}
 use Rattle.refusals.specs.declared.Refusal.{Refusal}
 use Rattle.refusals.specs.Refusal.{codeOf}
 use Rattle.refusals.specs.Answer.{Answer, gives, refuses, coded}
 use Rattle.refusals.proofs.SizeLaws.{Fitting}
 use Rattle.sheets.specs.declared.chain.Cell.{Cell}
 use Rattle.sheets.specs.Reading.{readOf, sliceAfter}
-use Rattle.sheets.specs.Writing.{outAfter}
-use Rattle.sheets.specs.Trip.{TripOf}
+use Rattle.sheets.specs.declared.Written.{Written}
+use Rattle.sheets.specs.declared.Written.the-variants as W
+use Rattle.sheets.specs.Writing.{written}
 use Rattle.sheets.proofs.Answers.{done-tells}
 use Rattle.matrices.specs.Checks.{Given}
 use Rattle.matrices.specs.Product.{Left}
 use Rattle.matrices.specs.Demand.{Keeps}
-use Rattle.coupling.specs.Cells.{Answered}
+use Rattle.coupling.specs.Cells.{Short, Answered}
 use Rattle.coupling.specs.Conversions.{firstAfter, secondAfter}
 
 -- what is left, by an answer o that is x
 pub slice-is : (b : Cell → ℕ) (s d d′ : List ℕ) (o x : Answer (ℕ × ℕ)) → o ≡ x → d′ ≡ sliceAfter b s o d → d′ ≡ sliceAfter b s x d
 slice-is b s d d′ o x e f = f ∙ ap (λ y. sliceAfter b s y d) e
 
-pub out-is : (rows columns : ℕ) (lo up d d′ : List ℕ) (o x : Answer ℕ) → o ≡ x → d′ ≡ outAfter rows columns lo up o d → d′ ≡ outAfter rows columns lo up x d
-out-is rows columns lo up d d′ o x e f = f ∙ ap (λ y. outAfter rows columns lo up y d) e
+-- a writing leaves `out` by its answer, and keeps K by its answer; the code's answer is v, and r the number for it
+pub written-is : (out : Answer ℕ → List ℕ → List ℕ) (K : Answer ℕ → List ℕ → Type 0) (d : List ℕ) {r : ℕ} {v o : Answer ℕ} {d′ : List ℕ} → r ≡ coded (λ n. n) v
+    → (v ≡ o) × ((d′ ≡ out v d) × K v d′) → (r ≡ coded (λ n. n) o) × ((d′ ≡ out o d) × K o d′)
+written-is out K d {d′ = d′} e f = (e ∙ ap (coded (λ n. n)) (f .0), (f .1 .0 ∙ ap (λ a. out a d) (f .0), subst (λ a. K a d′) (f .0) (f .1 .1)))
 
-pub trip-is : (rows columns : ℕ) (lo up d : List ℕ) (o x : Answer ℕ) → o ≡ x → TripOf rows columns lo up o d → TripOf rows columns lo up x d
-trip-is rows columns lo up d o x e t = subst (λ y. TripOf rows columns lo up y d) e t
+-- a length that is written is short, where the code's answer w is o
+pub short : (w : Written) {o : Answer ℕ} → written w ≡ o → ((n : ℕ) → gives n ≡ o → n ≤ 16400) → Short w
+short (W.Bytes n) e h = h n e
+short (W.Refused x) e h = tt
 
 -- sizes are small
 pub sizes-small : (s : List ℕ) (l u r c : ℕ) → readOf s l u ≡ gives (r, c) → Fitting r c l u

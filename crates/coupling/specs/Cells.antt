@@ -1,8 +1,10 @@
--- The answers of a read and of a product for a caller in C. Definitions only.
+-- The answers of a read, a write and a product for a caller in C. Definitions only.
 use mathlib.Core.Path.{_≡_}
 use mathlib.Core.List.{List}
-use Prim.Native.Nat.{ℕ, _+_, _*_}
+use Prim.Native.Nat.{ℕ, _+_, _*_, _≤_}
 use Rattle.refusals.specs.Answer.{coded}
+use Rattle.sheets.specs.declared.Written.{Written}
+use Rattle.sheets.specs.declared.Written.the-variants as W
 use Rattle.matrices.specs.Checks.{Given, called}
 use Rattle.matrices.specs.Product.{productOf, Left}
 use Rattle.matrices.specs.Demand.{Keeps}
@@ -10,6 +12,11 @@ use Rattle.matrices.specs.Demand.{Keeps}
 -- rows and columns as one number: 100 × rows + columns
 abbrev pub sizesCode : ℕ × ℕ → ℕ
 sizesCode x = 100 * x .0 + x .1
+
+-- a length that was written fits 32 bits: no sheet is longer than 16,400 bytes
+abbrev pub Short : Written → Type 0
+Short (W.Bytes n) = n ≤ 16400
+Short (W.Refused r) = Unit {0}
 
 -- a product with the arguments g: returns 0 or the refusal's code, leaves the lent slices as `Left` says, and its result meets demand 3 (enclosure, width)
 pub record Answered (g : Given) (ma ra mb rb lo up : List ℕ) (r : ℕ) (ma′ ra′ mb′ rb′ lo′ up′ : List ℕ) : Type 0 where

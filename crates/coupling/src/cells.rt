@@ -7,8 +7,8 @@ ghost use Rattle.sheets.specs.Reading.{readOf, lowersAfter, uppersAfter};
 ghost use Rattle.sheets.specs.Writing.{writeOf, outAfter};
 ghost use Rattle.sheets.specs.Trip.{TripOf};
 ghost use Rattle.coupling.specs.Cells.{sizesCode, Called};
+use crate::length_code;
 use sheets::Shape;
-use sheets::Written;
 
 // Reads the matrix of a sheet into the front of the two slices; a refusal leaves both as they were.
 #[no_mangle]
@@ -40,10 +40,7 @@ pub extern "C" fn coupling_write(
     ensures trip { λ r. ⌜ TripOf rows columns (now (lowers .entry)) (now (uppers .entry))
         (writeOf rows columns (now (lowers .entry)) (now (uppers .entry)) (length (now (out .entry)))) (now (out .exit)) ⌝ }
 {
-    match sheets::put(rows, columns, lowers, uppers, out) {
-        Written::Bytes(n) => n as u32,
-        Written::Refused(r) => r.code(),
-    }
+    length_code(sheets::put(rows, columns, lowers, uppers, out))
 }
 
 // A times B by method 1, 3, 4 or 7: the bounds of the product in lo and up, the midpoints and radii of A and B in ma, ra, mb and rb.

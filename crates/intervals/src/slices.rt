@@ -1,10 +1,10 @@
-// Clearing slices of patterns that the caller lent.
+// Clearing slices of patterns that the caller lent, and the smaller of two lengths.
 ghost use mathlib.Core.Path.{_≡_};
 ghost use Prim.Native.Nat.{min};
 ghost use Rattle.intervals.specs.Slices.{cleared};
 
 // The smaller of a and b.
-fn shorter(a: usize, b: usize) -> usize
+pub fn shorter(a: usize, b: usize) -> usize
     ensures { λ r. ⌜ r ≡ min a b ⌝ }
 {
     if a <= b { a } else { b }

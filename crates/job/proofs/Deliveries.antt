@@ -1,117 +1,117 @@
--- Demand 3 is kept through the job: reading the written sheet back changes no value of the product's result. Assumes nothing.
-use mathlib.Core.Path.{_≡_, refl, sym, ap, ap₂, subst, _∙_}
-use mathlib.Core.List.{List, _++_}
-use Prim.Native.Nat.{ℕ, zero, suc, _+_, _*_, _≤_, _<_}
-use native.Mathlib.Omega.{arith}
-use lib.ListN.{length, getD, take, length-replicate, List·getD-append}
-use Rattle.refusals.specs.declared.Refusal.{Refusal}
-use Rattle.refusals.specs.Answer.{Answer, gives, refuses, done, naming}
-use Rattle.refusals.proofs.Answers.{said, then-tells, naming-tells}
-use Rattle.binary32.specs.Number.{valueOf}
-use Rattle.intervals.specs.Conversion.{faultOf}
-use Rattle.sheets.specs.declared.Written.{Written}
-use Rattle.sheets.specs.declared.Written.the-variants as W
-use Rattle.sheets.specs.Cell.{canonicalOf}
-use Rattle.sheets.specs.Layout.{rowsOf, columnsOf}
-use Rattle.sheets.specs.Reading.{lowersAfter, uppersAfter}
-use Rattle.sheets.specs.Writing.{written, writeOf}
-use Rattle.sheets.specs.Trip.{canonicals, ReadsBack, TripOf}
-use Rattle.sheets.proofs.Answers.{done-tells}
-use Rattle.sheets.proofs.Bounding.{fine-finite}
-use Rattle.sheets.proofs.Exact.{canonical-value}
-use Rattle.sheets.proofs.Rooms.{bytes-tell}
-use Rattle.matrices.specs.Checks.{Given, checkMethod, checkOf}
-use Rattle.matrices.specs.Product.{productOf}
-use Rattle.matrices.specs.Demand.{Keeps}
-use Rattle.matrices.proofs.CheckTells.{checked-tells}
-use Rattle.matrices.proofs.Places.{below}
-use Rattle.job.specs.Job.{array, sheetRead, lowersIn, uppersIn, operands, sheetsRead}
-use Rattle.job.specs.Demand.{JobKeeps}
-use Rattle.job.proofs.Jobs.{Ready, produced}
+-- Demand 3 holds of the sheet that a job has written. Assumes nothing.
+use mathlib.Core.Path.{_≡_, sym, subst}
+use mathlib.Core.List.{List}
+use Prim.Native.Nat.{ℕ, _≤_, _<_}
+use lib.ListN.{take}
+use Rattle.rounding.specs.Format.{binary32, units}
+use Rattle.enclosure.specs.Demand.{Kept}
+use Rattle.enclosure.specs.Fraction.{In}
+use Rattle.enclosure.specs.Methods.{Range}
+use Rattle.refusals.specs.Answer.{Answer, gives, refuses}
+use Rattle.refusals.proofs.Answers.{gives-injective, then-tells, naming-tells, next-tells}
+use Rattle.sheets.specs.Layout.{columnsOf}
+use Rattle.sheets.specs.Writing.{writeOf}
+use Rattle.sheets.proofs.Rooms.{length-small}
+use Rattle.matrices.specs.Matrix.{cellAt}
+use Rattle.matrices.specs.Checks.{checkMethod, chosen}
+use Rattle.job.specs.Factor.{Factor, matrixIn, readAs}
+use Rattle.job.specs.Fold.{productIn, stepOf, foldFrom, sheetsProduct}
+use Rattle.job.specs.Delivery.{writtenOf, outOf, BackOf}
+use Rattle.job.specs.Job.{jobProduct, jobOf}
+use Rattle.job.specs.Train.{sheetsIn, trainProduct, trainOf}
+use Rattle.job.specs.Demand.{cellIn, Delivered, JobKeeps}
+use Rattle.job.specs.TrainDemand.{Fractions, PickedFrom, Carried, TrainKeeps}
+use Rattle.job.proofs.Sizes.{read-tells, Stepped, step-tells}
+use Rattle.job.proofs.Trains.{train-tells}
+use Rattle.job.proofs.Writing.{Delivers}
+use Rattle.job.proofs.Backs.{Back, back}
+use Rattle.job.proofs.Keeping.{step-keeps, product-keeps, product-encloses}
 
--- ---- the cells that are read back, by position
-canonical-length : (l : List ℕ) (n p : ℕ) → length (canonicals l n p) ≡ n
-unfolding canonicals
-canonical-length l zero p = refl
-canonical-length l (suc n) p = ap suc (canonical-length l n (p + 1))
+-- ---- a writing that is not refused: the product, and the sheet that reads back as it
+pub record Wrote (n : ℕ) (A : Answer Factor) (room k : ℕ) : Type 0 where
+  pub factor : Factor
+  pub product : A ≡ gives factor
+  pub answer : writeOf (factor .rows) (factor .columns) (factor .lowers) (factor .uppers) room ≡ gives k
 
-canonical-at : (l : List ℕ) (n p q : ℕ) → q < n → getD (canonicals l n p) q 0 ≡ canonicalOf (getD l (p + q) 0)
-unfolding canonicals
-canonical-at l zero p q h = absurd (omega arith)
-canonical-at l (suc n) p zero h = ap (λ (k : ℕ). canonicalOf (getD l k 0)) (omega arith)
-canonical-at l (suc n) p (suc q) h = canonical-at l n (p + 1) q (omega arith) ∙ ap (λ (k : ℕ). canonicalOf (getD l k 0)) (omega arith)
+pub written-tells : (n : ℕ) (A : Answer Factor) (room k : ℕ) → gives k ≡ writtenOf n A room → Wrote n A room k
+unfolding writtenOf
+written-tells n A room k e =
+    let t = next-tells A _ k (sym e) in
+    record { factor = t .0; product = t .1; answer = naming-tells n _ k (t .2) }
 
-back-at : (l m : List ℕ) (n q : ℕ) → q < n → getD (canonicals l n 0 ++ m) q 0 ≡ canonicalOf (getD l q 0)
-back-at l m n q h =
-    List·getD-append (canonicals l n 0) m 0 q (omega (arith, canonical-length l n 0))
-    ∙ canonical-at l n 0 q h ∙ ap (λ (k : ℕ). canonicalOf (getD l k 0)) (omega arith)
+pub written-small : (n : ℕ) (A : Answer Factor) (room k : ℕ) → gives k ≡ writtenOf n A room → k ≤ 16400
+written-small n A room k e =
+    let w = written-tells n A room k e in
+    let F = w .factor in
+    length-small (F .rows) (F .columns) (F .lowers) (F .uppers) room k (w .answer)
 
--- ---- the written sheet, read back into zeros
-pub record Back (lo up s : List ℕ) (r c : ℕ) : Type 0 where
-  pub answer : sheetRead s ≡ gives (r, c)
-  pub lowers : (q : ℕ) → q < r * c → valueOf (getD (lowersIn s) q 0) ≡ valueOf (getD lo q 0)
-  pub uppers : (q : ℕ) → q < r * c → valueOf (getD (uppersIn s) q 0) ≡ valueOf (getD up q 0)
+reads-back : (n : ℕ) (A : Answer Factor) (room k : ℕ) (w : Wrote n A room k) (out : List ℕ) → BackOf A (gives k) out → Back (w .factor) (take k out)
+unfolding BackOf
+reads-back n A room k w out t = back (w .factor) room k (w .answer) out (rw (w .product) at t)
 
-module _ (r c : ℕ) (lo up : List ℕ) (room n : ℕ) (e : writeOf r c lo up room ≡ gives n) (out : List ℕ) (t : TripOf r c lo up (gives n) out) where
-  fault-at : (q : ℕ) → q < r * c → faultOf (getD lo q 0) (getD up q 0) ≡ 0
-  fault-at = bytes-tell r c lo up room n e .fine
-
-  few : r * c ≤ length array
-  few = omega (arith, bytes-tell r c lo up room n e .few, length-replicate {A = ℕ} 1024 0)
-
-  back : Back lo up (take n out) r c
-  back =
-      let b : ReadsBack r c lo up (take n out) array array = t array array few few in
-      record {
-        answer = b .answer;
-        lowers = λ q h.
-            ap (λ l. valueOf (getD l q 0)) (ap (λ o. lowersAfter (take n out) o array) (b .answer) ∙ b .lowers) ∙ ap valueOf (back-at lo _ (r * c) q h)
-            ∙ canonical-value (getD lo q 0) (fine-finite (getD lo q 0) (getD up q 0) (fault-at q h) .0);
-        uppers = λ q h.
-            ap (λ l. valueOf (getD l q 0)) (ap (λ o. uppersAfter (take n out) o array) (b .answer) ∙ b .uppers) ∙ ap valueOf (back-at up _ (r * c) q h)
-            ∙ canonical-value (getD up q 0) (fine-finite (getD lo q 0) (getD up q 0) (fault-at q h) .1);
-      }
-
--- ---- a job that goes on to the write has read both sheets, and they fit
-read-tells : (n : ℕ) (s : List ℕ) (x : ℕ × ℕ) → naming n (sheetRead s) ≡ gives x → sheetRead s ≡ gives (rowsOf s, columnsOf s)
-read-tells n s x e =
-    let f = naming-tells n (sheetRead s) x e in
-    let t = done-tells s 1024 1024 (x .0) (x .1) f in
-    f ∙ ap₂ (λ (r c : ℕ). gives (r, c)) (sym (t .rows)) (sym (t .columns))
-
-pub both-read : (method : ℕ) (a b : List ℕ) (x : ℕ × ℕ) → sheetsRead method a b ≡ gives x
-    → (sheetRead a ≡ gives (rowsOf a, columnsOf a)) × (sheetRead b ≡ gives (rowsOf b, columnsOf b))
-both-read method a b x e =
-    let s = then-tells (checkMethod method) _ x e in
-    let t = then-tells (naming 1 (sheetRead a)) (naming 2 (sheetRead b)) x (s .1) in
-    (read-tells 1 a (t .0 .0) (t .0 .1), read-tells 2 b x (t .1))
-
-fitting : (g : Given) → productOf g ≡ done → g .a-columns ≡ g .b-rows
-unfolding productOf
-fitting g e = checked-tells g (then-tells (checkOf g) _ tt e .0 .1) .sizes .inner
-
--- ---- so demand 3 holds of the sheet that was written
-pub delivered : {method : ℕ} {a b : List ℕ} {r c : ℕ} {lo up : List ℕ} → Ready method a b r c lo up → (room n : ℕ) (w : Written) (out : List ℕ)
-    → written w ≡ writeOf r c lo up room → w ≡ W.Bytes n → TripOf r c lo up (written w) out → JobKeeps method a b (gives n) out
-unfolding Keeps JobKeeps
-delivered {method = method} {a = a} {b = b} {r = r} {c = c} {lo = lo} {up = up} R room n w out e f t =
-    let g = operands method a b 1024 1024 in
-    let k : Back lo up (take n out) (rowsOf a) (columnsOf b) = rw (R .rows, R .columns) (back r c lo up room n (sym (said written e f)) out (subst (λ v. TripOf r c lo up (written v) out) f t)) in
-    let p = produced method a b r c (R .product) in
-    let both = both-read method a b (p .read .0) (p .read .1) in
+-- ---- the sheet job
+job-delivers : (method : ℕ) (a b s : List ℕ) (F : Factor) → jobProduct method a b ≡ gives F → Back F s → Delivered method a b s
+unfolding jobProduct sheetsProduct foldFrom
+job-delivers method a b s F e k =
+    let t = next-tells (readAs 1 a) _ F (then-tells (checkMethod method) _ F e .1) in
+    let w = read-tells 1 a (t .0) (t .1) in
+    let u = next-tells (stepOf method 3 2 (t .0) b) (λ Y. gives Y) F (t .2) in
+    let step : Stepped method (matrixIn a) F b =
+    subst (λ X. Stepped method X F b) (w .matrix) (subst (λ Z. Stepped method (t .0) Z b) (gives-injective (u .2)) (step-tells method 3 2 (t .0) b (u .0) (u .1))) in
+    let m = step-keeps step in
+    let z : Back (productIn method (matrixIn a) (matrixIn b)) s = subst (λ Z. Back Z s) (step .matrix) k in
     record {
-      first = both .0;
-      second = both .1;
-      inner = fitting g (p .product);
-      reads = k .answer;
+      first = w .answer;
+      second = m .reads;
+      inner = m .fits;
+      reads = z .answer;
       keeps = λ i j hi hj.
-          let q = below i (rowsOf a) j (columnsOf b) hi hj in
-          rw (k .lowers _ q, k .uppers _ q) (R .keeps (p .product) i j hi hj);
+          subst (λ r. Kept (chosen method) (columnsOf a) (cellIn (matrixIn a) i) (λ l. cellIn (matrixIn b) l j) r) (sym (z .ranges i j hi hj)) (m .keeps i j hi hj);
     }
 
-pub refused-keeps : (method : ℕ) (a b : List ℕ) (x : Refusal) (out : List ℕ) → JobKeeps method a b (refuses x) out
+pub job-keeps : (method : ℕ) (a b : List ℕ) (room : ℕ) (r : Answer ℕ) (out : List ℕ) → r ≡ jobOf method a b room → BackOf (jobProduct method a b) r out → JobKeeps method a b r out
 unfolding JobKeeps
-refused-keeps method a b x out = tt
+job-keeps method a b room (gives k) out e t =
+    let w = written-tells 3 (jobProduct method a b) room k e in
+    job-delivers method a b (take k out) (w .factor) (w .product) (reads-back 3 (jobProduct method a b) room k w out t)
+job-keeps method a b room (refuses x) out e t = tt
 
-pub answer-keeps : (method : ℕ) (a b : List ℕ) (w x : Answer ℕ) (out : List ℕ) → w ≡ x → JobKeeps method a b w out → JobKeeps method a b x out
-answer-keeps method a b w x out e k = subst (λ v. JobKeeps method a b v out) e k
+-- ---- a train
+picked-back : (F : Factor) (s : List ℕ) (x : Fractions) → Back F s → PickedFrom F x → PickedFrom (matrixIn s) x
+unfolding cellAt
+picked-back F s x k h i hi j hj =
+    let p : i < F .rows = subst (λ c. i < c) (k .rows) hi in
+    let q : j < F .columns = subst (λ c. j < c) (k .columns) hj in
+    subst (λ (r : Range). In (units binary32) (r .lower) (r .upper) (x i j)) (sym (k .ranges i j p q)) (h i p j q)
+
+carried : (method : ℕ) (ss : List (List ℕ)) (s : List ℕ) (F : Factor) → sheetsProduct method 9 ss ≡ gives F → Back F s → Carried method ss s
+carried method ss s F e k =
+    record {
+      steps = product-keeps method 9 ss F e;
+      last = F;
+      product = e;
+      reads = k .answer;
+      ranges = k .ranges;
+      encloses = λ picks h. picked-back F s _ k (product-encloses method 9 ss F e picks h);
+    }
+
+pub train-keeps : (method count : ℕ) (s : List ℕ) (room : ℕ) (r : Answer ℕ) (out : List ℕ) → r ≡ trainOf method count s room → BackOf (trainProduct method count s) r out
+    → TrainKeeps method count s r out
+unfolding TrainKeeps
+train-keeps method count s room (gives k) out e t =
+    let w = written-tells 9 (trainProduct method count s) room k e in
+    carried method (sheetsIn count s) (take k out) (w .factor) (train-tells method count s (w .factor) (w .product)) (reads-back 9 (trainProduct method count s) room k w out t)
+train-keeps method count s room (refuses x) out e t = tt
+
+-- ---- the whole jobs, where the code's product A is the one defined
+pub job-ends : (method : ℕ) (a b : List ℕ) (room : ℕ) (A : Answer Factor) (r : Answer ℕ) (d out : List ℕ) → A ≡ jobProduct method a b → Delivers 3 A room r d out
+    → (r ≡ jobOf method a b room) × ((out ≡ outOf (jobProduct method a b) r d) × JobKeeps method a b r out)
+job-ends method a b room A r d out e t =
+    let z = subst (λ B. Delivers 3 B room r d out) e t in
+    (z .0, (z .1 .0, job-keeps method a b room r out (z .0) (z .1 .1)))
+
+pub train-ends : (method count : ℕ) (s : List ℕ) (room : ℕ) (A : Answer Factor) (r : Answer ℕ) (d out : List ℕ) → A ≡ trainProduct method count s → Delivers 9 A room r d out
+    → (r ≡ trainOf method count s room) × ((out ≡ outOf (trainProduct method count s) r d) × TrainKeeps method count s r out)
+train-ends method count s room A r d out e t =
+    let z = subst (λ B. Delivers 9 B room r d out) e t in
+    (z .0, (z .1 .0, train-keeps method count s room r out (z .0) (z .1 .1)))

@@ -1,3 +1,12 @@
-pub mod Stages
+pub mod Factors
+pub mod Steps
+pub mod Folds
+pub mod Sizes
 pub mod Jobs
+pub mod Trains
+pub mod Others
+pub mod Writing
+pub mod Keeping
+pub mod Backs
 pub mod Deliveries
+pub mod Examples

@@ -9,32 +9,30 @@ use Rattle.enclosure.specs.Methods.{Range}
 use Rattle.refusals.specs.Answer.{Answer, gives, refuses}
 use Rattle.binary32.specs.Number.{valueOf}
 use Rattle.sheets.specs.Layout.{rowsOf, columnsOf}
-use Rattle.matrices.specs.Matrix.{Matrix, cellAt}
+use Rattle.matrices.specs.Matrix.{ofBounds, cellAt}
 use Rattle.matrices.specs.Checks.{chosen}
-use Rattle.job.specs.Job.{sheetRead, lowersIn, uppersIn}
+use Rattle.job.specs.Factor.{Factor, matrixIn, sheetRead}
 
--- ---- the matrix of a sheet, each cell widened by its wear class
-abbrev pub matrixIn : List ℕ → Matrix
-matrixIn s = record { lowers = lowersIn s; uppers = uppersIn s }
+-- ---- one product
 
--- row i of the sheet a, and column j of the sheet b
-abbrev pub rowIn : List ℕ → ℕ → ℕ → Cell
-rowIn a i l = cellAt (matrixIn a) (i * columnsOf a + l)
+-- the cell in row i and column j, and its bounds in units
+abbrev pub cellIn : Factor → ℕ → ℕ → Cell
+cellIn X i j = cellAt (ofBounds (X .lowers) (X .uppers)) (i * X .columns + j)
 
-abbrev pub columnIn : List ℕ → ℕ → ℕ → Cell
-columnIn b j l = cellAt (matrixIn b) (l * columnsOf b + j)
+abbrev pub rangeIn : Factor → ℕ → ℕ → Range
+rangeIn X i j = record { lower = valueOf (getD (X .lowers) (i * X .columns + j) 0); upper = valueOf (getD (X .uppers) (i * X .columns + j) 0) }
 
--- the bounds in row i and column j of a sheet with this many columns, in units
-abbrev pub rangeIn : List ℕ → ℕ → ℕ → ℕ → Range
-rangeIn s columns i j = record { lower = valueOf (getD (lowersIn s) (i * columns + j) 0); upper = valueOf (getD (uppersIn s) (i * columns + j) 0) }
+-- each cell of Z encloses the sums of products of picked fractions, and by method 4 it is no wider than the bound over X and Y
+abbrev pub ProductKeeps : ℕ → (X Y Z : Factor) → Type 0
+ProductKeeps method X Y Z = (i j : ℕ) → i < X .rows → j < Y .columns → Kept (chosen method) (X .columns) (cellIn X i) (λ l. cellIn Y l j) (rangeIn Z i j)
 
--- ---- a and b are valid sheets that can be multiplied, s is a sheet of the product's size, and its cells meet demand 3
+-- ---- the sheet job: a and b are valid sheets that can be multiplied, s is a sheet of the product's size, and its cells meet demand 3
 pub record Delivered (method : ℕ) (a b s : List ℕ) : Type 0 where
   pub first : sheetRead a ≡ gives (rowsOf a, columnsOf a)
   pub second : sheetRead b ≡ gives (rowsOf b, columnsOf b)
   pub inner : columnsOf a ≡ rowsOf b
   pub reads : sheetRead s ≡ gives (rowsOf a, columnsOf b)
-  pub keeps : (i j : ℕ) → i < rowsOf a → j < columnsOf b → Kept (chosen method) (columnsOf a) (rowIn a i) (columnIn b j) (rangeIn s (columnsOf b) i j)
+  pub keeps : ProductKeeps method (matrixIn a) (matrixIn b) (matrixIn s)
 
 -- the same, for the answer of the job and the buffer afterwards: the sheet is its first n bytes
 unfoldable pub JobKeeps : ℕ → List ℕ → List ℕ → Answer ℕ → List ℕ → Type 0

@@ -1,126 +1,107 @@
-// The sheet job: reads two coupling sheets, multiplies them by one of the four methods, and writes the result's sheet.
-// It works in arrays of 1,024 patterns on the stack. A refusal leaves the out buffer as it was.
+// The sheet jobs: two sheets (`run`), or a train of 1 to 8 sheets (`run_train`), are read and multiplied from the left, and the product's sheet is written.
+// They work in arrays of 1,024 patterns on the stack. A refusal leaves the out buffer as it was.
 ghost use mathlib.Core.Path.{_≡_};
 ghost use lib.ListN.{length};
-ghost use Rattle.refusals.specs.Answer.{naming};
 ghost use Rattle.refusals.specs.Sizes.{mostCells};
-ghost use Rattle.sheets.specs.Reading.{shape, readOf, lowersAfter, uppersAfter};
 ghost use Rattle.sheets.specs.Writing.{written};
-ghost use Rattle.matrices.specs.Checks.{given};
+ghost use Rattle.job.specs.Factor.{inArrays, Few};
+ghost use Rattle.job.specs.Delivery.{writtenOf, outOf, BackOf};
+ghost use Rattle.job.specs.Job.{jobProduct, jobOf, arrayAfter, factorLowers, factorUppers};
+ghost use Rattle.job.specs.Train.{trainProduct, trainOf};
 ghost use Rattle.job.specs.Demand.{JobKeeps};
-ghost use Rattle.job.specs.Job.{Multiplied, Sheets, jobOf, outOf};
+ghost use Rattle.job.specs.TrainDemand.{TrainKeeps};
+use factor::copy;
+use factor::read_as;
+use factor::times_sheet;
 use matrices::methods::check_method;
 use refusals::Outcome;
 use refusals::sizes::MOST_CELLS;
 use sheets::Shape;
 use sheets::Written;
 
-// Reads a sheet. Where it is refused, the refusal gets this matrix number.
-fn read_as(matrix: u8, s: &[u8], lowers: &mut [u32], uppers: &mut [u32]) -> Shape
-    ensures answer { λ r. ⌜ shape r ≡ naming matrix (readOf (now (s .entry)) (length (now (lowers .entry))) (length (now (uppers .entry)))) ⌝ }
-    ensures below { λ r. ⌜ now (lowers .exit) ≡ lowersAfter (now (s .entry)) (shape r) (now (lowers .entry)) ⌝ }
-    ensures above { λ r. ⌜ now (uppers .exit) ≡ uppersAfter (now (s .entry)) (shape r) (now (uppers .entry)) ⌝ }
-{
-    match sheets::read(s, lowers, uppers) {
-        Shape::Sizes(rows, columns) => Shape::Sizes(rows, columns),
-        Shape::Refused(r) => Shape::Refused(r.named(matrix)),
-    }
-}
+mod factor;
+mod train;
 
-// The product of two matrices, with work slices on the stack.
-fn multiply(
-    method: u32,
-    a_rows: usize,
-    a_columns: usize,
-    b_rows: usize,
-    b_columns: usize,
-    al: &[u32],
-    au: &[u32],
-    bl: &[u32],
-    bu: &[u32],
-    lo: &mut [u32],
-    up: &mut [u32],
-) -> Outcome
-    ensures { λ r. ⌜ Multiplied (given method «a_rows» «a_columns» «b_rows» «b_columns» (now (al .entry)) (now (au .entry)) (now (bl .entry)) (now (bu .entry))
-        mostCells mostCells mostCells mostCells (length (now (lo .entry))) (length (now (up .entry))))
-        (now (lo .entry)) (now (up .entry)) r (now (lo .exit)) (now (up .exit)) ⌝ }
-{
-    let mut ma = [0u32; MOST_CELLS];
-    let mut ra = [0u32; MOST_CELLS];
-    let mut mb = [0u32; MOST_CELLS];
-    let mut rb = [0u32; MOST_CELLS];
-    products::product(
-        method,
-        a_rows,
-        a_columns,
-        b_rows,
-        b_columns,
-        al,
-        au,
-        bl,
-        bu,
-        &mut ma,
-        &mut ra,
-        &mut mb,
-        &mut rb,
-        lo,
-        up,
-    )
-}
-
-// Checks the method (refusal 9), reads A's sheet, reads B's, and multiplies. The product checks first that A has as many columns as B has rows.
-pub fn multiply_sheets(method: u32, a: &[u8], b: &[u8], lo: &mut [u32], up: &mut [u32]) -> Shape
-    ensures { λ r. ⌜ Sheets method (now (a .entry)) (now (b .entry)) (now (lo .entry)) (now (up .entry))
-        r (now (lo .exit)) (now (up .exit)) ⌝ }
+// Checks the method (refusal 9), reads A's sheet, reads B's, and multiplies.
+fn product_of_two(method: u32, a: &[u8], b: &[u8], lo: &mut [u32], up: &mut [u32]) -> Shape
+    requires { ⌜ (length (now lo) ≡ mostCells) × (length (now up) ≡ mostCells) ⌝ }
+    ensures { λ r. ⌜ inArrays r (now (lo .exit)) (now (up .exit)) ≡ jobProduct method (now (a .entry)) (now (b .entry)) ⌝ }
 {
     match check_method(method) {
-        Outcome::Done => {}
-        Outcome::Refused(r) => {
-            return Shape::Refused(r);
-        }
-    }
-    let mut al = [0u32; MOST_CELLS];
-    let mut au = [0u32; MOST_CELLS];
-    let mut bl = [0u32; MOST_CELLS];
-    let mut bu = [0u32; MOST_CELLS];
-    match read_as(1, a, &mut al, &mut au) {
-        Shape::Refused(r) => Shape::Refused(r),
-        Shape::Sizes(a_rows, a_columns) => match read_as(2, b, &mut bl, &mut bu) {
+        Outcome::Refused(r) => Shape::Refused(r),
+        Outcome::Done => match read_as(1, a, lo, up) {
             Shape::Refused(r) => Shape::Refused(r),
-            Shape::Sizes(b_rows, b_columns) => match multiply(
-                method,
-                a_rows,
-                a_columns,
-                b_rows,
-                b_columns,
-                &al,
-                &au,
-                &bl,
-                &bu,
-                lo,
-                up,
-            ) {
-                Outcome::Refused(r) => Shape::Refused(r),
-                Outcome::Done => Shape::Sizes(a_rows, b_columns),
-            },
+            Shape::Sizes(rows, columns) => times_sheet(method, 3, 2, rows, columns, b, lo, up),
         },
     }
 }
 
-// The whole job: returns the length of the sheet written, or the refusal. A refusal by the writer names matrix 3.
+// Writes the sheet of a product, which stands in lo and up. A refusal by the writer gets this matrix number.
+fn deliver(matrix: u8, product: Shape, lo: &[u32], up: &[u32], out: &mut [u8]) -> Written
+    requires { ⌜ Few product × (length (now lo) ≡ mostCells) × (length (now up) ≡ mostCells) ⌝ }
+    ensures answer { λ r. ⌜ written r ≡ writtenOf matrix (inArrays product (now (lo .entry)) (now (up .entry))) (length (now (out .entry))) ⌝ }
+    ensures left { λ r. ⌜ now (out .exit) ≡ outOf (inArrays product (now (lo .entry)) (now (up .entry))) (written r) (now (out .entry)) ⌝ }
+    ensures back { λ r. ⌜ BackOf (inArrays product (now (lo .entry)) (now (up .entry))) (written r) (now (out .exit)) ⌝ }
+{
+    match product {
+        Shape::Refused(r) => Written::Refused(r),
+        Shape::Sizes(rows, columns) => {
+            let n = rows * columns;
+            match sheets::put(rows, columns, &lo[..n], &up[..n], out) {
+                Written::Bytes(k) => Written::Bytes(k),
+                Written::Refused(r) => Written::Refused(r.named(matrix)),
+            }
+        }
+    }
+}
+
+// The product of two sheets: its bounds in the front of lo and up. A refusal leaves both as they were.
+pub fn multiply_sheets(
+    method: u32,
+    a: &[u8],
+    b: &[u8],
+    lo: &mut [u32; MOST_CELLS],
+    up: &mut [u32; MOST_CELLS],
+) -> Shape
+    ensures answer { λ r. ⌜ inArrays r (now (lo .exit)) (now (up .exit)) ≡ jobProduct method (now (a .entry)) (now (b .entry)) ⌝ }
+    ensures below { λ r. ⌜ now (lo .exit) ≡ arrayAfter factorLowers (jobProduct method (now (a .entry)) (now (b .entry))) (now (lo .entry)) ⌝ }
+    ensures above { λ r. ⌜ now (up .exit) ≡ arrayAfter factorUppers (jobProduct method (now (a .entry)) (now (b .entry))) (now (up .entry)) ⌝ }
+{
+    let mut l = [0u32; MOST_CELLS];
+    let mut u = [0u32; MOST_CELLS];
+    match product_of_two(method, a, b, &mut l, &mut u) {
+        Shape::Refused(r) => Shape::Refused(r),
+        Shape::Sizes(rows, columns) => {
+            let n = rows * columns;
+            copy(n, &l, lo);
+            copy(n, &u, up);
+            Shape::Sizes(rows, columns)
+        }
+    }
+}
+
+// The sheet job: returns the length of the sheet written, or the refusal. A refusal by the writer names matrix 3.
 // The cells of the written sheet enclose the product of any two matrices of fractions whose entries lie in the cells of a and b.
 pub fn run(method: u32, a: &[u8], b: &[u8], out: &mut [u8]) -> Written
     ensures answer { λ r. ⌜ written r ≡ jobOf method (now (a .entry)) (now (b .entry)) (length (now (out .entry))) ⌝ }
-    ensures left { λ r. ⌜ now (out .exit) ≡ outOf method (now (a .entry)) (now (b .entry)) (written r) (now (out .entry)) ⌝ }
+    ensures left { λ r. ⌜ now (out .exit) ≡ outOf (jobProduct method (now (a .entry)) (now (b .entry))) (written r) (now (out .entry)) ⌝ }
     ensures keeps { λ r. ⌜ JobKeeps method (now (a .entry)) (now (b .entry)) (written r) (now (out .exit)) ⌝ }
 {
     let mut lo = [0u32; MOST_CELLS];
     let mut up = [0u32; MOST_CELLS];
-    match multiply_sheets(method, a, b, &mut lo, &mut up) {
-        Shape::Refused(r) => Written::Refused(r),
-        Shape::Sizes(rows, columns) => match sheets::put(rows, columns, &lo, &up, out) {
-            Written::Bytes(n) => Written::Bytes(n),
-            Written::Refused(r) => Written::Refused(r.named(3)),
-        },
-    }
+    let product = product_of_two(method, a, b, &mut lo, &mut up);
+    deliver(3, product, &lo, &up, out)
+}
+
+// The same for a train of count sheets back to back, 1 to 8. The matrix of a refusal is the sheet's position, or 9 for a product and the writing.
+// The cells of the written sheet enclose the product, from the left, of any matrices of fractions whose entries lie in the cells of the sheets.
+pub fn run_train(method: u32, count: u32, sheets: &[u8], out: &mut [u8]) -> Written
+    ensures answer { λ r. ⌜ written r ≡ trainOf method count (now (sheets .entry)) (length (now (out .entry))) ⌝ }
+    ensures left { λ r. ⌜ now (out .exit) ≡ outOf (trainProduct method count (now (sheets .entry))) (written r) (now (out .entry)) ⌝ }
+    ensures keeps { λ r. ⌜ TrainKeeps method count (now (sheets .entry)) (written r) (now (out .exit)) ⌝ }
+{
+    let mut lo = [0u32; MOST_CELLS];
+    let mut up = [0u32; MOST_CELLS];
+    let product = train::product(method, count, sheets, &mut lo, &mut up);
+    deliver(9, product, &lo, &up, out)
 }

@@ -112,17 +112,17 @@ module _ (g : Given) where
           let l : stop g ≤ cells g = bounded in
           omega arith
 
-  result-done : (bound : Option Range → ℕ) (d : List ℕ) → checkOf g ≡ done → stop g ≡ cells g → resultAfter g bound d ≡ front (cells g) (λ c. bound (entries g c)) d
+  -- its result
+  pub result-done : productOf g ≡ done → (bound : Option Range → ℕ) (d : List ℕ) → resultAfter g bound d ≡ front (cells g) (λ c. bound (entries g c)) d
   unfolding resultAfter
-  result-done bound d e s = rw (e, le-ltb (stop g) (cells g) (omega arith))
+  result-done e bound d = let t = done-tells e in rw (t .0, le-ltb (stop g) (cells g) (omega (arith, t .1)))
+
+  -- which meets demand 3
+  pub entries-keep : productOf g ≡ done → (lo up : List ℕ) (i j : ℕ) → i < g .a-rows → j < g .b-columns
+      → Kept (chosen (g .method)) (g .a-columns) (rowOf g i) (columnOf g j) (rangeAt g (front (cells g) (λ c. lowerOf (entries g c)) lo) (front (cells g) (λ c. upperOf (entries g c)) up) i j)
+  entries-keep e lo up = let t = done-tells e in keeps-at g (checked-tells g (t .0)) lo up (t .1)
 
 pub left-keeps : {g : Given} {ma ra mb rb lo up : List ℕ} {r : Answer (Unit {0})} {ma′ ra′ mb′ rb′ lo′ up′ : List ℕ} → Left g ma ra mb rb lo up r ma′ ra′ mb′ rb′ lo′ up′
     → Left g ma ra mb rb lo up r ma′ ra′ mb′ rb′ lo′ up′ × Keeps g lo′ up′
 unfolding Keeps
-left-keeps {g = g} {lo = lo} {up = up} L = (
-  L,
-  λ e i j hi hj.
-      let t = done-tells g e in
-      rw (L .lowers ∙ result-done g lowerOf lo (t .0) (t .1), L .uppers ∙ result-done g upperOf up (t .0) (t .1))
-      (keeps-at g (checked-tells g (t .0)) lo up (t .1) i j hi hj),
-)
+left-keeps {g = g} {lo = lo} {up = up} L = (L, λ e i j hi hj. rw (L .lowers ∙ result-done g e lowerOf lo, L .uppers ∙ result-done g e upperOf up) (entries-keep g e lo up i j hi hj))

@@ -9,17 +9,18 @@ use lib.ListN.{length, take, drop, length-drop}
 use lib.Seq.{take-all, take-take, getD-take, length-take-le}
 use borrow.Author.Tests.{leb-true, leb-false, lt-leb}
 use Rattle.refusals.specs.declared.Refusal.{Refusal}
-use Rattle.refusals.specs.Refusal.{ofMatrix}
-use Rattle.refusals.specs.Answer.{Answer, gives, refuses, refuse, then, naming}
-use Rattle.refusals.proofs.Answers.{not-both, then-tells}
+use Rattle.refusals.specs.Refusal.{ofMatrix, named}
+use Rattle.refusals.specs.Answer.{refuses, refuse, then, andThen}
 use Rattle.sheets.specs.Layout.{u16At, framed, countOf}
 use Rattle.sheets.specs.Reading.{readOf}
+use Rattle.sheets.specs.Cut.{firstLength}
+use Rattle.sheets.proofs.Cuts.{length-long}
 use Rattle.matrices.specs.Checks.{checkMethod}
-use Rattle.job.specs.Job.{sheetRead, sheetsProductOf}
-use Rattle.print_product.specs.Input.{digitValue, lengthOfA, sheetA, sheetB}
+use Rattle.job.specs.Factor.{sheetRead, readAs}
+use Rattle.job.specs.Fold.{stepOf, foldFrom, sheetsProduct}
+use Rattle.job.specs.Job.{jobProduct}
+use Rattle.print_product.specs.Input.{digitValue, sheetA, sheetB}
 use Rattle.print_product.specs.Printed.{answerText, sheetsText, printedOf}
-use Rattle.print_product.proofs.Answers.{textOf}
-use Rattle.print_product.proofs.InputLaws.{length-long}
 
 -- ---- a sheet of more than 16,400 bytes is refused
 
@@ -36,25 +37,16 @@ too-long : (s : List ℕ) → 16400 < length s → sheetRead s ≡ refuse 6
 unfolding readOf
 too-long s h = rw (not-framed s h)
 
--- ---- the text where a sheet is refused does not depend on what comes after that sheet
-
--- of an answer that is refused in the end, the text does not show the sheets
-refused-shows : (method : ℕ) (a b : List ℕ) (o next : Answer (ℕ × ℕ)) → ((v : ℕ × ℕ) → o ≡ gives v → ⊥) → answerText method a b (then o next) ≡ answerText method [] [] o
-refused-shows method a b (gives v) next h = absurd (h v refl)
-refused-shows method a b (refuses y) next h = refl
+-- ---- the answer where a sheet is refused does not depend on what comes after that sheet
 
 module _ (method : ℕ) (x : Refusal) where
-  first-refused : (a b : List ℕ) → sheetRead a ≡ refuses x → textOf method a b ≡ answerText method [] [] (then (checkMethod method) (naming 1 (refuses x)))
-  unfolding sheetsProductOf
-  first-refused a b e = rw e (refused-shows method a b (then (checkMethod method) (naming 1 (refuses x))) _ (λ v h. not-both (then-tells (checkMethod method) _ v h .1)))
+  first-refused : (a b : List ℕ) → sheetRead a ≡ refuses x → jobProduct method a b ≡ then (checkMethod method) (refuses (named 1 x))
+  unfolding jobProduct sheetsProduct readAs
+  first-refused a b e = rw e
 
-  second-refused : (a b : List ℕ) → sheetRead b ≡ refuses x
-      → textOf method a b ≡ answerText method [] [] (then (checkMethod method) (then (naming 1 (sheetRead a)) (naming 2 (refuses x))))
-  unfolding sheetsProductOf
-  second-refused a b e =
-      rw e
-      (refused-shows method a b (then (checkMethod method) (then (naming 1 (sheetRead a)) (naming 2 (refuses x)))) _
-      (λ v h. not-both (then-tells (naming 1 (sheetRead a)) _ v (then-tells (checkMethod method) _ v h .1) .1)))
+  second-refused : (a b : List ℕ) → sheetRead b ≡ refuses x → jobProduct method a b ≡ then (checkMethod method) (andThen (readAs 1 a) (λ X. refuses (named 2 x)))
+  unfolding jobProduct sheetsProduct foldFrom stepOf readAs
+  second-refused a b e = rw e
 
 -- ---- both sheets, cut
 
@@ -66,33 +58,34 @@ module _ (method : ℕ) (s : List ℕ) (long : 32801 < length s) where
   cut-length : length (take 32801 s) ≡ 32801
   cut-length = length-take-le 32801 s (omega arith)
 
-  first-cut : lengthOfA (take 32801 s) ≡ min (16 * countOf s) 32801
+  first-cut : firstLength (take 32801 s) ≡ min (16 * countOf s) 32801
   first-cut = sym (length-long (take 32801 s) (countOf s) (min (16 * countOf s) 32801) (omega (arith, cut-length)) (sym (count-cut s 32801 (omega arith))) (ap (min (16 * countOf s)) (sym cut-length)))
 
-  first-whole : lengthOfA s ≡ min (16 * countOf s) (length s)
+  first-whole : firstLength s ≡ min (16 * countOf s) (length s)
   first-whole = sym (length-long s (countOf s) (min (16 * countOf s) (length s)) (omega arith) refl refl)
 
   cut : sheetsText method (take 32801 s) ≡ sheetsText method s
   unfolding sheetsText
   cut = go (leb (16 * countOf s) 16400) refl
     where
-      go : (t : Bool) → leb (16 * countOf s) 16400 ≡ t → textOf method (sheetA (take 32801 s)) (sheetB (take 32801 s)) ≡ textOf method (sheetA s) (sheetB s)
+      go : (t : Bool) → leb (16 * countOf s) 16400 ≡ t → answerText method (jobProduct method (sheetA (take 32801 s)) (sheetB (take 32801 s))) ≡ answerText method (jobProduct method (sheetA s) (sheetB s))
       go true e =
           let k : ℕ = 16 * countOf s in
           let few : k ≤ 16400 = leb-true k 16400 e in
-          let m : lengthOfA (take 32801 s) ≡ k = first-cut ∙ omega arith in
-          let n : lengthOfA s ≡ k = first-whole ∙ omega arith in
+          let m : firstLength (take 32801 s) ≡ k = first-cut ∙ omega arith in
+          let n : firstLength s ≡ k = first-whole ∙ omega arith in
           let same : take k (take 32801 s) ≡ take k s = take-take k 32801 s (omega arith) in
           let b : sheetRead (drop k (take 32801 s)) ≡ refuse 6 = too-long (drop k (take 32801 s)) (omega (arith, length-drop k (take 32801 s), cut-length)) in
           let c : sheetRead (drop k s) ≡ refuse 6 = too-long (drop k s) (omega (arith, length-drop k s)) in
-          rw (m, n, same) (second-refused method (ofMatrix 6 0) (take k s) (drop k (take 32801 s)) b ∙ sym (second-refused method (ofMatrix 6 0) (take k s) (drop k s) c))
+          rw (m, n, same) (ap (answerText method) (second-refused method (ofMatrix 6 0) (take k s) (drop k (take 32801 s)) b ∙ sym (second-refused method (ofMatrix 6 0) (take k s) (drop k s) c)))
       go false e =
           let k : ℕ = 16 * countOf s in
           let many : 16400 < k = leb-false k 16400 e in
-          let m : length (sheetA (take 32801 s)) ≡ lengthOfA (take 32801 s) = length-take-le (lengthOfA (take 32801 s)) (take 32801 s) (omega (arith, first-cut, cut-length)) in
-          let n : length (sheetA s) ≡ lengthOfA s = length-take-le (lengthOfA s) s (omega (arith, first-whole)) in
-          first-refused method (ofMatrix 6 0) (sheetA (take 32801 s)) (sheetB (take 32801 s)) (too-long (sheetA (take 32801 s)) (omega (arith, m, first-cut)))
-          ∙ sym (first-refused method (ofMatrix 6 0) (sheetA s) (sheetB s) (too-long (sheetA s) (omega (arith, n, first-whole))))
+          let m : length (sheetA (take 32801 s)) ≡ firstLength (take 32801 s) = length-take-le (firstLength (take 32801 s)) (take 32801 s) (omega (arith, first-cut, cut-length)) in
+          let n : length (sheetA s) ≡ firstLength s = length-take-le (firstLength s) s (omega (arith, first-whole)) in
+          ap (answerText method)
+          (first-refused method (ofMatrix 6 0) (sheetA (take 32801 s)) (sheetB (take 32801 s)) (too-long (sheetA (take 32801 s)) (omega (arith, m, first-cut)))
+          ∙ sym (first-refused method (ofMatrix 6 0) (sheetA s) (sheetB s) (too-long (sheetA s) (omega (arith, n, first-whole)))))
 
 sheets-cut : (method : ℕ) (s : List ℕ) → sheetsText method (take 32801 s) ≡ sheetsText method s
 sheets-cut method s = go (leb (length s) 32801) refl

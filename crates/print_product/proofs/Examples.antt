@@ -15,6 +15,7 @@ use Rattle.binary32.specs.Number.{valueOf}
 use Rattle.binary32.specs.Operations.{answer}
 use Rattle.intervals.specs.Conversion.{faultOf}
 use Rattle.sheets.specs.Layout.{u16At, u32At, blank, recordOf, framed}
+use Rattle.sheets.specs.Cut.{firstLength}
 use Rattle.sheets.specs.Wear.{unitsOf, amountOf}
 use Rattle.sheets.specs.Cell.{widenedOf}
 use Rattle.sheets.specs.Chain.{judgeOf, visitOf, walk, chainOf}
@@ -25,15 +26,17 @@ use Rattle.matrices.specs.Matrix.{cellAt}
 use Rattle.matrices.specs.Entries.{entryOf, entryAt, stopOf}
 use Rattle.matrices.specs.Checks.{methodOf, checkMethod, checkSizes, checkOperands, checkLent, checkSlices, checkCells, checkBoth, checkShapes, checkOf}
 use Rattle.matrices.specs.Product.{productOf, resultAfter}
-use Rattle.job.specs.Job.{sheetsProductOf, boundsAfter}
+use Rattle.job.specs.Factor.{readAs}
+use Rattle.job.specs.Fold.{timesOf, stepOf, foldFrom, sheetsProduct}
+use Rattle.job.specs.Job.{jobProduct}
 use Rattle.print_product.specs.Digits.{digit, digits, digitCountTo}
 use Rattle.print_product.specs.Lines.{productLine, cellLine, refusedLine}
-use Rattle.print_product.specs.Input.{digitValue, lengthOfA}
+use Rattle.print_product.specs.Input.{digitValue}
 use Rattle.print_product.specs.Printed.{cellLines, sheetsText, printedOf}
 
 -- refused 9 0 0 0
 none : printedOf [] ≡ 114 ∷ 101 ∷ 102 ∷ 117 ∷ 115 ∷ 101 ∷ 100 ∷ 32 ∷ 57 ∷ 32 ∷ 48 ∷ 32 ∷ 48 ∷ 32 ∷ 48 ∷ 10 ∷ []
-unfolding printedOf sheetsText digitValue lengthOfA refusedLine digit digits digitCountTo sheetsProductOf checkMethod methodOf
+unfolding printedOf sheetsText digitValue firstLength refusedLine digit digits digitCountTo jobProduct checkMethod methodOf
 none = refl
 
 -- one row and one column, class 0
@@ -44,7 +47,7 @@ sheet l u = recordBytes 1 1 1 2 0 ++ recordBytes 0 0 0 l u
 four : printedOf (52 ∷ sheet 0x3F800000 0x40000000 ++ sheet 0xBF800000 0x40400000)
     ≡ (112 ∷ 114 ∷ 111 ∷ 100 ∷ 117 ∷ 99 ∷ 116 ∷ 32 ∷ 52 ∷ 32 ∷ 49 ∷ 32 ∷ 49 ∷ 10 ∷ [])
     ++ (48 ∷ 32 ∷ 48 ∷ 32 ∷ 67 ∷ 48 ∷ 52 ∷ 48 ∷ 48 ∷ 48 ∷ 48 ∷ 48 ∷ 32 ∷ 52 ∷ 48 ∷ 67 ∷ 48 ∷ 48 ∷ 48 ∷ 48 ∷ 48 ∷ 10 ∷ [])
-unfolding printedOf sheetsText digitValue lengthOfA productLine cellLine cellLines digit digits digitCountTo sheetsProductOf boundsAfter
+unfolding printedOf sheetsText digitValue firstLength productLine cellLine cellLines digit digits digitCountTo jobProduct sheetsProduct foldFrom stepOf timesOf readAs
     u16At u32At blank recordOf framed checkFit checkSize checkLengths unitsOf amountOf widenedOf judgeOf visitOf walk chainOf readOf putIn sliceAfter recordBytes
     productOf resultAfter checkOf checkShapes checkMethod methodOf checkSizes checkSlices checkOperands checkLent checkBoth checkCells first
     stopOf tabulate entryAt entryOf cellAt entry radius₄ centre total sum innerTerm outerRadius outerTerm midTerm faultOf answer valueOf mid rad up down lo hi ceil expo size MAX val encode ends bind

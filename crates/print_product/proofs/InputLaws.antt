@@ -1,15 +1,14 @@
--- Laws of the input's parts: the digit, and A's length. Assumes nothing.
+-- Laws of the input's parts: the digit, and what stands behind it. Assumes nothing.
 use mathlib.Core.Path.{_≡_, refl, sym, ap}
 use mathlib.Core.Bool.{Bool, true, false, cond}
 use mathlib.Core.List.{List, [], _∷_}
-use Prim.Native.Nat.{ℕ, _-_, _*_, _≤_, _<_, min}
+use Prim.Native.Nat.{ℕ, _-_, _≤_, _<_, min}
 use native.Mathlib.Omega.{arith}
 use lib.Dec.{ltb}
 use lib.ListN.{length, drop, List·getD-eq-default}
 use lib.Seq.{drop-nil}
 use borrow.Author.Tests.{lt-ltb, le-ltb, ltb-false}
-use Rattle.sheets.specs.Layout.{countOf}
-use Rattle.print_product.specs.Input.{digitValue, methodIn, lengthOfA}
+use Rattle.print_product.specs.Input.{digitValue, methodIn}
 
 -- ---- the method
 
@@ -43,11 +42,3 @@ method-none s h = sym (ap digitValue (List·getD-eq-default s 0 (omega arith)))
 pub behind-digit : (s : List ℕ) (k : ℕ) → k ≡ min 1 (length s) → drop k s ≡ drop 1 s
 behind-digit [] k e = drop-nil k
 behind-digit (x ∷ s) k e = let one : k ≡ 1 = omega arith in ap (λ n. drop n (x ∷ s)) one
-
-pub length-short : (s : List ℕ) → length s < 6 → length s ≡ lengthOfA s
-unfolding lengthOfA
-length-short s h = rw (lt-ltb (length s) 6 h)
-
-pub length-long : (s : List ℕ) (n k : ℕ) → 6 ≤ length s → n ≡ countOf s → k ≡ min (16 * n) (length s) → k ≡ lengthOfA s
-unfolding lengthOfA
-length-long s n k h e f = rw (le-ltb (length s) 6 h, f, e)

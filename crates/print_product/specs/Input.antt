@@ -1,10 +1,10 @@
 -- The parts of the input: one ASCII digit, sheet A, sheet B. Definitions only (01, "The printed product").
 use mathlib.Core.Bool.{cond}
 use mathlib.Core.List.{List}
-use Prim.Native.Nat.{ℕ, _-_, _*_, min}
+use Prim.Native.Nat.{ℕ, _-_}
 use lib.Dec.{ltb}
-use lib.ListN.{length, getD, take, drop}
-use Rattle.sheets.specs.Layout.{countOf}
+use lib.ListN.{getD, take, drop}
+use Rattle.sheets.specs.Cut.{firstLength}
 
 -- the value of an ASCII digit; for any other byte 0, which is no method
 unfoldable pub digitValue : ℕ → ℕ
@@ -17,13 +17,9 @@ methodIn input = digitValue (getD input 0 0)
 abbrev pub sheetsIn : List ℕ → List ℕ
 sheetsIn input = drop 1 input
 
--- the length of A in s, which has both sheets: 16 × A's record count, or all of s where s is shorter or ends before the count
-unfoldable pub lengthOfA : List ℕ → ℕ
-lengthOfA s = cond (ltb (length s) 6) (length s) (min (16 * countOf s) (length s))
-
 -- sheet A, and sheet B, which is the rest
 abbrev pub sheetA : List ℕ → List ℕ
-sheetA s = take (lengthOfA s) s
+sheetA s = take (firstLength s) s
 
 abbrev pub sheetB : List ℕ → List ℕ
-sheetB s = drop (lengthOfA s) s
+sheetB s = drop (firstLength s) s

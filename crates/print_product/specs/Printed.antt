@@ -3,7 +3,8 @@ use mathlib.Core.List.{List, [], _++_}
 use Prim.Native.Nat.{ℕ, zero, suc, _*_, _/_, _%_}
 use lib.ListN.{getD}
 use Rattle.refusals.specs.Answer.{Answer, gives, refuses}
-use Rattle.job.specs.Job.{sheetsProductOf, resultLowers, resultUppers}
+use Rattle.job.specs.Factor.{Factor}
+use Rattle.job.specs.Job.{jobProduct}
 use Rattle.print_product.specs.Lines.{productLine, cellLine, refusedLine}
 use Rattle.print_product.specs.Input.{methodIn, sheetsIn, sheetA, sheetB}
 
@@ -16,14 +17,14 @@ cellLines columns lo up (suc p) = cellLines columns lo up p ++ cellLine (p / col
 abbrev pub productText : ℕ → ℕ → ℕ → List ℕ → List ℕ → List ℕ
 productText method rows columns lo up = productLine method rows columns ++ cellLines columns lo up (rows * columns)
 
--- the text for the answer of the product of the sheets a and b
-abbrev pub answerText : ℕ → List ℕ → List ℕ → Answer (ℕ × ℕ) → List ℕ
-answerText method a b (gives x) = productText method (x .0) (x .1) (resultLowers method a b) (resultUppers method a b)
-answerText method a b (refuses x) = refusedLine x
+-- the text for the answer of a product
+abbrev pub answerText : ℕ → Answer Factor → List ℕ
+answerText method (gives F) = productText method (F .rows) (F .columns) (F .lowers) (F .uppers)
+answerText method (refuses x) = refusedLine x
 
 -- the text for the method and s, which has both sheets
 unfoldable pub sheetsText : ℕ → List ℕ → List ℕ
-sheetsText method s = answerText method (sheetA s) (sheetB s) (sheetsProductOf method (sheetA s) (sheetB s) 1024 1024)
+sheetsText method s = answerText method (jobProduct method (sheetA s) (sheetB s))
 
 -- the text for the whole input
 unfoldable pub printedOf : List ℕ → List ℕ

@@ -1,11 +1,13 @@
 // The lines of the printed text, written into a buffer. Each function returns the index behind its last byte.
 ghost use Prim.Native.Nat.{_+_, _*_, _≤_, _<_};
 ghost use lib.ListN.{length};
+ghost use Rattle.refusals.specs.Sizes.{mostCells};
 ghost use Rattle.print_product.specs.Lines.{productLine, cellLine, refusedLine};
 ghost use Rattle.print_product.specs.Printed.{cellLines, productText};
 ghost use Rattle.print_product.specs.Put.{Put};
 use crate::put;
 use refusals::Refusal;
+use refusals::sizes::MOST_CELLS;
 
 // The line "product", method, rows, columns, at the start of out.
 fn product_line(out: &mut [u8], method: usize, rows: usize, columns: usize) -> usize
@@ -42,11 +44,10 @@ fn cell_lines(
     start: usize,
     columns: usize,
     count: usize,
-    lowers: &[u32],
-    uppers: &[u32],
+    lowers: &[u32; MOST_CELLS],
+    uppers: &[u32; MOST_CELLS],
 ) -> usize
-    requires { ⌜ (0 < columns) × (columns ≤ 32) × (count ≤ 32 * columns)
-        × (count ≤ length (now lowers)) × (count ≤ length (now uppers)) × (start + 24 * count ≤ length (now out)) ⌝ }
+    requires { ⌜ (0 < columns) × (columns ≤ 32) × (count ≤ 32 * columns) × (count ≤ mostCells) × (start + 24 * count ≤ length (now out)) ⌝ }
     ensures { λ r. ⌜ Put start (cellLines columns (now (lowers .entry)) (now (uppers .entry)) count) (now (out .entry)) r (now (out .exit)) ⌝ }
 {
     let mut at = start;
@@ -64,11 +65,10 @@ pub fn product_text(
     method: usize,
     rows: usize,
     columns: usize,
-    lowers: &[u32],
-    uppers: &[u32],
+    lowers: &[u32; MOST_CELLS],
+    uppers: &[u32; MOST_CELLS],
 ) -> usize
-    requires { ⌜ (method < 10) × (rows ≤ 32) × (0 < columns) × (columns ≤ 32)
-        × (rows * columns ≤ length (now lowers)) × (rows * columns ≤ length (now uppers)) × (24592 ≤ length (now out)) ⌝ }
+    requires { ⌜ (method < 10) × (rows ≤ 32) × (0 < columns) × (columns ≤ 32) × (24592 ≤ length (now out)) ⌝ }
     ensures { λ r. ⌜ Put 0 (productText method rows columns (now (lowers .entry)) (now (uppers .entry))) (now (out .entry)) r (now (out .exit)) ⌝ }
 {
     let at = product_line(out, method, rows, columns);

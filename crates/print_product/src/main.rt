@@ -12,10 +12,12 @@ mod input;
 mod lines;
 mod put;
 
+use intervals::slices::shorter;
 use libc::STDIN_FILENO;
 use libc::STDOUT_FILENO;
 use refusals::sizes::MOST_CELLS;
 use sheets::Shape;
+use sheets::cut::first_length;
 
 // 1 + 16,400 + 16,401: a digit, the longest sheet A, and a sheet B that is one byte too long. Later bytes change nothing (proofs/Cuts).
 const INPUT: usize = 32802;
@@ -29,7 +31,7 @@ fn printed(input: &[u8], out: &mut [u8]) -> usize
     ensures size { λ r. ⌜ r ≡ length (printedOf (now (input .entry))) ⌝ }
     ensures left { λ r. ⌜ now (out .exit) ≡ printedOf (now (input .entry)) ++ drop (length (printedOf (now (input .entry)))) (now (out .entry)) ⌝ }
 {
-    let start = input::least(1, input.len());
+    let start = shorter(1, input.len());
     sheets_text(input::method(input), &input[start..], out)
 }
 
@@ -40,7 +42,7 @@ fn sheets_text(method: usize, s: &[u8], out: &mut [u8]) -> usize
 {
     let mut lo = [0u32; MOST_CELLS];
     let mut up = [0u32; MOST_CELLS];
-    let end = input::length_of_a(s);
+    let end = first_length(s);
     match job::multiply_sheets(method as u32, &s[..end], &s[end..], &mut lo, &mut up) {
         Shape::Sizes(rows, columns) => lines::product_text(out, method, rows, columns, &lo, &up),
         Shape::Refused(r) => lines::refused_line(out, r),

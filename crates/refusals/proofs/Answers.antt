@@ -32,6 +32,10 @@ then-gives a v n r e f = f ∙ ap (λ x. then x n) (sym e)
 pub then-refuses : {A B : Type 0} (a : Answer A) (n : Answer B) (x : Refusal) → a ≡ refuses x → refuses x ≡ then a n
 then-refuses a n x e = ap (λ y. then y n) (sym e)
 
+pub then-then : {A B C : Type 0} (a : Answer A) (b : Answer B) (n : Answer C) → then a (then b n) ≡ then (then a b) n
+then-then (gives u) b n = refl
+then-then (refuses r) b n = refl
+
 pub then-tells : {A B : Type 0} (a : Answer A) (n : Answer B) (v : B) → then a n ≡ gives v → ((u : A) × (a ≡ gives u)) × (n ≡ gives v)
 then-tells (gives u) n v e = ((u, refl), e)
 then-tells (refuses r) n v e = absurd (not-both e)

@@ -1,5 +1,6 @@
 pub mod Bytes
 pub mod Frames
+pub mod Cuts
 pub mod Amounts
 pub mod Bounding
 pub mod Judging

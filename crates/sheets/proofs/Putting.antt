@@ -1,14 +1,15 @@
 -- Laws of putting the chain's cells in their positions. Assumes nothing.
 use mathlib.Core.Path.{_≡_, refl, ap, _∙_}
-use mathlib.Core.List.{List, _++_}
+use mathlib.Core.List.{List, [], _∷_, _++_}
 use Prim.Native.Nat.{ℕ, zero, suc, _+_, _*_, _≤_, _<_}
 use native.Mathlib.Omega.{arith}
-use lib.ListN.{length, set, length-set}
+use lib.ListN.{length, set, length-set, length-replicate}
 use lib.Seq.{set-append-left}
 use Rattle.refusals.specs.Answer.{Answer}
 use Rattle.sheets.specs.declared.chain.Cell.{Cell}
-use Rattle.sheets.specs.Chain.{Walk, stopped, more, walk}
-use Rattle.sheets.specs.Reading.{putIn}
+use Rattle.sheets.specs.Layout.{rowsOf, columnsOf}
+use Rattle.sheets.specs.Chain.{Walk, stopped, more, walk, chainOf}
+use Rattle.sheets.specs.Reading.{putIn, matrixOf}
 use Rattle.sheets.proofs.Walking.{visit-position, turn}
 
 module _ (b : Cell → ℕ) where
@@ -33,3 +34,12 @@ module _ (b : Cell → ℕ) where
       let j : (l ≤ c .position) × (c .position < rows * columns) = visit-position s rows columns i l c e in
       ap (λ (x : List ℕ). putIn b x (walk s rows columns t (c .next) (c .position + 1) .cells)) (set-append-left a d (c .position) (b c) (omega arith))
       ∙ put-front s rows columns t (c .next) (c .position + 1) (set a (c .position) (b c)) d (length-set a (c .position) (b c) ∙ n))
+
+  -- a matrix has as many bounds as cells
+  put-length : (cs : List Cell) (a : List ℕ) → length (putIn b a cs) ≡ length a
+  unfolding putIn
+  put-length [] a = refl
+  put-length (c ∷ cs) a = put-length cs (set a (c .position) (b c)) ∙ length-set a (c .position) (b c)
+
+  pub matrix-length : (s : List ℕ) → length (matrixOf b s) ≡ rowsOf s * columnsOf s
+  matrix-length s = put-length (chainOf s .cells) _ ∙ length-replicate (rowsOf s * columnsOf s) 0

@@ -6,3 +6,4 @@ pub mod Reading
 pub mod Sheet
 pub mod Writing
 pub mod Trip
+pub mod Cut

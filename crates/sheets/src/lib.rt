@@ -7,6 +7,7 @@ ghost use Rattle.sheets.specs.Trip.{TripOf};
 
 mod cell;
 mod chain;
+pub mod cut;
 mod layout;
 mod matrix;
 mod records;

@@ -10,8 +10,8 @@ use borrow.Author.Needs.{needs}
 use Rattle.print_product.proofs.printed.Statement.{statement}
 use Rattle.print_product.proofs.printed.Tie as tie
 
-least-requires : tie.Need-least-requires
-least-requires c κs = search needs
+shorter-requires : tie.Need-shorter-requires
+shorter-requires c κs = search needs
 
 method-requires : tie.Need-method-requires
 method-requires c κs = search needs
@@ -36,14 +36,14 @@ returns c =
     let a = c .before .before .before .before .before .before .before .before .before .args in
     let t = c .before .before .sheets-text in
     put-front
-    (subst (λ t′. Put 0 t′ (a .out .now) (t .result) (t .last .1 .1 .0)) (printed-is (a .input .now) (c .before .before .before .before .before .method .result) (c .before .before .before .before .before .before .least .result) (c .before .before .before .before .before .method .ensures) (c .before .before .before .before .before .before .least .ensures))
+    (subst (λ t′. Put 0 t′ (a .out .now) (t .result) (t .last .1 .1 .0)) (printed-is (a .input .now) (c .before .before .before .before .before .method .result) (c .before .before .before .before .before .before .shorter .result) (c .before .before .before .before .before .method .ensures) (c .before .before .before .before .before .before .shorter .ensures))
     (t .ensures))
 
 pub printed-spec : {M : Type 1} → statement M
 printed-spec =
     tie.close
     (tie.spec
-    least-requires
+    shorter-requires
     method-requires
     sub-sheets-text
     part-sheets-text-start

@@ -31,19 +31,19 @@ rem-cell-line c = omega arith
 mul-cell-line : tie.Need-mul-cell-line Inv-loop μ-loop
 mul-cell-line c = omega arith
 
-shared-slice-read-cell-line : tie.Need-shared-slice-read-cell-line Inv-loop μ-loop
-shared-slice-read-cell-line c = omega arith
+element-copy-out-cell-line : tie.Need-element-copy-out-cell-line Inv-loop μ-loop
+element-copy-out-cell-line c = omega arith
 
 mul-cell-line-2 : tie.Need-mul-cell-line-2 Inv-loop μ-loop
 mul-cell-line-2 c = omega arith
 
-shared-slice-read-cell-line-2 : tie.Need-shared-slice-read-cell-line-2 Inv-loop μ-loop
-shared-slice-read-cell-line-2 c = omega arith
+element-copy-out-cell-line-2 : tie.Need-element-copy-out-cell-line-2 Inv-loop μ-loop
+element-copy-out-cell-line-2 c = omega arith
 
 cell-line-requires : tie.Need-cell-line-requires Inv-loop μ-loop
 cell-line-requires c κs =
     let h = c .before .before .before .before .loop in
-    let a = c .before .before .before .before .before .before .before .before .args in
+    let a = c .before .before .before .before .before .before .args in
     let row = div-lt (h .p) (a .columns) 32 (omega arith) (omega arith) in
     let column = mod-lt (h .p) (a .columns) (omega arith) in
     (omega arith, omega arith, omega arith)
@@ -58,7 +58,7 @@ loop-again : tie.Need-loop-again Inv-loop μ-loop
 loop-again c =
     let f = c .before .before .cell-line .ensures in
     let h = c .before .before .before .before .before .before .before .loop in
-    let a = c .before .before .before .before .before .before .before .before .before .before .before .args in
+    let a = c .before .before .before .before .before .before .before .before .before .args in
     let row = div-lt (h .p) (a .columns) 32 (omega arith) (omega arith) in
     let column = mod-lt (h .p) (a .columns) (omega arith) in
     let l = cell-length (h .p / a .columns) (h .p % a .columns) (getD (a .lowers .now) (h .p) 0) (getD (a .uppers .now) (h .p) 0) (omega arith) (omega arith) in
@@ -70,7 +70,7 @@ same-length c = c .before .loop .inv .2
 returns : tie.Need-returns Inv-loop μ-loop
 returns c =
     let h = c .before .loop in
-    let a = c .before .before .before .before .before .args in
+    let a = c .before .before .before .args in
     let all : h .p ≡ a .count = omega arith in
     subst (λ p. Put (a .start) (cellLines (a .columns) (a .lowers .now) (a .uppers .now) p) (a .out .now) (h .at) (h .out)) all (h .inv .3)
 
@@ -84,9 +84,9 @@ cell-lines-spec =
     div-cell-line
     rem-cell-line
     mul-cell-line
-    shared-slice-read-cell-line
+    element-copy-out-cell-line
     mul-cell-line-2
-    shared-slice-read-cell-line-2
+    element-copy-out-cell-line-2
     cell-line-requires
     add-p
     loop-less

@@ -13,15 +13,17 @@ product-line-requires : tie.Need-product-line-requires
 product-line-requires c κs = search needs
 
 mul-cell-lines : tie.Need-mul-cell-lines
-mul-cell-lines c = search needs
+mul-cell-lines c =
+    let a = c .before .before .before .before .before .before .args in
+    omega (arith, small (a .rows) (a .columns) (omega arith) (omega arith))
 
 cell-lines-requires : tie.Need-cell-lines-requires
 cell-lines-requires c κs =
-    let a = c .before .before .before .before .before .before .before .before .args in
+    let a = c .before .before .before .before .before .before .args in
     let few = small (a .rows) (a .columns) (omega arith) (omega arith) in
     let wide : a .rows * a .columns ≤ 32 * a .columns = mul-le-mul-right (a .columns) (omega arith) in
     let long = product-length (a .method) (a .rows) (a .columns) (omega arith) (omega arith) (omega arith) in
-    (omega arith, omega arith, omega arith, omega arith, omega arith, omega arith)
+    (omega arith, omega arith, omega arith, omega arith, omega arith)
 
 same-length : tie.Need-same-length
 same-length c = search needs

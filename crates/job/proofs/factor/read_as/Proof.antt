@@ -1,12 +1,9 @@
--- `job::read_as` meets its contract: the reader's, with the refusal named.
-use mathlib.Core.Path.{ap, _∙_}
-use Rattle.refusals.specs.Answer.{refuses, naming}
-use Rattle.refusals.proofs.Answers.{said}
-use Rattle.sheets.specs.Reading.{cellLower, cellUpper, shape}
-use Rattle.job.proofs.Stages.{slice-by, slice-refused}
+-- `factor::read_as` meets its contract: the reader's, with the refusal named.
+use native.Mathlib.Omega.{arith}
+use Rattle.job.proofs.Factors.{read-refused, read-gives}
 use borrow.Author.Needs.{needs}
-use Rattle.job.proofs.read_as.Statement.{statement}
-use Rattle.job.proofs.read_as.Tie as tie
+use Rattle.job.proofs.factor.read_as.Statement.{statement}
+use Rattle.job.proofs.factor.read_as.Tie as tie
 
 read-requires : tie.Need-read-requires
 read-requires c κs = search needs
@@ -28,9 +25,9 @@ same-length-2 c = search needs
 
 returns : tie.Need-returns
 returns c =
+    let a = c .before .before .before .before .before .before .before .before .before .before .before .before .before .args in
     let r = c .before .before .before .before .before .before .before .read .ensures in
-    let e = c .before .rows .given .1 in
-    (ap (naming _) (said shape (r .0) e), (slice-by cellLower _ _ _ _ _ (r .1 .0) e, slice-by cellUpper _ _ _ _ _ (r .1 .1) e))
+    read-gives (a .matrix) (a .s .now) (omega arith) (omega arith) (r .0) (a .lowers .now) (a .uppers .now) (c .before .rows .given .1) (r .1 .0) (r .1 .1)
 
 same-length-3 : tie.Need-same-length-3
 same-length-3 c = search needs
@@ -40,9 +37,9 @@ same-length-4 c = search needs
 
 returns-2 : tie.Need-returns-2
 returns-2 c =
+    let a = c .before .before .before .before .before .before .before .before .before .before .before .before .before .before .args in
     let r = c .before .before .before .before .before .before .before .before .read .ensures in
-    let e = c .before .before .r .given .1 in
-    (ap refuses (c .named .ensures) ∙ ap (naming _) (said shape (r .0) e), (slice-refused cellLower _ _ _ _ _ _ (r .1 .0) e, slice-refused cellUpper _ _ _ _ _ _ (r .1 .1) e))
+    read-refused (a .matrix) (a .s .now) (omega arith) (omega arith) (r .0) (c .before .before .r .given .1) (c .named .ensures)
 
 pub read-as-spec : {M : Type 1} → statement M
 read-as-spec =

@@ -1,0 +1,17 @@
+/* Test drivers, not proved: puts a fault or a large number into a valid sheet that has at
+   least one cell in its chain. */
+#ifndef FAULT_DRAW_H
+#define FAULT_DRAW_H
+
+#include <stdint.h>
+
+/* One of the refusals of a sheet: 1, 3 to 8 or 10. */
+uint32_t draw_fault_number(void);
+
+/* One fault, so that a read of the sheet is refused with this number. */
+void put_fault(uint8_t *sheet, uint32_t number);
+
+/* A bound from 2^112 on in one cell, so that a product may be too large. */
+void put_large(uint8_t *sheet);
+
+#endif
