@@ -21,7 +21,7 @@ use Rattle.job.specs.Job.{jobProduct, jobOf}
 use Rattle.job.specs.Train.{sheetsIn, trainProduct, trainOf}
 use Rattle.job.specs.Demand.{cellIn, Delivered, JobKeeps}
 use Rattle.job.specs.TrainDemand.{Fractions, PickedFrom, Carried, TrainKeeps}
-use Rattle.job.proofs.Sizes.{read-tells, Stepped, step-tells}
+use Rattle.job.proofs.Tells.{read-tells, Stepped, step-tells}
 use Rattle.job.proofs.Trains.{train-tells}
 use Rattle.job.proofs.Writing.{Delivers}
 use Rattle.job.proofs.Backs.{Back, back}

@@ -20,7 +20,7 @@ use Rattle.job.specs.Factor.{Factor, matrixIn, readAs}
 use Rattle.job.specs.Fold.{operands, productIn, stepOf, foldFrom, sheetsProduct}
 use Rattle.job.specs.Demand.{rangeIn, ProductKeeps}
 use Rattle.job.specs.TrainDemand.{Fractions, PickedFrom, times, PickedAll, exactFrom, exactProduct, StepKeeps, StepsKeep, AllKeep}
-use Rattle.job.proofs.Sizes.{read-tells, Stepped, step-tells}
+use Rattle.job.proofs.Tells.{read-tells, Stepped, step-tells}
 
 -- ---- one step
 front-nil : (n : ℕ) (f : ℕ → ℕ) → front n f [] ≡ tabulate n f

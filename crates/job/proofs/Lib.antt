@@ -1,6 +1,7 @@
 pub mod Factors
 pub mod Steps
 pub mod Folds
+pub mod Tells
 pub mod Sizes
 pub mod Jobs
 pub mod Trains

@@ -12,7 +12,8 @@ use Rattle.job.specs.Fold.{stepOf, foldFrom}
 use Rattle.job.specs.Train.{nextLength, sheetsIn}
 use Rattle.job.proofs.Factors.{arrays-by}
 use Rattle.job.proofs.Folds.{fold-stops, fold-goes, fold-none}
-use Rattle.job.proofs.Sizes.{Stepped, step-tells, sheet-small}
+use Rattle.job.proofs.Tells.{Stepped, step-tells}
+use Rattle.job.proofs.Sizes.{sheet-small}
 use Rattle.job.proofs.Trains.{rest-is, sheets-next}
 
 module _ (method p : ℕ) (X : Factor) (lo up rest : List ℕ) (m left k : ℕ) (e : m ≡ suc left) (f : k ≡ nextLength left rest) {o : Shape}

@@ -3,7 +3,7 @@ ghost use mathlib.Core.Path.{_≡_};
 ghost use Prim.Native.Nat.{_*_, _≤_};
 ghost use mathlib.Core.List.{_++_};
 ghost use lib.ListN.{length, take, drop};
-ghost use Rattle.refusals.specs.Sizes.{mostCells};
+ghost use Rattle.refusals.specs.Sizes.{largestSize, mostCells};
 ghost use Rattle.job.specs.Factor.{inFront, inArrays, readAs};
 ghost use Rattle.job.specs.Fold.{timesOf, stepOf};
 use refusals::Outcome;
@@ -97,7 +97,7 @@ pub fn times_sheet(
     lo: &mut [u32],
     up: &mut [u32],
 ) -> Shape
-    requires { ⌜ (rows ≤ 32) × (inner ≤ 32) × (length (now lo) ≡ mostCells) × (length (now up) ≡ mostCells) ⌝ }
+    requires { ⌜ (rows ≤ largestSize) × (inner ≤ largestSize) × (length (now lo) ≡ mostCells) × (length (now up) ≡ mostCells) ⌝ }
     ensures { λ r. ⌜ inArrays r (now (lo .exit)) (now (up .exit))
         ≡ stepOf method matrix position (inFront rows inner (now (lo .entry)) (now (up .entry))) (now (s .entry)) ⌝ }
 {

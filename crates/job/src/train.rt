@@ -3,10 +3,10 @@ ghost use mathlib.Core.Path.{_≡_};
 ghost use Prim.Native.Nat.{_≤_, _<_};
 ghost use lib.ListN.{length};
 ghost use Rattle.refusals.specs.Answer.{outcome};
-ghost use Rattle.refusals.specs.Sizes.{mostCells};
+ghost use Rattle.refusals.specs.Sizes.{largestSize, mostCells};
 ghost use Rattle.job.specs.Factor.{inFront, inArrays};
 ghost use Rattle.job.specs.Fold.{foldFrom};
-ghost use Rattle.job.specs.Train.{checkCount, nextLength, sheetsIn, trainProduct};
+ghost use Rattle.job.specs.Train.{mostSheets, checkCount, nextLength, sheetsIn, trainProduct};
 use crate::factor::read_as;
 use crate::factor::times_sheet;
 use matrices::methods::check_method;
@@ -51,7 +51,8 @@ fn times_others(
     lo: &mut [u32],
     up: &mut [u32],
 ) -> Shape
-    requires { ⌜ (others < 8) × (rows ≤ 32) × (columns ≤ 32) × (length (now lo) ≡ mostCells) × (length (now up) ≡ mostCells) ⌝ }
+    requires { ⌜ (others < mostSheets) × (rows ≤ largestSize) × (columns ≤ largestSize)
+        × (length (now lo) ≡ mostCells) × (length (now up) ≡ mostCells) ⌝ }
     ensures { λ r. ⌜ inArrays r (now (lo .exit)) (now (up .exit))
         ≡ foldFrom method 9 2 (inFront rows columns (now (lo .entry)) (now (up .entry))) (sheetsIn others (now (s .entry))) ⌝ }
 {
