@@ -1,15 +1,14 @@
 -- Demand 3 through a product of sheets: each step keeps it, and so the picks' exact product stays inside. Assumes nothing.
 use mathlib.Core.Path.{_≡_, sym, ap, subst, _∙_}
 use mathlib.Core.List.{List, [], _∷_, _++_, append-nil}
-use Prim.Native.Nat.{ℕ, _+_, _*_, _<_}
-use lib.ListN.{getD}
+use Prim.Native.Nat.{ℕ, _+_, _<_}
 use lib.Seq.{drop-nil}
 use Rattle.rounding.specs.Format.{binary32, units}
 use Rattle.enclosure.specs.Demand.{sumOfProducts}
 use Rattle.enclosure.specs.Fraction.{In}
 use Rattle.refusals.specs.Answer.{gives}
 use Rattle.refusals.proofs.Answers.{gives-injective, not-both, next-tells}
-use Rattle.sheets.specs.Layout.{rowsOf, columnsOf}
+use Rattle.sheets.specs.Layout.{rowsOf}
 use Rattle.matrices.specs.Lists.{tabulate, front}
 use Rattle.matrices.specs.Matrix.{cellAt}
 use Rattle.matrices.specs.Entries.{lowerOf, upperOf}
@@ -18,7 +17,7 @@ use Rattle.matrices.specs.Product.{entries, cells}
 use Rattle.matrices.proofs.Keeping.{entries-keep}
 use Rattle.job.specs.Factor.{Factor, matrixIn, readAs}
 use Rattle.job.specs.Fold.{operands, productIn, stepOf, foldFrom, sheetsProduct}
-use Rattle.job.specs.Demand.{rangeIn, ProductKeeps}
+use Rattle.job.specs.Demand.{rangeIn}
 use Rattle.job.specs.TrainDemand.{Fractions, PickedFrom, times, PickedAll, exactFrom, exactProduct, StepKeeps, StepsKeep, AllKeep}
 use Rattle.job.proofs.Tells.{read-tells, Stepped, step-tells}
 

@@ -1,6 +1,7 @@
 -- Laws of one step, the left factor times a sheet: one for each way out of the code. Assumes nothing.
 use mathlib.Core.Path.{_≡_, refl, sym, ap, _∙_}
 use mathlib.Core.List.{List, _++_}
+use mathlib.Core.Option.{Option}
 use Prim.Native.Nat.{ℕ, _*_}
 use lib.ListN.{take, drop}
 use lib.Seq.{take-at}
@@ -12,7 +13,6 @@ use Rattle.refusals.specs.Refusal.{ofMatrix, named}
 use Rattle.refusals.specs.Answer.{gives, refuses, outcome}
 use Rattle.refusals.proofs.Answers.{outcome-done, outcome-refused}
 use Rattle.enclosure.specs.Methods.{Range}
-use mathlib.Core.Option.{Option}
 use Rattle.matrices.specs.Lists.{tabulate}
 use Rattle.matrices.specs.Entries.{lowerOf, upperOf}
 use Rattle.matrices.specs.Product.{entries, productOf, resultAfter}
