@@ -7,6 +7,7 @@ use Rattle.rounding.specs.Format.{binary32, units}
 use Rattle.enclosure.specs.Demand.{Kept}
 use Rattle.enclosure.specs.Fraction.{In}
 use Rattle.enclosure.specs.Methods.{Range}
+use Rattle.refusals.specs.declared.Refusal.{Refusal}
 use Rattle.refusals.specs.Answer.{Answer, gives, refuses}
 use Rattle.refusals.proofs.Answers.{gives-injective, then-tells, naming-tells, next-tells}
 use Rattle.sheets.specs.Layout.{columnsOf}
@@ -17,8 +18,8 @@ use Rattle.matrices.specs.Checks.{checkMethod, chosen}
 use Rattle.job.specs.Factor.{Factor, matrixIn, readAs}
 use Rattle.job.specs.Fold.{productIn, stepOf, foldFrom, sheetsProduct}
 use Rattle.job.specs.Delivery.{writtenOf, outOf, BackOf}
-use Rattle.job.specs.Job.{jobProduct, jobOf}
-use Rattle.job.specs.Train.{sheetsIn, trainProduct, trainOf}
+use Rattle.job.specs.Job.{jobProduct}
+use Rattle.job.specs.Train.{sheetsIn, trainProduct}
 use Rattle.job.specs.Demand.{cellIn, Delivered, JobKeeps}
 use Rattle.job.specs.TrainDemand.{Fractions, PickedFrom, Carried, TrainKeeps}
 use Rattle.job.proofs.Tells.{read-tells, Stepped, step-tells}
@@ -27,27 +28,41 @@ use Rattle.job.proofs.Writing.{Delivers}
 use Rattle.job.proofs.Backs.{Back, back}
 use Rattle.job.proofs.Keeping.{step-keeps, product-keeps, product-encloses}
 
--- ---- a writing that is not refused: the product, and the sheet that reads back as it
-pub record Wrote (n : ℕ) (A : Answer Factor) (room k : ℕ) : Type 0 where
-  pub factor : Factor
-  pub product : A ≡ gives factor
-  pub answer : writeOf (factor .rows) (factor .columns) (factor .lowers) (factor .uppers) room ≡ gives k
+-- ---- a writing that is not refused: the product F, and the sheet that reads back as it
+record Wrote (A : Answer Factor) (room k : ℕ) : Type 0 where
+  F : Factor
+  product : A ≡ gives F
+  answer : writeOf (F .rows) (F .columns) (F .lowers) (F .uppers) room ≡ gives k
 
-pub written-tells : (n : ℕ) (A : Answer Factor) (room k : ℕ) → gives k ≡ writtenOf n A room → Wrote n A room k
+written-tells : (n : ℕ) (A : Answer Factor) (room k : ℕ) → gives k ≡ writtenOf n A room → Wrote A room k
 unfolding writtenOf
 written-tells n A room k e =
     let t = next-tells A _ k (sym e) in
-    record { factor = t .0; product = t .1; answer = naming-tells n _ k (t .2) }
+    record { F = t .0; product = t .1; answer = naming-tells n _ k (t .2) }
 
 pub written-small : (n : ℕ) (A : Answer Factor) (room k : ℕ) → gives k ≡ writtenOf n A room → k ≤ 16400
 written-small n A room k e =
     let w = written-tells n A room k e in
-    let F = w .factor in
-    length-small (F .rows) (F .columns) (F .lowers) (F .uppers) room k (w .answer)
+    length-small (w .F .rows) (w .F .columns) (w .F .lowers) (w .F .uppers) room k (w .answer)
 
-reads-back : (n : ℕ) (A : Answer Factor) (room k : ℕ) (w : Wrote n A room k) (out : List ℕ) → BackOf A (gives k) out → Back (w .factor) (take k out)
+reads-back : (A : Answer Factor) (room k : ℕ) (w : Wrote A room k) (out : List ℕ) → BackOf A (gives k) out → Back (w .F) (take k out)
 unfolding BackOf
-reads-back n A room k w out t = back (w .factor) room k (w .answer) out (rw (w .product) at t)
+reads-back A room k w out t = back (w .F) room k (w .answer) out (rw (w .product) at t)
+
+-- ---- a job whose product is P keeps K, where K holds of every sheet that reads back as P
+module _ (n room : ℕ) (P : Answer Factor) (K : Answer ℕ → List ℕ → Type 0) (given : (F : Factor) (k : ℕ) (out : List ℕ) → P ≡ gives F → Back F (take k out) → K (gives k) out)
+    (none : (x : Refusal) (out : List ℕ) → K (refuses x) out) where
+  keeps : (r : Answer ℕ) (out : List ℕ) → r ≡ writtenOf n P room → BackOf P r out → K r out
+  keeps (gives k) out e t =
+      let w = written-tells n P room k e in
+      given (w .F) k out (w .product) (reads-back P room k w out t)
+  keeps (refuses x) out e t = none x out
+
+  -- the code's product A is P
+  pub ends : (A : Answer Factor) (r : Answer ℕ) (d out : List ℕ) → A ≡ P → Delivers n A room r d out → (r ≡ writtenOf n P room) × ((out ≡ outOf P r d) × K r out)
+  ends A r d out e t =
+      let z = subst (λ B. Delivers n B room r d out) e t in
+      (z .0, (z .1 .0, keeps r out (z .0) (z .1 .1)))
 
 -- ---- the sheet job
 job-delivers : (method : ℕ) (a b s : List ℕ) (F : Factor) → jobProduct method a b ≡ gives F → Back F s → Delivered method a b s
@@ -69,12 +84,13 @@ job-delivers method a b s F e k =
           subst (λ r. Kept (chosen method) (columnsOf a) (cellIn (matrixIn a) i) (λ l. cellIn (matrixIn b) l j) r) (sym (z .ranges i j hi hj)) (m .keeps i j hi hj);
     }
 
-pub job-keeps : (method : ℕ) (a b : List ℕ) (room : ℕ) (r : Answer ℕ) (out : List ℕ) → r ≡ jobOf method a b room → BackOf (jobProduct method a b) r out → JobKeeps method a b r out
+pub job-given : (method : ℕ) (a b : List ℕ) (F : Factor) (k : ℕ) (out : List ℕ) → jobProduct method a b ≡ gives F → Back F (take k out) → JobKeeps method a b (gives k) out
 unfolding JobKeeps
-job-keeps method a b room (gives k) out e t =
-    let w = written-tells 3 (jobProduct method a b) room k e in
-    job-delivers method a b (take k out) (w .factor) (w .product) (reads-back 3 (jobProduct method a b) room k w out t)
-job-keeps method a b room (refuses x) out e t = tt
+job-given method a b F k out e h = job-delivers method a b (take k out) F e h
+
+pub job-none : (method : ℕ) (a b : List ℕ) (x : Refusal) (out : List ℕ) → JobKeeps method a b (refuses x) out
+unfolding JobKeeps
+job-none method a b x out = tt
 
 -- ---- a train
 picked-back : (F : Factor) (s : List ℕ) (x : Fractions) → Back F s → PickedFrom F x → PickedFrom (matrixIn s) x
@@ -95,23 +111,10 @@ carried method ss s F e k =
       encloses = λ picks h. picked-back F s _ k (product-encloses method 9 ss F e picks h);
     }
 
-pub train-keeps : (method count : ℕ) (s : List ℕ) (room : ℕ) (r : Answer ℕ) (out : List ℕ) → r ≡ trainOf method count s room → BackOf (trainProduct method count s) r out
-    → TrainKeeps method count s r out
+pub train-given : (method count : ℕ) (s : List ℕ) (F : Factor) (k : ℕ) (out : List ℕ) → trainProduct method count s ≡ gives F → Back F (take k out) → TrainKeeps method count s (gives k) out
 unfolding TrainKeeps
-train-keeps method count s room (gives k) out e t =
-    let w = written-tells 9 (trainProduct method count s) room k e in
-    carried method (sheetsIn count s) (take k out) (w .factor) (train-tells method count s (w .factor) (w .product)) (reads-back 9 (trainProduct method count s) room k w out t)
-train-keeps method count s room (refuses x) out e t = tt
+train-given method count s F k out e h = carried method (sheetsIn count s) (take k out) F (train-tells method count s F e) h
 
--- ---- the whole jobs, where the code's product A is the one defined
-pub job-ends : (method : ℕ) (a b : List ℕ) (room : ℕ) (A : Answer Factor) (r : Answer ℕ) (d out : List ℕ) → A ≡ jobProduct method a b → Delivers 3 A room r d out
-    → (r ≡ jobOf method a b room) × ((out ≡ outOf (jobProduct method a b) r d) × JobKeeps method a b r out)
-job-ends method a b room A r d out e t =
-    let z = subst (λ B. Delivers 3 B room r d out) e t in
-    (z .0, (z .1 .0, job-keeps method a b room r out (z .0) (z .1 .1)))
-
-pub train-ends : (method count : ℕ) (s : List ℕ) (room : ℕ) (A : Answer Factor) (r : Answer ℕ) (d out : List ℕ) → A ≡ trainProduct method count s → Delivers 9 A room r d out
-    → (r ≡ trainOf method count s room) × ((out ≡ outOf (trainProduct method count s) r d) × TrainKeeps method count s r out)
-train-ends method count s room A r d out e t =
-    let z = subst (λ B. Delivers 9 B room r d out) e t in
-    (z .0, (z .1 .0, train-keeps method count s room r out (z .0) (z .1 .1)))
+pub train-none : (method count : ℕ) (s : List ℕ) (x : Refusal) (out : List ℕ) → TrainKeeps method count s (refuses x) out
+unfolding TrainKeeps
+train-none method count s x out = tt

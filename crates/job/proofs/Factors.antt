@@ -28,10 +28,14 @@ pub factor-is : {r c r′ c′ : ℕ} {l u l′ u′ : List ℕ} → r ≡ r′ 
     → _≡_ {A = Factor} (record { rows = r; columns = c; lowers = l; uppers = u }) (record { rows = r′; columns = c′; lowers = l′; uppers = u′ })
 factor-is p q m n = rw (p, q, m, n)
 
+-- the first n patterns of an array that has x, n patterns, in front
+pub front-is : (n : ℕ) (x y l : List ℕ) → length x ≡ n → l ≡ x ++ y → take n l ≡ x
+front-is n x y l h e = ap (take n) e ∙ take-at x y n h
+
 -- ---- a sheet that is read
 front-bounds : (b : Cell → ℕ) (s d d′ : List ℕ) (r c : ℕ) → rowsOf s ≡ r → columnsOf s ≡ c → d′ ≡ sliceAfter b s (gives (r, c)) d → take (r * c) d′ ≡ matrixOf b s
 unfolding sliceAfter
-front-bounds b s d d′ r c p q e = ap (take (r * c)) e ∙ take-at (matrixOf b s) _ (r * c) (matrix-length b s ∙ ap₂ _*_ p q)
+front-bounds b s d d′ r c p q e = front-is (r * c) (matrixOf b s) _ d′ (matrix-length b s ∙ ap₂ _*_ p q) e
 
 module _ (p : ℕ) (s : List ℕ) {l u : ℕ} {o : Shape} (m : l ≡ 1024) (n : u ≡ 1024) (e : shape o ≡ readOf s l u) where
   answered : {v : Shape} → o ≡ v → sheetRead s ≡ shape v

@@ -3,7 +3,7 @@ use mathlib.Core.Path.{_≡_, refl, ap, _∙_}
 use mathlib.Core.List.{List, [], _∷_, _++_}
 use Prim.Native.Nat.{ℕ, _*_, _≤_}
 use lib.ListN.{length, take, drop}
-use lib.Seq.{take-at, length-take-le}
+use lib.Seq.{length-take-le}
 use Rattle.refusals.specs.declared.Refusal.{Refusal}
 use Rattle.refusals.specs.Answer.{Answer, gives, refuses, done}
 use Rattle.refusals.proofs.Answers.{then-tells}
@@ -11,7 +11,7 @@ use Rattle.matrices.specs.Checks.{checkMethod}
 use Rattle.job.specs.Factor.{Factor, readAs, inFront}
 use Rattle.job.specs.Fold.{stepOf, sheetsProduct}
 use Rattle.job.specs.Job.{jobProduct, arrayAfter, factorLowers, factorUppers}
-use Rattle.job.proofs.Factors.{factor-is}
+use Rattle.job.proofs.Factors.{factor-is, front-is}
 use Rattle.job.proofs.Folds.{product-unread, product-goes, fold-last}
 use Rattle.job.proofs.Sizes.{Small, product-small}
 
@@ -54,4 +54,4 @@ arrays-filled r c l u lo up lo′ up′ h k e f g = (
 )
   where
     front : (d x y : List ℕ) → r * c ≤ length d → y ≡ take (r * c) d ++ drop (r * c) x → take (r * c) y ≡ take (r * c) d
-    front d x y p q = ap (take (r * c)) q ∙ take-at (take (r * c) d) _ (r * c) (length-take-le (r * c) d p)
+    front d x y p q = front-is (r * c) (take (r * c) d) _ y (length-take-le (r * c) d p) q

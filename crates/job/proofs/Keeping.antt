@@ -48,7 +48,7 @@ step-encloses method X s x y k h m i hi j hj =
     Z = productIn method X (matrixIn s)
 
 -- ---- all steps
-pub fold-keeps : (method n p : ℕ) (X : Factor) (ss : List (List ℕ)) (Z : Factor) → foldFrom method n p X ss ≡ gives Z → StepsKeep method X ss
+fold-keeps : (method n p : ℕ) (X : Factor) (ss : List (List ℕ)) (Z : Factor) → foldFrom method n p X ss ≡ gives Z → StepsKeep method X ss
 unfolding foldFrom StepsKeep
 fold-keeps method n p X [] Z e = tt
 fold-keeps method n p X (s ∷ ss) Z e =

@@ -24,13 +24,13 @@ sheet-small s e = let z = done-tells s 1024 1024 (rowsOf s) (columnsOf s) e .siz
 pub read-small : (p : ℕ) (s : List ℕ) (Y : Factor) → readAs p s ≡ gives Y → Small Y
 read-small p s Y e = let w = read-tells p s Y e in subst Small (sym (w .matrix)) (sheet-small s (w .answer))
 
-pub step-small : (method n p : ℕ) (X : Factor) (s : List ℕ) (Z : Factor) → Small X → stepOf method n p X s ≡ gives Z → Small Z
+step-small : (method n p : ℕ) (X : Factor) (s : List ℕ) (Z : Factor) → Small X → stepOf method n p X s ≡ gives Z → Small Z
 step-small method n p X s Z h e =
     let t = step-tells method n p X s Z e in
     let z = sheet-small s (t .answer) in
     subst Small (sym (t .matrix)) (record { rows = h .rows; some-column = z .some-column; columns = z .columns })
 
-pub fold-small : (method n p : ℕ) (X : Factor) (ss : List (List ℕ)) (Z : Factor) → Small X → foldFrom method n p X ss ≡ gives Z → Small Z
+fold-small : (method n p : ℕ) (X : Factor) (ss : List (List ℕ)) (Z : Factor) → Small X → foldFrom method n p X ss ≡ gives Z → Small Z
 unfolding foldFrom
 fold-small method n p X [] Z h e = subst Small (gives-injective e) h
 fold-small method n p X (s ∷ ss) Z h e =

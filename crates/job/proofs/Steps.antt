@@ -4,7 +4,6 @@ use mathlib.Core.List.{List, _++_}
 use mathlib.Core.Option.{Option}
 use Prim.Native.Nat.{ℕ, _*_}
 use lib.ListN.{take, drop}
-use lib.Seq.{take-at}
 use borrow.Author.Tests.{eq-eqb, ne-eqb}
 use Rattle.refusals.specs.declared.Refusal.{Refusal}
 use Rattle.refusals.specs.declared.Outcome.{Outcome}
@@ -20,7 +19,7 @@ use Rattle.matrices.proofs.Fronts.{tabulate-length}
 use Rattle.matrices.proofs.Keeping.{result-done}
 use Rattle.job.specs.Factor.{Factor, readAs, inFront}
 use Rattle.job.specs.Fold.{operands, timesOf, stepOf}
-use Rattle.job.proofs.Factors.{factor-is}
+use Rattle.job.proofs.Factors.{factor-is, front-is}
 
 -- ---- the product
 module _ (method n : ℕ) (X Y : Factor) {o : Outcome} (e : outcome o ≡ productOf (operands method X Y)) where
@@ -35,8 +34,8 @@ module _ (method n : ℕ) (X Y : Factor) {o : Outcome} (e : outcome o ≡ produc
   copied bound d d′ l l′ f g h =
       let k = X .rows * Y .columns in
       let E : ℕ → ℕ = λ c. bound (entries (operands method X Y) c) in
-      let t : take k d′ ≡ tabulate k E = ap (take k) (g ∙ result-done (operands method X Y) (outcome-done _ _ e f) bound d) ∙ take-at (tabulate k E) _ k (tabulate-length k E) in
-      ap (take k) (h ∙ ap (λ x. x ++ drop k l) t) ∙ take-at (tabulate k E) _ k (tabulate-length k E)
+      let t : take k d′ ≡ tabulate k E = front-is k (tabulate k E) _ d′ (tabulate-length k E) (g ∙ result-done (operands method X Y) (outcome-done _ _ e f) bound d) in
+      front-is k (tabulate k E) _ l′ (tabulate-length k E) (h ∙ ap (λ x. x ++ drop k l) t)
 
   pub times-gives : (cl cu cl′ cu′ lo up lo′ up′ : List ℕ) → o ≡ Done → cl′ ≡ resultAfter (operands method X Y) lowerOf cl → cu′ ≡ resultAfter (operands method X Y) upperOf cu
       → lo′ ≡ take (X .rows * Y .columns) cl′ ++ drop (X .rows * Y .columns) lo → up′ ≡ take (X .rows * Y .columns) cu′ ++ drop (X .rows * Y .columns) up
@@ -56,7 +55,7 @@ module _ (method n p : ℕ) (X : Factor) (s : List ℕ) where
     unfolding stepOf
     step-unfit h f = rw (sym e, ne-eqb (X .columns) (Y .rows) h, f)
 
-    pub step-times : X .columns ≡ Y .rows → timesOf method n X Y ≡ stepOf method n p X s
+    step-times : X .columns ≡ Y .rows → timesOf method n X Y ≡ stepOf method n p X s
     unfolding stepOf
     step-times h = rw (sym e, eq-eqb (X .columns) (Y .rows) h)
 

@@ -77,7 +77,7 @@ fn times_others(
     Shape::Sizes(rows, inner)
 }
 
-// The product of the count sheets in s.
+// Checks the method (refusal 9) and the count (12), then multiplies the count sheets in s from the left.
 pub fn product(method: u32, count: u32, s: &[u8], lo: &mut [u32], up: &mut [u32]) -> Shape
     requires { ⌜ (length (now lo) ≡ mostCells) × (length (now up) ≡ mostCells) ⌝ }
     ensures { λ r. ⌜ inArrays r (now (lo .exit)) (now (up .exit)) ≡ trainProduct method count (now (s .entry)) ⌝ }

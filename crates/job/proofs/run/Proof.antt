@@ -1,8 +1,10 @@
 -- `run` meets its contract: the product of the two sheets, written.
 use native.Mathlib.Omega.{arith}
+use Rattle.job.specs.Job.{jobProduct}
+use Rattle.job.specs.Demand.{JobKeeps}
 use Rattle.job.proofs.Sizes.{few}
 use Rattle.job.proofs.Jobs.{job-small}
-use Rattle.job.proofs.Deliveries.{job-ends}
+use Rattle.job.proofs.Deliveries.{ends, job-given, job-none}
 use borrow.Author.Needs.{needs}
 use Rattle.job.proofs.run.Statement.{statement}
 use Rattle.job.proofs.run.Tie as tie
@@ -33,7 +35,8 @@ same-length c = search needs
 returns : tie.Need-returns
 returns c =
     let g = c .before .before .before .before .before .before .before .before .before .before .before .before .before .before .args in
-    job-ends (g .method) (g .a .now) (g .b .now) _ _ _ _ _ (c .before .before .before .before .before .before .before .before .product-of-two .ensures) (c .before .before .deliver .ensures)
+    ends 3 _ (jobProduct (g .method) (g .a .now) (g .b .now)) (JobKeeps (g .method) (g .a .now) (g .b .now)) (job-given (g .method) (g .a .now) (g .b .now))
+    (job-none (g .method) (g .a .now) (g .b .now)) _ _ _ _ (c .before .before .before .before .before .before .before .before .product-of-two .ensures) (c .before .before .deliver .ensures)
 
 pub run-spec : {M : Type 1} → statement M
 run-spec =

@@ -1,8 +1,10 @@
 -- `run_train` meets its contract: the product of the train, written.
 use native.Mathlib.Omega.{arith}
+use Rattle.job.specs.Train.{trainProduct}
+use Rattle.job.specs.TrainDemand.{TrainKeeps}
 use Rattle.job.proofs.Sizes.{few}
 use Rattle.job.proofs.Trains.{train-small}
-use Rattle.job.proofs.Deliveries.{train-ends}
+use Rattle.job.proofs.Deliveries.{ends, train-given, train-none}
 use borrow.Author.Needs.{needs}
 use Rattle.job.proofs.run_train.Statement.{statement}
 use Rattle.job.proofs.run_train.Tie as tie
@@ -33,7 +35,8 @@ same-length c = search needs
 returns : tie.Need-returns
 returns c =
     let g = c .before .before .before .before .before .before .before .before .before .before .before .before .before .args in
-    train-ends (g .method) (g .count) (g .sheets .now) _ _ _ _ _ (c .before .before .before .before .before .before .before .before .product .ensures) (c .before .before .deliver .ensures)
+    ends 9 _ (trainProduct (g .method) (g .count) (g .sheets .now)) (TrainKeeps (g .method) (g .count) (g .sheets .now)) (train-given (g .method) (g .count) (g .sheets .now))
+    (train-none (g .method) (g .count) (g .sheets .now)) _ _ _ _ (c .before .before .before .before .before .before .before .before .product .ensures) (c .before .before .deliver .ensures)
 
 pub run-train-spec : {M : Type 1} → statement M
 run-train-spec =
