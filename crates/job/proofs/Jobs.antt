@@ -21,7 +21,7 @@ module _ (method : ℕ) (a b : List ℕ) where
   job-refused e = rw e
 
   module _ (e : checkMethod method ≡ done) where
-    pub job-product : sheetsProduct method 3 (a ∷ b ∷ []) ≡ jobProduct method a b
+    job-product : sheetsProduct method 3 (a ∷ b ∷ []) ≡ jobProduct method a b
     unfolding jobProduct
     job-product = rw e
 

@@ -7,6 +7,7 @@ use Rattle.refusals.specs.declared.Refusal.{Refusal}
 use Rattle.refusals.specs.Answer.{gives, refuses}
 use Rattle.sheets.specs.declared.Shape.{Shape}
 use Rattle.sheets.specs.declared.Shape.the-variants as S
+use Rattle.sheets.proofs.Cuts.{rest-is}
 use Rattle.job.specs.Factor.{Factor, inFront, inArrays}
 use Rattle.job.specs.Fold.{stepOf, foldFrom}
 use Rattle.job.specs.Train.{nextLength, sheetsIn}
@@ -14,7 +15,7 @@ use Rattle.job.proofs.Factors.{arrays-by}
 use Rattle.job.proofs.Folds.{fold-stops, fold-goes, fold-none}
 use Rattle.job.proofs.Tells.{Stepped, step-tells}
 use Rattle.job.proofs.Sizes.{sheet-small}
-use Rattle.job.proofs.Trains.{rest-is, sheets-next}
+use Rattle.job.proofs.Trains.{sheets-next}
 
 module _ (method p : ℕ) (X : Factor) (lo up rest : List ℕ) (m left k : ℕ) (e : m ≡ suc left) (f : k ≡ nextLength left rest) {o : Shape}
     (g : inArrays o lo up ≡ stepOf method 9 p X (take k rest)) where

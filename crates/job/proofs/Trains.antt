@@ -4,8 +4,7 @@ use mathlib.Core.List.{List, _∷_}
 use Prim.Native.Nat.{ℕ, zero, suc, _-_, _≤_, _<_}
 use native.Mathlib.Omega.{arith}
 use lib.Dec.{leb}
-use lib.ListN.{length, take, drop, length-drop}
-use lib.Seq.{take-all}
+use lib.ListN.{length, take, drop}
 use borrow.Author.Tests.{le-leb, lt-leb, leb-true}
 use Rattle.refusals.specs.declared.Refusal.{Refusal}
 use Rattle.refusals.specs.Refusal.{ofMatrix}
@@ -13,6 +12,7 @@ use Rattle.refusals.specs.declared.Outcome.{Outcome}
 use Rattle.refusals.specs.Answer.{Answer, gives, refuses, done, outcome, then}
 use Rattle.refusals.proofs.Answers.{unless-tells, and-tells, then-then, then-tells}
 use Rattle.sheets.specs.Cut.{firstLength}
+use Rattle.sheets.proofs.Cuts.{rest-is}
 use Rattle.matrices.specs.Checks.{checkMethod}
 use Rattle.job.specs.Factor.{Factor, readAs}
 use Rattle.job.specs.Fold.{foldFrom, sheetsProduct}
@@ -49,10 +49,6 @@ unfolding nextLength
 next-cut zero k s h e = absurd (h refl)
 next-cut (suc n) k s h e = e
 
--- what stands in a buffer from byte k on
-pub rest-is : (s : List ℕ) (k : ℕ) → take (length s - k) (drop k s) ≡ drop k s
-rest-is s k = take-all (length s - k) (drop k s) (omega (arith, length-drop k s))
-
 -- n + 1 sheets: the next one, of k bytes, and n others behind it
 pub sheets-next : (m n k : ℕ) (s : List ℕ) → m ≡ suc n → k ≡ nextLength n s → sheetsIn m s ≡ take k s ∷ sheetsIn n (drop k s)
 unfolding sheetsIn
@@ -71,22 +67,20 @@ checks-count method count e = count-tells count (then-tells (checkMethod method)
 pub others-are : (method count : ℕ) → then (checkMethod method) (checkCount count) ≡ done → count ≡ suc (count - 1)
 others-are method count e = omega (arith, checks-count method count e .0)
 
-pub train-refused : (method count : ℕ) (s : List ℕ) {x : Refusal} → then (checkMethod method) (checkCount count) ≡ refuses x → refuses x ≡ trainProduct method count s
+-- by the answer a on both checks
+pub train-by : (method count : ℕ) (s : List ℕ) {a : Answer (Unit {0})} → then (checkMethod method) (checkCount count) ≡ a
+    → then a (sheetsProduct method 9 (sheetsIn count s)) ≡ trainProduct method count s
 unfolding trainProduct
-train-refused method count s e = sym (then-then (checkMethod method) (checkCount count) _ ∙ ap (λ a. then a (sheetsProduct method 9 (sheetsIn count s))) e)
+train-by method count s e = sym (then-then (checkMethod method) (checkCount count) _ ∙ ap (λ a. then a (sheetsProduct method 9 (sheetsIn count s))) e)
 
 pub train-tells : (method count : ℕ) (s : List ℕ) (F : Factor) → trainProduct method count s ≡ gives F → sheetsProduct method 9 (sheetsIn count s) ≡ gives F
 unfolding trainProduct
 train-tells method count s F e = then-tells (checkCount count) _ F (then-tells (checkMethod method) _ F e .1) .1
 
-train-product : (method count : ℕ) (s : List ℕ) → then (checkMethod method) (checkCount count) ≡ done → sheetsProduct method 9 (sheetsIn count s) ≡ trainProduct method count s
-unfolding trainProduct
-train-product method count s e = sym (then-then (checkMethod method) (checkCount count) _ ∙ ap (λ a. then a (sheetsProduct method 9 (sheetsIn count s))) e)
-
 -- the first sheet, of k bytes
 module _ (method count : ℕ) (s : List ℕ) (others k : ℕ) (c : then (checkMethod method) (checkCount count) ≡ done) (e : count ≡ suc others) (f : k ≡ nextLength others s) where
   first-is : sheetsProduct method 9 (take k s ∷ sheetsIn others (drop k s)) ≡ trainProduct method count s
-  first-is = ap (sheetsProduct method 9) (sym (sheets-next count others k s e f)) ∙ train-product method count s c
+  first-is = ap (sheetsProduct method 9) (sym (sheets-next count others k s e f)) ∙ train-by method count s c
 
   pub train-unread : {x : Refusal} → refuses x ≡ readAs 1 (take k s) → refuses x ≡ trainProduct method count s
   train-unread h = product-unread method 9 (take k s) (sheetsIn others (drop k s)) h ∙ first-is

@@ -7,9 +7,9 @@ use lib.ListN.{length, take, drop, length-append}
 use lib.Seq.{getD-take}
 use Rattle.refusals.specs.Answer.{Answer, gives}
 use Rattle.sheets.specs.Cut.{firstLength}
+use Rattle.sheets.proofs.Cuts.{rest-is}
 use Rattle.job.specs.Factor.{Factor, inFront}
 use Rattle.job.specs.Job.{jobProduct}
-use Rattle.job.proofs.Trains.{rest-is}
 use Rattle.print_product.specs.Lines.{productLine, cellLine}
 use Rattle.print_product.specs.Input.{methodIn}
 use Rattle.print_product.specs.Printed.{cellLines, productText, answerText, sheetsText, printedOf}

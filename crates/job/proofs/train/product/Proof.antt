@@ -5,7 +5,7 @@ use native.Mathlib.Omega.{arith}
 use lib.Seq.{length-take-le}
 use Rattle.job.proofs.Factors.{arrays-by}
 use Rattle.job.proofs.Sizes.{read-small}
-use Rattle.job.proofs.Trains.{checks-said, checks-count, others-are, train-refused, train-unread, train-goes}
+use Rattle.job.proofs.Trains.{checks-said, checks-count, others-are, train-by, train-unread, train-goes}
 use borrow.Author.Needs.{needs}
 use Rattle.job.proofs.train.product.Statement.{statement}
 use Rattle.job.proofs.train.product.Tie as tie
@@ -64,7 +64,7 @@ times-others-requires c κs =
 returns : tie.Need-returns
 returns c =
     let g = c .before .before .before .before .before .before .before .before .before .args in
-    train-refused (g .method) (g .count) (g .s .now) (checks-said (g .method) (g .count) (c .before .before .before .then .ensures) (c .before .before .before .before .before .check-method .ensures) (c .before .before .before .before .check-count .ensures) (c .before .r .given .1))
+    train-by (g .method) (g .count) (g .s .now) (checks-said (g .method) (g .count) (c .before .before .before .then .ensures) (c .before .before .before .before .before .check-method .ensures) (c .before .before .before .before .check-count .ensures) (c .before .r .given .1))
 
 same-length : tie.Need-same-length
 same-length c = search needs
