@@ -15,8 +15,8 @@ static uint32_t inner_b[CELLS], outer_b[CELLS], part_b[CELLS], abs_part_b[CELLS]
 static void convert(size_t count, const uint32_t *lower, const uint32_t *upper, uint32_t *m, uint32_t *r)
 {
     for (size_t c = 0; c < count; c++) {
-        m[c] = midpoint_up(lower[c], upper[c]);
-        r[c] = sub_up(m[c], lower[c]);
+        m[c] = midpoint_near(lower[c], upper[c]);
+        r[c] = greatest(sub_up(m[c], lower[c]), sub_up(upper[c], m[c]));
     }
 }
 

@@ -11,13 +11,17 @@ struct floats {
     float lo[CELLS], up[CELLS];
 };
 
-/* A (m by k) times B (k by n) by method 1, 3, 4 or 7. Sizes up to 32 and valid cells
-   are assumed and not checked. Returns whether all entries are finite. A zero in the
-   result or in a midpoint may have either sign. */
+/* A (m by k) times B (k by n) by method 1, 3, 4 or 7. Sizes up to 32, valid cells and
+   the rounding mode to nearest are assumed and not checked; the mode is the same on
+   return. Returns whether all entries are finite. A zero in the result or in a
+   midpoint may have either sign. */
 bool plain_product(int method, size_t m, size_t k, size_t n, struct floats *f);
 
 /* Method 1: the lower bounds, in the mode down, and the upper bounds, in the mode up. */
 void plain_lowers(size_t m, size_t k, size_t n, struct floats *f);
 void plain_uppers(size_t m, size_t k, size_t n, struct floats *f);
+
+/* Methods 3, 4 and 7: all bounds. The mode is to nearest at the call and down on return. */
+void plain_centred(int method, size_t m, size_t k, size_t n, struct floats *f);
 
 #endif

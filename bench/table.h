@@ -24,6 +24,12 @@ static inline void print_number(double x)
     printf(" %6.*f |", x >= 100 ? 0 : x >= 10 ? 1 : x >= 1 ? 2 : 3, x);
 }
 
+/* With nine significant digits, for means that differ little, and of any size. */
+static inline void print_mean(double x)
+{
+    printf(" %14.8e |", x);
+}
+
 static inline void print_ratio(double x, double y)
 {
     printf(" %6.*f |", x >= 10 * y ? 1 : 2, x / y);

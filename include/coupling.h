@@ -187,13 +187,16 @@ uint32_t coupling_midpoint_near(uint32_t a, uint32_t b);
 
 /* ---- Conversions ----
 
-   From bounds to midpoint and radius: *mid is the midpoint rounded up, *rad the
-   distance from it to the lower bound, rounded up. Returns 0, or 3 or 4 (lower is
-   above upper); never 5. */
+   From bounds to midpoint and radius: *mid is the exact midpoint to nearest, ties
+   to even, *rad the larger of its distances from lower and upper, rounded up. No
+   pair of binary32 numbers that encloses [lower, upper] has a smaller radius.
+   Returns 0, or 3 or 4 (lower is above upper); never 5. */
 uint32_t coupling_to_midrad(uint32_t lower, uint32_t upper, uint32_t *mid, uint32_t *rad);
 
 /* From midpoint and radius to bounds: *lower is mid - rad rounded down, *upper
-   mid + rad rounded up. Returns 0, or 3, 4 (the radius is below zero) or 5. */
+   mid + rad rounded up. Returns 0, or 3, 4 (the radius is below zero) or 5. The
+   bounds of a pair that coupling_to_midrad gave enclose those that it was given;
+   close to the largest number they may be refused with 5. */
 uint32_t coupling_to_bounds(uint32_t mid, uint32_t rad, uint32_t *lower, uint32_t *upper);
 
 #ifdef __cplusplus

@@ -1,6 +1,7 @@
 /* Test driver, not proved: compares the library's two conversions with those of the
    independent implementation, in the answer, in both words that are lent for writing,
-   and in the guard words around them.
+   and in the guard words around them. Each pair of midpoint and radius has to enclose the
+   bounds, and no such pair of numbers may have a smaller radius.
 
      conversions SEED COUNT [FIRST]   all pairs of the edge patterns, unless FIRST is
                                       given, then COUNT random pairs; each pair is
@@ -31,6 +32,17 @@ typedef struct refusal oracle_conversion(uint32_t a, uint32_t b, uint32_t *first
 static conversion *const library[] = {coupling_to_midrad, coupling_to_bounds};
 static oracle_conversion *const oracle[] = {oracle_to_midrad, oracle_to_bounds};
 
+/* Whether midpoint and radius enclose the bounds, with the smallest radius that can. */
+static bool is_optimal(uint32_t lo, uint32_t hi, uint32_t m, uint32_t r)
+{
+    bool encloses = oracle_encloses(m, r, lo, hi), smallest = oracle_smallest_radius(r, lo, hi);
+    if (!encloses && all_the_same())
+        printf("midpoint %08" PRIX32 " and radius %08" PRIX32 " do not enclose\n", m, r);
+    if (!smallest && all_the_same())
+        printf("radius %08" PRIX32 " is not the smallest\n", r);
+    return encloses && smallest;
+}
+
 static bool convert_alike(int column, uint32_t a, uint32_t b)
 {
     uint32_t left[GUARDED(2)], expected[GUARDED(2)];
@@ -41,6 +53,8 @@ static bool convert_alike(int column, uint32_t a, uint32_t b)
     count_outcome(&table, column, answer);
     bool same = same_number("answer", given, answer);
     same = same_words(columns[column], left, expected, GUARDED(2)) && same;
+    if (column == 0 && given == 0)
+        same = is_optimal(a, b, left[GUARD], left[GUARD + 1]) && same;
     if (!same && all_the_same())
         printf("%s of %08" PRIX32 " and %08" PRIX32 "\n", columns[column], a, b);
     return same;

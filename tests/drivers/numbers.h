@@ -29,8 +29,8 @@ uint32_t draw_pattern(void);        /* any pattern; edge patterns are frequent *
 /* Exchanges the two finite patterns where the first has the greater value. */
 void put_in_order(uint32_t *lower, uint32_t *upper);
 
-/* The operands of an operation, of one of eleven kinds, such as subnormal numbers, ties,
-   products near MAX, exponent field 255. */
+/* The operands of an operation, or the bounds of a range, of one of twelve kinds, such as
+   subnormal numbers, ties, neighbours, products near MAX, exponent field 255. */
 void draw_pair(uint32_t *a, uint32_t *b);
 
 #endif

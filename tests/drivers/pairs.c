@@ -58,6 +58,21 @@ static void near_exponents(uint32_t *a, uint32_t *b)
     *b = draw_number(field + apart, draw_fraction());
 }
 
+/* Magnitudes at most 8 places apart, often beside a power of two; mostly of one sign. */
+static void few_apart(uint32_t *a, uint32_t *b)
+{
+    int field = from_to(0, 254);
+    uint32_t any = draw_fraction(), low = (uint32_t)from_to(0, 3);
+    uint32_t less = draw_number(field, one_in(2) ? any : one_in(2) ? low : 0x7FFFFF - low);
+    uint32_t more = (less & ~SIGN) + (uint32_t)from_to(0, 8);
+    more = (more > MAX ? MAX : more) | (less & SIGN);
+    if (one_in(4))
+        more ^= SIGN;
+    bool turned = one_in(2);
+    *a = turned ? more : less;
+    *b = turned ? less : more;
+}
+
 /* One operand of at most 8 units, the other of any size up to about 2. */
 static void few_units(uint32_t *a, uint32_t *b)
 {
@@ -94,11 +109,11 @@ static void field_255(uint32_t *a, uint32_t *b)
 
 static void (*const kinds[])(uint32_t *a, uint32_t *b) = {
     any_two, subnormals, near_max, sum_ties, product_ties, far_exponents,
-    near_exponents, few_units, near_one, product_edges, field_255,
+    near_exponents, few_apart, few_units, near_one, product_edges, field_255,
 };
 
-/* Each of the first ten kinds is twice as frequent as exponent field 255. */
+/* Each of the first eleven kinds is twice as frequent as exponent field 255. */
 void draw_pair(uint32_t *a, uint32_t *b)
 {
-    kinds[from_to(0, 20) / 2](a, b);
+    kinds[from_to(0, 22) / 2](a, b);
 }

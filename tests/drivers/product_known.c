@@ -23,7 +23,8 @@ static const struct known {
     {"[1, 2] x [-1, 3]", 4, ONE, TWO, SIGN | ONE, 0x40400000, 0xC0400000, 0x40C00000, 0x3FC00000, 0x3F000000},
     {"[MAX, MAX] as midpoint and radius", 4, MAX, MAX, 0, 0, 0, 0, MAX, 0},
     {"[-MAX, MAX] as midpoint and radius", 4, SIGN | MAX, MAX, 0, 0, 0, 0, 0, MAX},
-    {"[1 - 2^-24, 1 + 2^-23] as midpoint and radius", 4, 0x3F7FFFFF, 0x3F800001, 0, 0, 0, 0, 0x3F800001, 0x34400000},
+    {"[1 - 2^-24, 1 + 2^-23] x 1", 4, 0x3F7FFFFF, 0x3F800001, ONE, ONE, 0x3F7FFFFE, 0x3F800001, ONE, 0x34000000},
+    {"[-1 - 2^-23, -1 + 2^-24] x 1", 7, 0xBF800001, 0xBF7FFFFF, ONE, ONE, 0xBF800001, 0xBF7FFFFE, SIGN | ONE, 0x34000000},
     {"2^-149 x [-1/8, 5/4], which needs 2^-125", 3, 1, 1, 0xBE000000, 0x3FA00000, 0x81000001, 0x01000002, 1, 0},
 };
 
@@ -76,7 +77,8 @@ static uint32_t step(enum operation operation, enum direction direction, uint32_
 static void check_constant_needed(void)
 {
     const struct known *row = &known[KNOWN - 1];
-    uint32_t m = step(MIDPOINT, UP, row->bl, row->bu), r = step(SUB, UP, m, row->bl);
+    uint32_t m = 0, r = 0;
+    oracle_to_midrad(row->bl, row->bu, &m, &r);
     uint32_t centre = step(MUL, NEAR, row->al, m);
     uint32_t raised = step(ADD, UP, step(MUL, UP, 0x34400000, m), r);   /* 3 x 2^-24 */
     uint32_t radius = step(MUL, UP, row->al, raised);

@@ -6,7 +6,7 @@
 #define NEXT (ONE + 1)         /* 1 + 2^-23 */
 #define TINY 0x33800000u       /* 2^-24 */
 #define PREVIOUS 0x3F7FFFFFu   /* 1 - 2^-24 */
-#define THREE_TINY 0x34400000u /* 3 x 2^-24 */
+#define ULP 0x34000000u        /* 2^-23 */
 #define LARGEST COUPLING_LARGEST
 #define REFUSED(number) (COUPLING_INFINITY + (number))
 
@@ -82,17 +82,60 @@ static int refuses(conversion *call, uint32_t a, uint32_t b, uint32_t number)
     return call(a, b, &words[1], &words[3]) == refusal(number, 0, 0, 0) && untouched(words, 5);
 }
 
-void test_conversions(void)
+/* Bounds to midpoint and radius: of the two distances from the midpoint the larger one
+   counts, be it that of the upper bound or of the lower one. */
+static void test_midrad(void)
 {
-    conversion *midrad = coupling_to_midrad, *bounds = coupling_to_bounds;
-    CHECK(converts(midrad, PREVIOUS, NEXT, NEXT, THREE_TINY));
+    conversion *midrad = coupling_to_midrad;
+    CHECK(converts(midrad, PREVIOUS, NEXT, ONE, ULP));
+    CHECK(converts(midrad, MINUS | NEXT, MINUS | PREVIOUS, MINUS | ONE, ULP));
+    CHECK(converts(midrad, ONE, NEXT, ONE, ULP) && converts(midrad, NEXT, NEXT + 1, NEXT + 1, ULP)); /* ties */
+    CHECK(converts(midrad, 0, 1, 0, 1) && converts(midrad, 1, 2, 2, 1));
+    CHECK(converts(midrad, MINUS | 1, ONE, HALF, HALF + 1)); /* 1/2 + 2^-149, rounded up */
+    CHECK(converts(midrad, MINUS | ONE, 1, MINUS | HALF, HALF + 1));
     CHECK(converts(midrad, LARGEST, LARGEST, LARGEST, 0) && converts(midrad, MINUS | LARGEST, LARGEST, 0, LARGEST));
     CHECK(converts(midrad, MINUS, 0, 0, 0) && converts(midrad, 0, MINUS, 0, 0));
     CHECK(refuses(midrad, COUPLING_INFINITY, ONE, 3) && refuses(midrad, ONE, COUPLING_INFINITY, 3));
     CHECK(refuses(midrad, TWO, ONE, 4) && refuses(midrad, TWO, MINUS | COUPLING_INFINITY, 3));
+}
+
+static void test_bounds(void)
+{
+    conversion *bounds = coupling_to_bounds;
     CHECK(converts(bounds, ONE, TWO, MINUS | ONE, THREE) && converts(bounds, ONE, MINUS, ONE, ONE));
     CHECK(converts(bounds, ONE, 1, PREVIOUS, NEXT));
     CHECK(refuses(bounds, COUPLING_INFINITY, ONE, 3) && refuses(bounds, ONE, COUPLING_INFINITY, 3));
     CHECK(refuses(bounds, ONE, MINUS | ONE, 4));
     CHECK(refuses(bounds, LARGEST, LARGEST, 5) && refuses(bounds, MINUS | LARGEST, LARGEST, 5));
+}
+
+/* An integer that rises with the value of a pattern. */
+static int64_t rank(uint32_t pattern)
+{
+    return pattern & MINUS ? -(int64_t)(pattern & ~MINUS) : (int64_t)pattern;
+}
+
+/* There and back: the bounds that come back enclose those that were given, or are too
+   large, as those of [-MAX, 1]: midpoint -MAX/2, radius 2^127. */
+static void test_there_and_back(void)
+{
+    uint32_t mid, rad, lower, upper;
+    const uint32_t ranges[][2] = {
+        {PREVIOUS, NEXT}, {MINUS | NEXT, MINUS | PREVIOUS}, {ONE, NEXT}, {1, ONE}, {MINUS | 1, TINY},
+        {MINUS | THREE, ULP}, {LARGEST - 1, LARGEST}, {1, LARGEST}, {MINUS | LARGEST, LARGEST}, {TWO, TWO},
+    };
+    for (size_t i = 0; i < COUNT(ranges); i++) {
+        CHECK(coupling_to_midrad(ranges[i][0], ranges[i][1], &mid, &rad) == 0);
+        CHECK(coupling_to_bounds(mid, rad, &lower, &upper) == 0);
+        CHECK(rank(lower) <= rank(ranges[i][0]) && rank(ranges[i][1]) <= rank(upper));
+    }
+    CHECK(coupling_to_midrad(MINUS | LARGEST, ONE, &mid, &rad) == 0);
+    CHECK(mid == (MINUS | (LARGEST - 0x800000)) && rad == 0x7F000000 && refuses(coupling_to_bounds, mid, rad, 5));
+}
+
+void test_conversions(void)
+{
+    test_midrad();
+    test_bounds();
+    test_there_and_back();
 }

@@ -29,6 +29,9 @@ bool is(struct refusal refusal, uint32_t number, uint32_t matrix,
 void fill(uint32_t *cells, size_t count, uint32_t value);
 bool all_are(const uint32_t *cells, size_t count, uint32_t value);
 
+void check_conversions(void);
+void check_small_format(void);
+void check_smallest_radius(void);
 void check_products(void);
 void check_product_refusals(void);
 void check_reading(void);

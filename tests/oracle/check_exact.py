@@ -1,16 +1,18 @@
-"""Holds the C implementation of the rounded operations to the exact model.
+"""Holds the C implementation of the rounded operations, and of the conversion of
+bounds to midpoint and radius, to the exact model.
 
 Independent implementation, not proved.
 
-  check_exact.py pairs OPERATE [COUNT]   all twelve operations on COUNT pairs,
-                                         through a pipe to that program
+  check_exact.py pairs OPERATE [COUNT]   all twelve operations on COUNT pairs, and the
+                                         conversion of each pair in both orders, through
+                                         a pipe to that program
   check_exact.py vectors [STRIDE]        each STRIDE-th line of standard input
 """
 import random
 import subprocess
 import sys
 
-from exact import answers
+from exact import answers, converted
 
 EDGES = [0, 1, 2, 3, 0x400000, 0x7FFFFF, 0x800000, 0x800001, 0x1000000,
          0x1A000000, 0x33000000, 0x337FFFFF, 0x33800000, 0x33800001, 0x34000000,
@@ -49,12 +51,15 @@ def check_pairs(operate, count):
             for direction, answer in answers(operation, a, b).items():
                 questions.append('%s%s %08X %08X' % (operation, direction, a, b))
                 expected.append(questions[-1] + ' ' + answer)
+        for lower, upper in ((a, b), (b, a)):
+            questions.append('mr %08X %08X' % (lower, upper))
+            expected.append(questions[-1] + ' ' + converted(lower, upper))
     run = subprocess.run([operate], input='\n'.join(questions) + '\n',
                          stdout=subprocess.PIPE, text=True, check=True)
     given = run.stdout.splitlines()
     wrong = [pair for pair in zip(given, expected) if pair[0] != pair[1]]
     wrong += [('missing', line) for line in expected[len(given):]]
-    return '%d pairs, %d operations' % (len(pairs), len(expected)), wrong
+    return '%d pairs, %d operations and conversions' % (len(pairs), len(expected)), wrong
 
 
 def check_vectors(stride):

@@ -1,4 +1,5 @@
-"""An exact model of the rounded operations, in fractions.
+"""An exact model of the rounded operations, and of the conversion of bounds to midpoint
+and radius, in fractions.
 
 Independent implementation, not proved. Every value is a fraction, in units of
 2^-149. A rounding searches all finite patterns, in the order of their values,
@@ -82,3 +83,16 @@ def answers(operation, a, b):
         return dict.fromkeys('dun', 'refuse 3')
     return {direction: 'refuse 5' if rank is None else '%08X' % pattern_of(rank)
             for direction, rank in rounded(exact(operation, a, b)).items()}
+
+
+def converted(a, b):
+    """[a, b] as midpoint and radius, as a test vector has results: the midpoint to nearest,
+    and the larger of its distances from the bounds, rounded up."""
+    if any(p >> 23 & 0xFF == 0xFF for p in (a, b)):
+        return 'refuse 3'
+    a, b = value(a), value(b)
+    if a > b:
+        return 'refuse 4'
+    m = rounded(Fraction(a + b, 2))['n']
+    r = rounded(max(ranked(m) - a, b - ranked(m)))['u']
+    return '%08X %08X' % (pattern_of(m), pattern_of(r))

@@ -22,21 +22,25 @@ uint32_t check_bounds(uint32_t lo, uint32_t hi)
     return 0;
 }
 
-/* m is (lo + hi)/2 rounded up, r is m - lo rounded up. */
+/* m is (lo + hi)/2 to nearest, r is the larger of m - lo and hi - m, rounded up. Here both
+   are rounded up before the larger one is taken, which gives the same: rounding up keeps
+   the order. */
 struct refusal oracle_to_midrad(uint32_t lo, uint32_t hi,
                                 uint32_t *m, uint32_t *r)
 {
     uint32_t number = check_bounds(lo, hi);
     if (number != 0)
         return refuse(number, 0, 0, 0);
-    uint32_t midpoint, radius;
-    number = oracle_operate(MIDPOINT, UP, lo, hi, &midpoint);
+    uint32_t midpoint, to_lo, to_hi;
+    number = oracle_operate(MIDPOINT, NEAR, lo, hi, &midpoint);
     if (number == 0)
-        number = oracle_operate(SUB, UP, midpoint, lo, &radius);
+        number = oracle_operate(SUB, UP, midpoint, lo, &to_lo);
+    if (number == 0)
+        number = oracle_operate(SUB, UP, hi, midpoint, &to_hi);
     if (number != 0)
         return refuse(number, 0, 0, 0);
     *m = midpoint;
-    *r = radius;
+    *r = value_of(to_lo) > value_of(to_hi) ? to_lo : to_hi;
     return ACCEPTED;
 }
 

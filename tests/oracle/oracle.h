@@ -7,6 +7,7 @@
 #ifndef ORACLE_H
 #define ORACLE_H
 
+#include <stdbool.h>
 #include <stddef.h>
 #include <stdint.h>
 
@@ -30,6 +31,13 @@ struct refusal oracle_to_midrad(uint32_t lo, uint32_t hi,
 /* <m, r> to [lo, hi]: refused with 3, 4 or 5. Writes only when accepted. */
 struct refusal oracle_to_bounds(uint32_t m, uint32_t r,
                                 uint32_t *lo, uint32_t *hi);
+
+/* Whether m - r <= lo and hi <= m + r, without any rounding. All are finite, r >= 0. */
+bool oracle_encloses(uint32_t m, uint32_t r, uint32_t lo, uint32_t hi);
+
+/* Whether no pair of numbers that encloses [lo, hi] has a radius below r. All are finite,
+   r is the pattern of zero or of a positive number. */
+bool oracle_smallest_radius(uint32_t r, uint32_t lo, uint32_t hi);
 
 /* The check of a product's four sizes, refusal 1: A's sizes (matrix 1), then B's sizes or
    the mismatch of A's columns and B's rows (matrix 2). */

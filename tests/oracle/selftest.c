@@ -1,5 +1,5 @@
-/* Independent implementation, not proved: self-test of operations and conversions, and
-   the main function of the whole self-test. */
+/* Independent implementation, not proved: self-test of the operations, and the main
+   function of the whole self-test. */
 #include <stdio.h>
 
 #include "check.h"
@@ -105,34 +105,14 @@ static void check_midpoints(void)
     CHECK(gives(MIDPOINT, UP, TWO, ONE, 0x3FC00000));
 }
 
-static void check_conversions(void)
-{
-    uint32_t x = UNTOUCHED, y = UNTOUCHED;
-    CHECK(is(oracle_to_midrad(ONE, INFINITY_PATTERN, &x, &y), 3, 0, 0, 0));
-    CHECK(is(oracle_to_midrad(NAN_PATTERN, 0, &x, &y), 3, 0, 0, 0));
-    CHECK(is(oracle_to_midrad(TWO, ONE, &x, &y), 4, 0, 0, 0));
-    CHECK(is(oracle_to_bounds(ONE, NAN_PATTERN, &x, &y), 3, 0, 0, 0));
-    CHECK(is(oracle_to_bounds(ONE, NEGATIVE | 1, &x, &y), 4, 0, 0, 0));
-    CHECK(is(oracle_to_bounds(MAX, 1, &x, &y), 5, 0, 0, 0));
-    CHECK(is(oracle_to_bounds(NEGATIVE | MAX, 1, &x, &y), 5, 0, 0, 0));
-    CHECK(x == UNTOUCHED && y == UNTOUCHED);
-    CHECK(is(oracle_to_midrad(MAX, MAX, &x, &y), 0, 0, 0, 0) && x == MAX && y == 0);
-    CHECK(is(oracle_to_midrad(NEGATIVE | MAX, MAX, &x, &y), 0, 0, 0, 0) && x == 0 && y == MAX);
-    CHECK(is(oracle_to_midrad(0x3F7FFFFF, ONE + 1, &x, &y), 0, 0, 0, 0));
-    CHECK(x == ONE + 1 && y == 0x34400000);
-    CHECK(is(oracle_to_midrad(0, NEGATIVE, &x, &y), 0, 0, 0, 0) && x == 0 && y == 0);
-    CHECK(is(oracle_to_bounds(0, MAX, &x, &y), 0, 0, 0, 0) && x == (NEGATIVE | MAX) && y == MAX);
-    CHECK(is(oracle_to_bounds(ONE + 1, 0x34400000, &x, &y), 0, 0, 0, 0));
-    CHECK(x == 0x3F7FFFFF && y == ONE + 3);
-    CHECK(is(oracle_to_bounds(ONE, NEGATIVE, &x, &y), 0, 0, 0, 0) && x == ONE && y == ONE);
-}
-
 int main(void)
 {
     check_modes();
     check_numbers();
     check_midpoints();
     check_conversions();
+    check_small_format();
+    check_smallest_radius();
     check_products();
     check_product_refusals();
     check_reading();

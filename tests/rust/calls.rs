@@ -1,4 +1,4 @@
-//! Tests of the Rust wrapper beside the sheet job and the train, not proved: sheets, product, operations, conversions, each refusal.
+//! Tests of the Rust wrapper beside the sheet job, the train and the conversions, not proved: sheets, product, operations, each refusal.
 use coupling::*;
 
 const HALF: u32 = 0x3F00_0000;
@@ -133,16 +133,4 @@ fn operations() {
         assert_eq!((down[i](a, b), up[i](a, b), near[i](a, b)), (Ok(LARGEST), refused(5, 0, 0, 0), refused(5, 0, 0, 0)));
     }
     assert_eq!(midpoint_up(LARGEST, LARGEST), Ok(LARGEST));
-}
-
-#[test]
-fn conversions() {
-    assert_eq!(to_midrad(MINUS | ONE, THREE), Ok((ONE, TWO)));
-    assert_eq!(to_midrad(MINUS | LARGEST, LARGEST), Ok((0, LARGEST)));
-    assert_eq!(to_midrad(ONE, INFINITE), refused(3, 0, 0, 0));
-    assert_eq!(to_midrad(TWO, ONE), refused(4, 0, 0, 0));
-    assert_eq!(to_bounds(ONE, TWO), Ok((MINUS | ONE, THREE)));
-    assert_eq!(to_bounds(INFINITE, ONE), refused(3, 0, 0, 0));
-    assert_eq!(to_bounds(ONE, MINUS | ONE), refused(4, 0, 0, 0));
-    assert_eq!(to_bounds(LARGEST, LARGEST), refused(5, 0, 0, 0));
 }

@@ -24,9 +24,13 @@ def one(**changes):
     return head(1, 1, 1, 2) + cell(**fields)
 
 
+# 1 by 1: [1 - 2^-24, 1 + 2^-23], whose midpoint has to be rounded, and [1, 1]
+NARROW = one(lower=ONE - 1, upper=ONE + 1) + one(upper=ONE)
+
 CASES = {
     "example": b"4" + A + B,
     "method-1": b"1" + THREE + GOOD, "method-3": b"3" + THREE + GOOD, "method-4": b"4" + THREE + GOOD, "method-7": b"7" + THREE + GOOD,
+    "midpoint-3": b"3" + NARROW, "midpoint-4": b"4" + NARROW, "midpoint-7": b"7" + NARROW,
     "zeros": b"1" + head(0, 2, 3, 1) + head(0, 3, 1, 1), "outside-the-chain": b"1" + head(0, 1, 1, 2) + b"\xFF" * 16 + B,
     "size-32": b"7" + FULL + FULL, "column-by-row": b"3" + head(0, 32, 1, 1) + head(0, 1, 32, 1),
     # 9: the digit

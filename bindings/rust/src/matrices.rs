@@ -7,7 +7,7 @@ use crate::Refusal;
 pub enum Method {
     /// Method 1: sums of the least and the greatest corner products.
     Classical = 1,
-    /// Method 3: midpoints rounded to nearest, and a bound on the error.
+    /// Method 3: products of midpoints rounded to nearest, and a bound on the error.
     Three = 3,
     /// Method 4: midpoints and radii.
     Four = 4,

@@ -8,6 +8,7 @@ mod exact;
 pub mod finite;
 mod funnel;
 mod hold;
+pub mod midpoint;
 pub mod order;
 pub mod partial;
 mod parts;

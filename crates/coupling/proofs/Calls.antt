@@ -6,6 +6,7 @@ use Rattle.refusals.specs.declared.Refusal.{Refusal}
 use Rattle.refusals.specs.Refusal.{codeOf}
 use Rattle.refusals.specs.Answer.{Answer, gives, refuses, coded}
 use Rattle.refusals.proofs.SizeLaws.{Fitting}
+use Rattle.intervals.specs.Conversion.{OptimalFor}
 use Rattle.sheets.specs.declared.chain.Cell.{Cell}
 use Rattle.sheets.specs.Reading.{readOf, sliceAfter}
 use Rattle.sheets.specs.declared.Written.{Written}
@@ -16,7 +17,7 @@ use Rattle.matrices.specs.Checks.{Given}
 use Rattle.matrices.specs.Product.{Left}
 use Rattle.matrices.specs.Demand.{Keeps}
 use Rattle.coupling.specs.Cells.{Short, Answered}
-use Rattle.coupling.specs.Conversions.{firstAfter, secondAfter}
+use Rattle.coupling.specs.Conversions.{firstAfter, secondAfter, OptimalWords}
 
 -- what is left, by an answer o that is x
 pub slice-is : (b : Cell → ℕ) (s d d′ : List ℕ) (o x : Answer (ℕ × ℕ)) → o ≡ x → d′ ≡ sliceAfter b s o d → d′ ≡ sliceAfter b s x d
@@ -53,3 +54,16 @@ words-written d e h = (ap (coded (λ _. 0)) h, (ap (λ x. firstAfter x d) h, ap 
 pub words-kept : {x : Refusal} {a : Answer (ℕ × ℕ)} {r : ℕ} (d e : ℕ) → r ≡ codeOf x → refuses x ≡ a
     → (r ≡ coded (λ _. 0) a) × ((d ≡ firstAfter a d) × (e ≡ secondAfter a e))
 words-kept d e k h = (k ∙ ap (coded (λ _. 0)) h, (ap (λ x. firstAfter x d) h, ap (λ x. secondAfter x e) h))
+
+-- the same of the conversion from bounds, whose pair is optimal
+pub optimal-written : {v : ℕ × ℕ} {a : Answer (ℕ × ℕ)} (lower upper d e : ℕ) → gives v ≡ a → OptimalFor lower upper (gives v)
+    → (0 ≡ coded (λ _. 0) a) × ((v .0 ≡ firstAfter a d) × ((v .1 ≡ secondAfter a e) × OptimalWords lower upper a (v .0) (v .1)))
+optimal-written {v} lower upper d e h o =
+    let w = words-written d e h in
+    (w .0, (w .1 .0, (w .1 .1, subst (λ z. OptimalWords lower upper z (v .0) (v .1)) h o)))
+
+pub optimal-kept : {x : Refusal} {a : Answer (ℕ × ℕ)} {r : ℕ} (lower upper d e : ℕ) → r ≡ codeOf x → refuses x ≡ a
+    → (r ≡ coded (λ _. 0) a) × ((d ≡ firstAfter a d) × ((e ≡ secondAfter a e) × OptimalWords lower upper a d e))
+optimal-kept lower upper d e k h =
+    let w = words-kept d e k h in
+    (w .0, (w .1 .0, (w .1 .1, subst (λ z. OptimalWords lower upper z d e) h (tt {0}))))

@@ -3,18 +3,19 @@
 ghost use mathlib.Core.Path.{_≡_};
 ghost use Rattle.refusals.specs.Answer.{coded};
 ghost use Rattle.intervals.specs.Conversion.{midradOf, boundsOf};
-ghost use Rattle.coupling.specs.Conversions.{firstAfter, secondAfter};
+ghost use Rattle.coupling.specs.Conversions.{firstAfter, secondAfter, OptimalWords};
 use intervals::Bounded;
 use intervals::Converted;
 use intervals::to_bounds;
 use intervals::to_midrad;
 
-// Bounds to midpoint and radius.
+// Bounds to midpoint and radius. No pair of binary32 numbers that encloses the range has a smaller radius.
 #[no_mangle]
 pub extern "C" fn coupling_to_midrad(lower: u32, upper: u32, mid: &mut u32, rad: &mut u32) -> u32
     ensures answer { λ r. ⌜ r ≡ coded (λ _. 0) (midradOf lower upper) ⌝ }
     ensures first { λ r. ⌜ now (mid .exit) ≡ firstAfter (midradOf lower upper) (now (mid .entry)) ⌝ }
     ensures second { λ r. ⌜ now (rad .exit) ≡ secondAfter (midradOf lower upper) (now (rad .entry)) ⌝ }
+    ensures optimal { λ r. ⌜ OptimalWords lower upper (midradOf lower upper) (now (mid .exit)) (now (rad .exit)) ⌝ }
 {
     match to_midrad(lower, upper) {
         Converted::MidRad(m, r) => {

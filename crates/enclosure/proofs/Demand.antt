@@ -46,12 +46,12 @@ module _ {A : Arithmetic} (L : Laws A) (k : ℕ) (a b : ℕ → Cell) (oka : Eac
   entry-encloses m e h = covers-encloses (L .units-above) (entry-covers m e h)
 
 -- ---- for every format of 24 digits or more, whose unit is at most 2 ^ -prec
-module _ (f : Format) (t : 1 ≤ f .top) (u : f .prec ≤ f .unit) (p : 8388608 ≤ half f)
+module _ (f : Format) (u : f .prec ≤ f .unit) (p : 8388608 ≤ half f)
     (k : ℕ) (a b : ℕ → Cell) (e : Range) (va : ValidCells f k a) (vb : ValidCells f k b) where
   pub format-encloses : (m : Method) → k ≤ 32 → entry (of f) m k a b ≡ some e → Encloses (units f) k a b e
   unfolding format-laws
   format-encloses m few h =
-      entry-encloses (format-laws f u) k a b (λ l i. valid-converted f t u (a l) (va l i)) (λ l i. valid-converted f t u (b l) (vb l i)) few p m e h
+      entry-encloses (format-laws f u) k a b (λ l i. valid-converted f (a l) (va l i)) (λ l i. valid-converted f (b l) (vb l i)) few p m e h
 
   -- 2 × half times: in 1 / units of a unit the width is at most 3 / 2 of the exact one, 8 × (k + 4) × S / half, 4 × T and 8 × k × units
   pub format-four-width : 1 ≤ k → k ≤ 32 → 4 ≤ units f → entry (of f) four k a b ≡ some e
@@ -59,12 +59,12 @@ module _ (f : Format) (t : 1 ≤ f .top) (u : f .prec ≤ f .unit) (p : 8388608 
       ≤ 3 * (half f * Σℕ k (λ l. pairWidth (a l) (b l))) + 16 * (k + 4) * S k a b + 8 * (half f * T k a b) + 16 * k * (half f * units f)
   unfolding format-laws
   format-four-width k≥ k≤ q h =
-      four-width (format-laws f u) k a b (λ l i. valid-converted f t u (a l) (va l i)) (λ l i. valid-converted f t u (b l) (vb l i)) k≥ k≤ q p e h
+      four-width (format-laws f u) k a b (λ l i. valid-converted f (a l) (va l i)) (λ l i. valid-converted f (b l) (vb l i)) k≥ k≤ q p e h
 
 -- ---- binary32: P is 2^23, Q is 2^149
 pub binary32-encloses : (m : Method) (k : ℕ) (a b : ℕ → Cell) (e : Range) → k ≤ 32 → ValidCells binary32 k a → ValidCells binary32 k b
     → entry (of binary32) m k a b ≡ some e → Encloses (units binary32) k a b e
-binary32-encloses m k a b e few va vb h = format-encloses binary32 (lit≤ tt) (lit≤ tt) (lit≤ tt) k a b e va vb m few h
+binary32-encloses m k a b e few va vb h = format-encloses binary32 (lit≤ tt) (lit≤ tt) k a b e va vb m few h
 
 -- the exact width of an entry, pair by pair
 exact-width : (k : ℕ) (a b : ℕ → Cell) → pos (Σℕ k (λ l. pairWidth (a l) (b l))) ≡ exactUpper k a b -ℤ exactLower k a b
@@ -88,7 +88,7 @@ unfolding WidthFour
 binary32-four-width k a b e k≥ k≤ va vb h =
     literal (units binary32) k (natAbs (e .upper -ℤ e .lower)) (Σℕ k (λ l. pairWidth (a l) (b l))) (S k a b) (T k a b)
     (e .upper -ℤ e .lower) (exactUpper k a b -ℤ exactLower k a b) (≼-abs (e .upper -ℤ e .lower)) (exact-width k a b)
-    (format-four-width binary32 (lit≤ tt) (lit≤ tt) (lit≤ tt) k a b e va vb k≥ k≤ (lit≤ tt) h)
+    (format-four-width binary32 (lit≤ tt) (lit≤ tt) k a b e va vb k≥ k≤ (lit≤ tt) h)
 
 -- ---- the demand
 pub demand-kept : (m : Method) (k : ℕ) (a b : ℕ → Cell) (e : Range) → 1 ≤ k → k ≤ 32 → ValidCells binary32 k a → ValidCells binary32 k b

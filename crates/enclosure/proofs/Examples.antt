@@ -36,13 +36,13 @@ range l u = record { lower = l; upper = u }
 
 -- one unit × one unit by method 4: the product lies between the centre rounded down and the centre rounded up
 pub four-worked : entry (of binary32) four 1 (λ l. cell (pos 1) (pos 1)) (λ l. cell (pos 1) (pos 1)) ≡ some (range (pos 0) (pos 1))
-unfolding entry ends radius₄ centre total sum bind innerTerm outerRadius outerTerm midTerm mid rad up down lo hi ceil expo size MAX
+unfolding entry ends radius₄ centre total sum bind innerTerm outerRadius outerTerm midTerm mid rad maxℤ up down near lo hi nr ceil expo size MAX
 four-worked = refl
 
 -- one unit × [-1/8, 5/4] by method 3: without the 2^24 units, 2^-125, it would be [0, 2] units, and the product -1/8 of a unit lies outside
 pub three-worked : entry (of binary32) three 1 (λ l. cell (pos 1) (pos 1)) (λ l. cell (negℤ (over 1 3)) (over 5 2))
     ≡ some (range (negℤ (pos (2 ^ 24 + 2))) (pos (2 ^ 24 + 4)))
-unfolding entry ends radius₃ centre total sum bind raisedRadius raisedTerm outerRadius outerTerm midTerm mid rad up down near lo hi nr ceil expo size MAX
+unfolding entry ends radius₃ centre total sum bind raisedRadius raisedTerm outerRadius outerTerm midTerm mid rad maxℤ up down near lo hi nr ceil expo size MAX
 three-worked = refl
 
 -- ---- the numbers of the width, of two pairs: [1, 2] × [-1, 3] and [0, 2] × [0, 2]

@@ -9,7 +9,7 @@ use lib.Pow.{pow-pos, pow-add}
 use lib.IntN.{ℤ, pos, negℤ}
 use Rattle.algebra.specs.Order.{_≼_}
 use Rattle.algebra.proofs.Order.{≼-or-≺}
-use Rattle.rounding.specs.Format.{Format, half, MAX, Num}
+use Rattle.rounding.specs.Format.{Format, half, MAX}
 use Rattle.rounding.specs.Rounding.{up, down}
 use Rattle.rounding.proofs.Directed.{up-is, up-above, down-is, down-below}
 use Rattle.rounding.proofs.Nearest.{near-is}
@@ -35,13 +35,10 @@ module _ (f : Format) where
       record {
         P = half f;
         MAX = MAX f;
-        Num = λ w. Num f w;
-        num-within = λ n. n .within;
         units-above = pow-pos (f .unit);
         eps-is = ap (λ n. n * 2 ^ (f .unit - f .prec)) double-half ∙ sym (pow-add 2 (f .prec) (f .unit - f .prec)) ∙ ap (λ n. 2 ^ n) together;
         tiny-is = sym double-half;
         up-above = λ d h. up-is f _ d h .above;
-        up-least = λ d h. up-is f _ d h .least;
         up-room = room-above;
         up-err = λ d h. up-err f _ d (up-is f _ d h);
         down-below = λ d h. down-is f _ d h .below;

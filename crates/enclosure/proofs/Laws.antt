@@ -2,27 +2,24 @@
 use mathlib.Core.Path.{_≡_}
 use mathlib.Core.List.{[], _∷_}
 use mathlib.Core.Option.{some}
-use Prim.Native.Nat.{ℕ, _*_, _≤_, _<_}
+use Prim.Native.Nat.{ℕ, _*_, _<_}
 use native.Mathlib.Omega.{arith}
-use lib.IntN.{ℤ, pos, negℤ, natAbs, _*ℤ_}
+use lib.IntN.{ℤ, pos, negℤ, _*ℤ_}
 use Rattle.algebra.specs.Order.{_≼_}
 use Rattle.algebra.proofs.Linear.{reading, le, lin-le}
 use Rattle.rounding.specs.Property.{Err}
 use Rattle.enclosure.specs.Arithmetic.{Arithmetic}
 
-pub record Laws (A : Arithmetic) : Type 1 where
+pub record Laws (A : Arithmetic) : Type 0 where
   -- a directed rounding errs by at most a P-th, the nearest by half of that
   pub P : ℕ
   pub MAX : ℕ
-  pub Num : ℤ → Type 0
-  pub num-within : {w : ℤ} → Num w → natAbs w ≤ MAX
   -- the constants: 2 ^ -prec is 1 / (2 * P), and method 3 adds 2 * P units
   pub units-above : 0 < A .units
   pub eps-is : 2 * P * A .eps ≡ A .units
   pub tiny-is : A .tiny ≡ 2 * P
-  -- up: the least number not below, and none above MAX. Below -MAX it is -MAX, so there the error has no bound
+  -- up: not below, and none above MAX. Below -MAX it is -MAX, so there the error has no bound
   pub up-above : {D : ℕ} {X v : ℤ} → 0 < D → A .up D X ≡ some v → X ≼ v *ℤ pos D
-  pub up-least : {D : ℕ} {X v : ℤ} → 0 < D → A .up D X ≡ some v → (w : ℤ) → Num w → X ≼ w *ℤ pos D → v ≼ w
   pub up-room : {D : ℕ} {X v : ℤ} → 0 < D → A .up D X ≡ some v → X ≼ pos (MAX * D)
   pub up-err : {D : ℕ} {X v : ℤ} → 0 < D → A .up D X ≡ some v → negℤ (pos (MAX * D)) ≼ X → Err P D X v
   -- down, the mirror image

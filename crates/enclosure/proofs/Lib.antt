@@ -18,7 +18,7 @@ pub mod Magnitude
 pub mod Accumulate
 pub mod Traces
 -- the conversion
-pub mod ConversionSteps
+pub mod Farther
 pub mod Conversion
 -- enclosure, method by method
 pub mod Covers

@@ -3,6 +3,7 @@ pub mod Sums
 pub mod NaturalSum
 pub mod Cell
 pub mod Conversion
+pub mod Optimal
 pub mod Methods
 pub mod Fraction
 pub mod Demand

@@ -1,4 +1,4 @@
-pub mod Rounded
 pub mod Faults
 pub mod Converting
+pub mod Back
 pub mod Clearing

@@ -1,12 +1,14 @@
--- Intervals as patterns: the fault of a pair of bounds, and the conversions with their refusals. Definitions only (01, "Two ways to hold an interval").
+-- Intervals as patterns: the fault of a pair of bounds, and the conversions with their refusals. Definitions only (01, "Two ways to hold an interval"; 02, P2).
 use mathlib.Core.Bool.{cond}
 use Prim.Native.Nat.{ℕ}
 use Rattle.rounding.specs.Format.{binary32}
+use Rattle.rounding.specs.Rounding.{up}
 use Rattle.enclosure.specs.Arithmetic.{of}
 use Rattle.enclosure.specs.Conversion.{mid, rad}
+use Rattle.enclosure.specs.Optimal.{Optimal}
 use Rattle.refusals.specs.Answer.{Answer, gives, refuses, passing, both}
-use Rattle.binary32.specs.Number.{valueOf, finites, patternOf}
-use Rattle.binary32.specs.Operations.{subDown, addUp}
+use Rattle.binary32.specs.Number.{valueOf, finites, patternOf, holdUp}
+use Rattle.binary32.specs.Operations.{midpoint, with₂, subDown, addUp}
 use Rattle.binary32.specs.Order.{atMost}
 use Rattle.intervals.specs.declared.Converted.{Converted}
 use Rattle.intervals.specs.declared.Converted.the-variants as C
@@ -21,13 +23,17 @@ faultOf lo hi = cond (finites lo hi) (cond (atMost lo hi) 0 4) 3
 unfoldable pub radiusFaultOf : ℕ → ℕ → ℕ
 radiusFaultOf m r = cond (finites m r) (cond (atMost 0 r) 0 4) 3
 
--- ---- bounds [a, b] to midpoint and radius: m is (a + b) / 2 rounded up, r is m - a rounded up
+-- ---- bounds [a, b] to midpoint and radius: m is (a + b) / 2 to nearest, r is the larger of m - a and b - m, rounded up
 
 unfoldable pub midOf : ℕ → ℕ → ℕ
 midOf lo hi = patternOf (mid (of binary32) (valueOf lo) (valueOf hi))
 
 unfoldable pub radOf : ℕ → ℕ → ℕ
 radOf lo hi = patternOf (rad (of binary32) (valueOf lo) (valueOf hi))
+
+-- the midpoint rounded up, which tells on which side of the exact one the nearest lies; for the contract of an inner function
+abbrev pub midUpOf : ℕ → ℕ → ℕ
+midUpOf lo hi = holdUp (with₂ (midpoint up) lo hi)
 
 -- the answer that a `Converted` of the code stands for
 abbrev pub converted : Converted → Answer (ℕ × ℕ)
@@ -36,6 +42,11 @@ converted (C.Refused x) = refuses x
 
 unfoldable pub midradOf : ℕ → ℕ → Answer (ℕ × ℕ)
 midradOf lo hi = passing (faultOf lo hi) (gives (midOf lo hi, radOf lo hi))
+
+-- the midpoint and the radius of an answer enclose [lo, hi], and no pair of binary32 numbers that does has a smaller radius
+abbrev pub OptimalFor : ℕ → ℕ → Answer (ℕ × ℕ) → Type 0
+OptimalFor lo hi (gives (m, r)) = Optimal binary32 (valueOf lo) (valueOf hi) (valueOf m) (valueOf r)
+OptimalFor lo hi (refuses x) = Unit {0}
 
 -- ---- midpoint and radius to bounds: m - r rounded down, m + r rounded up
 

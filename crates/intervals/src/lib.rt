@@ -1,11 +1,13 @@
 // Intervals of binary32 numbers in two representations: bounds [a, b] with a ≤ b, and midpoint and radius <m, r> with r ≥ 0.
 ghost use mathlib.Core.Path.{_≡_};
-ghost use Rattle.intervals.specs.Conversion.{faultOf, radiusFaultOf, midOf, radOf, converted, midradOf, bounded, outwardOf, boundsOf};
+ghost use Rattle.intervals.specs.Conversion.{faultOf, radiusFaultOf, midOf, midUpOf, radOf, converted, midradOf, OptimalFor, bounded, outwardOf, boundsOf};
 use binary32::Rounded;
 use binary32::add_up;
 use binary32::finite::are_finite;
+use binary32::midpoint::NearUp;
+use binary32::midpoint::near_up;
 use binary32::order::at_most;
-use binary32::partial;
+use binary32::partial::sub_up;
 use binary32::sub_down;
 use refusals::Refusal;
 
@@ -43,32 +45,30 @@ fn check_radius(m: u32, r: u32) -> u8
     if at_most(0, r) { 0 } else { 4 }
 }
 
-// The exact midpoint of two bounds, rounded up.
-fn midpoint(lo: u32, hi: u32) -> u32
-    requires { ⌜ faultOf lo hi ≡ 0 ⌝ }
-    ensures { λ r. ⌜ r ≡ midOf lo hi ⌝ }
-{
-    partial::midpoint_up(lo, hi)
-}
-
-// The distance from the midpoint to the lower bound, rounded up. The midpoint was rounded up, so the upper bound is no farther. Never refused.
-fn radius(lo: u32, hi: u32, mid: u32) -> u32
-    requires { ⌜ (faultOf lo hi ≡ 0) × (mid ≡ midOf lo hi) ⌝ }
+// The distance from the midpoint to the farther bound, rounded up. That is the lower bound where the midpoint to nearest is the one rounded up too, and so
+// not below the exact one. Never refused.
+fn radius(lo: u32, hi: u32, mid: NearUp) -> u32
+    requires { ⌜ (faultOf lo hi ≡ 0) × (mid .near ≡ midOf lo hi) × (mid .up ≡ midUpOf lo hi) ⌝ }
     ensures { λ r. ⌜ r ≡ radOf lo hi ⌝ }
 {
-    partial::sub_up(mid, lo)
+    if mid.near == mid.up {
+        return sub_up(mid.near, lo);
+    }
+    sub_up(hi, mid.near)
 }
 
-// Bounds [a, b] to <m, r>: m is the exact midpoint rounded up, r is m - a rounded up. Neither overflows.
+// Bounds [a, b] to <m, r>: m is the exact midpoint to nearest, r is the larger of m - a and b - m, rounded up. Neither overflows, and no pair of
+// binary32 numbers that encloses [a, b] has a smaller radius.
 pub fn to_midrad(lo: u32, hi: u32) -> Converted
-    ensures { λ r. ⌜ converted r ≡ midradOf lo hi ⌝ }
+    ensures answer { λ r. ⌜ converted r ≡ midradOf lo hi ⌝ }
+    ensures optimal { λ r. ⌜ OptimalFor lo hi (converted r) ⌝ }
 {
     let fault = check(lo, hi);
     if fault != 0 {
         return Converted::Refused(Refusal::of_matrix(fault, 0));
     }
-    let m = midpoint(lo, hi);
-    Converted::MidRad(m, radius(lo, hi, m))
+    let mid = near_up(lo, hi);
+    Converted::MidRad(mid.near, radius(lo, hi, mid))
 }
 
 // lo - amount rounded down and hi + amount rounded up.

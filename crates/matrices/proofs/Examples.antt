@@ -1,4 +1,5 @@
 -- The lines of 01 that are marked *, as one statement about a table: what the definitions give is what the paper states. Numbers are patterns.
+-- The line of a midpoint that is rounded is that of 02, P2.
 use mathlib.Core.Path.{_≡_, refl}
 use mathlib.Core.List.{List, [], _∷_, _++_, map}
 use mathlib.Core.Option.{bind}
@@ -64,8 +65,8 @@ table =
     -- [MAX, MAX] gives <MAX, 0>, [-MAX, MAX] gives <0, MAX>
     ∷ is (two (midradOf 0x7F7FFFFF 0x7F7FFFFF)) (0x7F7FFFFF ∷ 0 ∷ [])
     ∷ is (two (midradOf 0xFF7FFFFF 0x7F7FFFFF)) (0 ∷ 0x7F7FFFFF ∷ [])
-    -- [1 - 2^-24, 1 + 2^-23] gives <1 + 2^-23, 3 × 2^-24>
-    ∷ is (two (midradOf 0x3F7FFFFF 0x3F800001)) (0x3F800001 ∷ 0x34400000 ∷ [])
+    -- [1 - 2^-24, 1 + 2^-23] gives <1, 2^-23>
+    ∷ is (two (midradOf 0x3F7FFFFF 0x3F800001)) (0x3F800000 ∷ 0x34000000 ∷ [])
     -- [0, 2] × [0, 2]: method 4 [-2, 4], methods 1 and 7 [0, 4]
     ∷ is (product 4 0 0x40000000 0 0x40000000) (0xC0000000 ∷ 0x40800000 ∷ [])
     ∷ is (product 1 0 0x40000000 0 0x40000000) (0 ∷ 0x40800000 ∷ [])

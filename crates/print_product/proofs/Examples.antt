@@ -4,8 +4,9 @@ use mathlib.Core.List.{List, [], _∷_, _++_}
 use mathlib.Core.Option.{bind}
 use Prim.Native.Nat.{ℕ}
 use lib.Ieee.{size}
+use Rattle.algebra.specs.Extremes.{maxℤ}
 use Rattle.rounding.specs.Format.{MAX, expo}
-use Rattle.rounding.specs.Rounding.{ceil, lo, hi, up, down}
+use Rattle.rounding.specs.Rounding.{ceil, lo, hi, nr, up, down, near}
 use Rattle.rounding.specs.Pattern.{val, encode}
 use Rattle.enclosure.specs.Sums.{sum}
 use Rattle.enclosure.specs.Conversion.{mid, rad}
@@ -50,5 +51,5 @@ four : printedOf (52 ∷ sheet 0x3F800000 0x40000000 ++ sheet 0xBF800000 0x40400
 unfolding printedOf sheetsText digitValue firstLength productLine cellLine cellLines digit digits digitCountTo jobProduct sheetsProduct foldFrom stepOf timesOf readAs
     u16At u32At blank recordOf framed checkFit checkSize checkLengths unitsOf amountOf widenedOf judgeOf visitOf walk chainOf readOf putIn sliceAfter recordBytes
     productOf resultAfter checkOf checkShapes checkMethod methodOf checkSizes checkSlices checkOperands checkLent checkBoth checkCells first
-    stopOf tabulate entryAt entryOf cellAt entry radius₄ centre total sum innerTerm outerRadius outerTerm midTerm faultOf answer valueOf mid rad up down lo hi ceil expo size MAX val encode ends bind
+    stopOf tabulate entryAt entryOf cellAt entry radius₄ centre total sum innerTerm outerRadius outerTerm midTerm faultOf answer valueOf mid rad maxℤ up down near lo hi nr ceil expo size MAX val encode ends bind
 four = refl

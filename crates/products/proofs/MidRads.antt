@@ -12,9 +12,7 @@ use Rattle.enclosure.specs.Arithmetic.{of}
 use Rattle.enclosure.specs.Methods.{Method, entry}
 use Rattle.enclosure.proofs.Conversion.{cell-converted}
 use Rattle.binary32.specs.Number.{valueOf}
-use Rattle.binary32.proofs.Held.{pattern-value, pattern-finite}
-use Rattle.intervals.specs.Conversion.{midOf, radOf}
-use Rattle.intervals.proofs.Rounded.{mid-num, rad-num}
+use Rattle.intervals.proofs.Converting.{mid-finite, rad-finite, mid-value, rad-value}
 use Rattle.intervals.proofs.Faults.{Ordered, fine-tells}
 use Rattle.matrices.specs.Lists.{front}
 use Rattle.matrices.specs.Matrix.{Matrix, AllFine, lowerAt, upperAt, cellAt, midAt, radAt}
@@ -27,25 +25,24 @@ use Rattle.matrices.proofs.Places.{below}
 
 -- ---- a cell without a fault
 module _ (X : Matrix) (c : ℕ) (o : Ordered (lowerAt X c) (upperAt X c)) where
-  mid-value : valueOf (midAt X c) ≡ cellAt X c .mid
-  unfolding midOf cellAt
-  mid-value = pattern-value (mid-num binary32 (omega arith) (valueOf (lowerAt X c)) (valueOf (upperAt X c)) (o .low-num) (o .high-num) (o .order))
+  mid-is : valueOf (midAt X c) ≡ cellAt X c .mid
+  unfolding cellAt
+  mid-is = mid-value (lowerAt X c) (upperAt X c) o
 
-  rad-value : valueOf (radAt X c) ≡ cellAt X c .rad
-  unfolding radOf cellAt
-  rad-value = pattern-value (rad-num binary32 (omega arith) (valueOf (lowerAt X c)) (valueOf (upperAt X c)) (o .low-num) (o .high-num) (o .order))
+  rad-is : valueOf (radAt X c) ≡ cellAt X c .rad
+  unfolding cellAt
+  rad-is = rad-value (lowerAt X c) (upperAt X c) o
 
   rad-nonneg : pos 0 ≼ cellAt X c .rad
   unfolding cellAt
-  rad-nonneg = cell-converted binary32 (omega arith) (omega arith) (o .low-num) (o .high-num) (o .order) .rad-nonneg
+  rad-nonneg = cell-converted binary32 (o .low-num) (o .high-num) (o .order) .rad-nonneg
 
   mid-rad : MidRad (midAt X c) (radAt X c)
-  unfolding midOf radOf
   mid-rad =
       record {
-        mid = pattern-finite (mid-num binary32 (omega arith) (valueOf (lowerAt X c)) (valueOf (upperAt X c)) (o .low-num) (o .high-num) (o .order));
-        rad = pattern-finite (rad-num binary32 (omega arith) (valueOf (lowerAt X c)) (valueOf (upperAt X c)) (o .low-num) (o .high-num) (o .order));
-        nonneg = subst (λ v. pos 0 ≼ v) (sym rad-value) rad-nonneg;
+        mid = mid-finite (lowerAt X c) (upperAt X c) o;
+        rad = rad-finite (lowerAt X c) (upperAt X c) o;
+        nonneg = subst (λ v. pos 0 ≼ v) (sym rad-is) rad-nonneg;
       }
 
 -- ---- the first count cells, converted into m and r
@@ -76,8 +73,8 @@ module _ {X : Matrix} {count : ℕ} {m r : List ℕ} (C : Converted X count m r)
 
   cell-is : (c : ℕ) → c < count → bare (cellAt X c) ≡ midRadAt m r c
   cell-is c h =
-      let mid : cellAt X c .mid ≡ valueOf (getD m c 0) = sym (ap valueOf (C .mid-at c h) ∙ mid-value X c (ordered c h)) in
-      let rad : cellAt X c .rad ≡ valueOf (getD r c 0) = sym (ap valueOf (C .rad-at c h) ∙ rad-value X c (ordered c h)) in
+      let mid : cellAt X c .mid ≡ valueOf (getD m c 0) = sym (ap valueOf (C .mid-at c h) ∙ mid-is X c (ordered c h)) in
+      let rad : cellAt X c .rad ≡ valueOf (getD r c 0) = sym (ap valueOf (C .rad-at c h) ∙ rad-is X c (ordered c h)) in
       ap₂ (λ x y. record { low = pos 0; high = pos 0; mid = x; rad = y }) mid rad
 
 -- ---- both matrices: m rows of A, n columns of B

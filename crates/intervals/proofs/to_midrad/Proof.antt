@@ -1,10 +1,12 @@
 -- `intervals::to_midrad` meets its contract: each return is a case of the definition.
-use mathlib.Core.Path.{ap, ap₂, sym, _∙_}
+use mathlib.Core.Path.{ap, ap₂, sym, _∙_, subst₂}
 use Prim.Native.Nat.{ℕ}
 use borrow.Author.Needs.{needs}
 use Rattle.refusals.specs.Answer.{gives, refuses, refuse}
 use Rattle.refusals.proofs.Answers.{passing-on, passing-not}
-use Rattle.intervals.specs.Conversion.{midradOf}
+use Rattle.intervals.specs.Conversion.{midradOf, OptimalFor}
+use Rattle.intervals.proofs.Faults.{fine-tells}
+use Rattle.intervals.proofs.Converting.{mid-of, optimal-of}
 use Rattle.intervals.proofs.to_midrad.Statement.{statement}
 use Rattle.intervals.proofs.to_midrad.Tie as tie
 
@@ -18,29 +20,33 @@ returns : tie.Need-returns
 unfolding midradOf
 returns c =
     let k = c .before .before in
-    ap refuses (c .of-matrix .ensures) ∙ ap refuse (k .check .ensures)
-    ∙ passing-not _ _ (λ e. c .before .if1 .taken (k .check .ensures ∙ e))
+    (ap refuses (c .of-matrix .ensures) ∙ ap refuse (k .check .ensures) ∙ passing-not _ _ (λ e. c .before .if1 .taken (k .check .ensures ∙ e)), tt {0})
 
-midpoint-requires : tie.Need-midpoint-requires
-midpoint-requires c κs = sym (c .before .check .ensures) ∙ c .if1 .left
+near-up-requires : tie.Need-near-up-requires
+near-up-requires c κs = search needs
 
 radius-requires : tie.Need-radius-requires
-radius-requires c κs = (sym (c .before .before .check .ensures) ∙ c .before .if1 .left, c .midpoint .ensures)
+radius-requires c κs =
+    let k = c .before .before in
+    let fine = sym (k .check .ensures) ∙ c .before .if1 .left in
+    let lo = k .before .args .lo in
+    let hi = k .before .args .hi in
+    (fine, c .near-up .ensures .0 ∙ mid-of lo hi (fine-tells lo hi fine), c .near-up .ensures .1)
 
 returns-2 : tie.Need-returns-2
 unfolding midradOf
 returns-2 c =
     let m = c .before in
     let k = m .before .before in
-    ap₂ (λ (x y : ℕ). gives (x, y)) (m .midpoint .ensures) (c .radius .ensures) ∙ passing-on _ _ (sym (k .check .ensures) ∙ m .before .if1 .left)
+    let fine = sym (k .check .ensures) ∙ m .before .if1 .left in
+    let lo = k .before .args .lo in
+    let hi = k .before .args .hi in
+    let o = fine-tells lo hi fine in
+    let mid = m .near-up .ensures .0 ∙ mid-of lo hi o in
+    let rad = c .radius .ensures in (
+      ap₂ (λ (x y : ℕ). gives (x, y)) mid rad ∙ passing-on _ _ fine,
+      subst₂ (λ (x y : ℕ). OptimalFor lo hi (gives (x, y))) (sym mid) (sym rad) (optimal-of lo hi o),
+    )
 
 pub to-midrad-spec : {M : Type 1} → statement M
-to-midrad-spec =
-    tie.close
-    (tie.spec
-    check-requires
-    of-matrix-requires
-    returns
-    midpoint-requires
-    radius-requires
-    returns-2)
+to-midrad-spec = tie.close (tie.spec check-requires of-matrix-requires returns near-up-requires radius-requires returns-2)

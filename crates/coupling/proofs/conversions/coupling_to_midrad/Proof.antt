@@ -1,7 +1,8 @@
--- `coupling::conversions::coupling_to_midrad` meets its contract: the conversion's, with its two numbers in the words.
+-- `coupling::conversions::coupling_to_midrad` meets its contract: the conversion's, with its two numbers in the words, which are optimal.
+use mathlib.Core.Path.{subst}
 use Rattle.refusals.proofs.Answers.{said}
-use Rattle.intervals.specs.Conversion.{converted}
-use Rattle.coupling.proofs.Calls.{words-written, words-kept}
+use Rattle.intervals.specs.Conversion.{converted, OptimalFor}
+use Rattle.coupling.proofs.Calls.{optimal-written, optimal-kept}
 use borrow.Author.Needs.{needs}
 use Rattle.coupling.proofs.conversions.coupling_to_midrad.Statement.{statement}
 use Rattle.coupling.proofs.conversions.coupling_to_midrad.Tie as tie
@@ -19,10 +20,16 @@ code-requires : tie.Need-code-requires
 code-requires c κs = search needs
 
 returns : tie.Need-returns
-returns c = words-written _ _ (said converted (c .before .before .before .to-midrad .ensures) (c .before .m .given .1))
+returns c =
+    let z = c .before .before .before .to-midrad in
+    let a = c .before .before .before .before .args in
+    let g = c .before .m .given .1 in
+    optimal-written (a .lower) (a .upper) _ _ (said converted (z .ensures .0) g) (subst (λ v. OptimalFor (a .lower) (a .upper) (converted v)) g (z .ensures .1))
 
 returns-2 : tie.Need-returns-2
-returns-2 c = words-kept _ _ (c .code .ensures) (said converted (c .before .before .before .before .to-midrad .ensures) (c .before .before .r .given .1))
+returns-2 c =
+    let a = c .before .before .before .before .before .args in
+    optimal-kept (a .lower) (a .upper) _ _ (c .code .ensures) (said converted (c .before .before .before .before .to-midrad .ensures .0) (c .before .before .r .given .1))
 
 pub coupling-to-midrad-spec : {M : Type 1} → statement M
 coupling-to-midrad-spec = tie.close (tie.spec to-midrad-requires enum-known-m enum-known-r code-requires returns returns-2)

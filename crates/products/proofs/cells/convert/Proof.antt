@@ -72,7 +72,7 @@ returns : tie.Need-returns Inv-loop μ-loop
 returns c =
     let i = c .before .before .before .before .before in
     let z = c .before .before .to-midrad in
-    absurd (fine-refused (X (i .before)) (i .before .loop .c) (fine i) (z .result) (z .ensures) (c .enum-told .given .0 .0) (c .enum-told .given .1))
+    absurd (fine-refused (X (i .before)) (i .before .loop .c) (fine i) (z .result) (z .ensures .0) (c .enum-told .given .0 .0) (c .enum-told .given .1))
 
 add-c : tie.Need-add-c Inv-loop μ-loop
 add-c c = omega arith
@@ -86,8 +86,8 @@ loop-again c =
     let p = i .before in
     let z = c .before .before .before .to-midrad in
     let m = c .before .m .given in
-    let a = fine-mid (X p) (p .loop .c) (fine i) (z .result) (z .ensures) (m .0 .0) (m .0 .1 .0) (m .1) in
-    let b = fine-rad (X p) (p .loop .c) (fine i) (z .result) (z .ensures) (m .0 .0) (m .0 .1 .0) (m .1) in
+    let a = fine-mid (X p) (p .loop .c) (fine i) (z .result) (z .ensures .0) (m .0 .0) (m .0 .1 .0) (m .1) in
+    let b = fine-rad (X p) (p .loop .c) (fine i) (z .result) (z .ensures .0) (m .0 .0) (m .0 .1 .0) (m .1) in
     (omega arith, filled-more (p .loop .c) _ _ _ _ (omega arith) a (p .loop .inv .1), filled-more (p .loop .c) _ _ _ _ (omega arith) b (p .loop .inv .2))
 
 same-length-3 : tie.Need-same-length-3 Inv-loop μ-loop
