@@ -9,9 +9,10 @@ use lib.IntN.{ℤ, pos, natAbs, _+ℤ_, _*ℤ_, _-ℤ_}
 use Rattle.algebra.specs.Sum.{Σ<}
 use Rattle.algebra.proofs.Reading.{by-ring}
 use Rattle.algebra.proofs.Linear.{reading}
+use Rattle.algebra.proofs.Absolute.{natAbs-add, natAbs-mul}
 use Rattle.rounding.specs.Property.{off, Err}
 use Rattle.enclosure.specs.NaturalSum.{Σℕ}
-use Rattle.enclosure.proofs.Magnitude.{mag-add, mag-mul, mag-add₃, mag-add₄, sum-err}
+use Rattle.enclosure.proofs.Magnitude.{mag-add₃, mag-add₄, sum-err}
 
 -- ---- a running sum whose every step obeys the error law: X l is the exact term, in 1 / Q of a unit
 pub data Trace (P Q : ℕ) (X : ℕ → ℤ) (s : ℤ) : ℕ → ℤ → Type 0 where
@@ -53,13 +54,13 @@ module _ (P Q i Y : ℕ) (u t v X x : ℤ) where
   addition-error : natAbs X ≤ Y → Err P 1 (u +ℤ t) v → P * (natAbs (v -ℤ (u +ℤ t)) * Q) ≤ Y + natAbs x + off Q X u + off Q x t
   addition-error h k =
       let g : (u +ℤ t) *ℤ pos Q ≡ X +ℤ (u *ℤ pos Q -ℤ X) +ℤ x +ℤ (t *ℤ pos Q -ℤ x) = by-ring (u ∷ t ∷ X ∷ x ∷ pos Q ∷ []) (search reading depth 20) tt in
-      omega (arith, h, mul-le-mul-right Q (sum-err k), mag-mul (u +ℤ t) (pos Q), mag-add₄ _ X (u *ℤ pos Q -ℤ X) x (t *ℤ pos Q -ℤ x) g)
+      omega (arith, h, mul-le-mul-right Q (sum-err k), natAbs-mul (u +ℤ t) (pos Q), mag-add₄ _ X (u *ℤ pos Q -ℤ X) x (t *ℤ pos Q -ℤ x) g)
 
   error-splits : off Q (X +ℤ x) v ≤ off Q X u + off Q x t + natAbs (v -ℤ (u +ℤ t)) * Q
   error-splits =
       let g : v *ℤ pos Q -ℤ (X +ℤ x) ≡ (u *ℤ pos Q -ℤ X) +ℤ (t *ℤ pos Q -ℤ x) +ℤ (v -ℤ (u +ℤ t)) *ℤ pos Q =
       by-ring (u ∷ t ∷ v ∷ X ∷ x ∷ pos Q ∷ []) (search reading depth 20) tt in
-      omega (arith, mag-mul (v -ℤ (u +ℤ t)) (pos Q), mag-add₃ _ (u *ℤ pos Q -ℤ X) (t *ℤ pos Q -ℤ x) ((v -ℤ (u +ℤ t)) *ℤ pos Q) g)
+      omega (arith, natAbs-mul (v -ℤ (u +ℤ t)) (pos Q), mag-add₃ _ (u *ℤ pos Q -ℤ X) (t *ℤ pos Q -ℤ x) ((v -ℤ (u +ℤ t)) *ℤ pos Q) g)
 
   step-error : natAbs X ≤ Y → 64 * (P * off Q X u) ≤ (65 * i + 64) * Y + 65 * i * (P * Q) → Err P Q x t → Err P 1 (u +ℤ t) v → 65 * i + 64 ≤ P
       → 64 * (P * off Q (X +ℤ x) v) ≤ (65 * i + 64 + 65) * (Y + natAbs x) + 65 * (i + 1) * (P * Q)
@@ -79,6 +80,6 @@ module _ {P Q i : ℕ} {X : ℕ → ℤ} {s X₀ : ℤ} {Y₀ : ℕ} (a : Approx
       let e : X₀ +ℤ Σ< n X +ℤ X n ≡ X₀ +ℤ (Σ< n X +ℤ X n) = by-ring (X₀ ∷ Σ< n X ∷ X n ∷ []) (search reading depth 20) tt in
       let q = step-error P Q (i + n) (Y₀ + magnitudes n X) u t v (X₀ +ℤ Σ< n X) (X n) (r .size) (r .error) f g (omega arith) in
       record {
-        size = omega (arith, r .size, ap natAbs e, mag-add (X₀ +ℤ Σ< n X) (X n));
+        size = omega (arith, r .size, ap natAbs e, natAbs-add (X₀ +ℤ Σ< n X) (X n));
         error = omega (arith, q, ap (λ z. 64 * (P * off Q z v)) e);
       }

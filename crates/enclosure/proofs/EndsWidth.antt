@@ -8,16 +8,17 @@ use lib.IntN.{ℤ, pos, negℤ, natAbs, _+ℤ_, _*ℤ_, _-ℤ_}
 use Rattle.algebra.specs.Order.{_≼_}
 use Rattle.algebra.proofs.Reading.{by-ring}
 use Rattle.algebra.proofs.Linear.{reading, le, lin-le}
+use Rattle.algebra.proofs.Absolute.{natAbs-add, natAbs-mul}
 use Rattle.rounding.specs.Property.{off, Err}
 use Rattle.rounding.proofs.Sign.{natAbs-neg}
-use Rattle.enclosure.proofs.Magnitude.{mag-add, mag-mul, mag-add₃, sum-err}
+use Rattle.enclosure.proofs.Magnitude.{mag-add₃, sum-err}
 
 -- su and sd are about M / Q, U is about su + R and L about sd - R
 module _ (P Q : ℕ) (su sd R U L M : ℤ) where
   end-error : (s r v : ℤ) → Err P 1 (s +ℤ r) v → P * (natAbs (v -ℤ (s +ℤ r)) * Q) ≤ natAbs M + off Q M s + natAbs r * Q
   end-error s r v h =
       let g : (s +ℤ r) *ℤ pos Q ≡ M +ℤ (s *ℤ pos Q -ℤ M) +ℤ r *ℤ pos Q = by-ring (s ∷ r ∷ M ∷ pos Q ∷ []) (search reading depth 20) tt in
-      omega (arith, mul-le-mul-right Q (sum-err h), mag-mul (s +ℤ r) (pos Q), mag-mul r (pos Q), mag-add₃ _ M (s *ℤ pos Q -ℤ M) (r *ℤ pos Q) g)
+      omega (arith, mul-le-mul-right Q (sum-err h), natAbs-mul (s +ℤ r) (pos Q), natAbs-mul r (pos Q), mag-add₃ _ M (s *ℤ pos Q -ℤ M) (r *ℤ pos Q) g)
 
   width-splits : natAbs (U -ℤ L) * Q ≤ natAbs (U -ℤ (su +ℤ R)) * Q + natAbs (L -ℤ (sd +ℤ negℤ R)) * Q + off Q M su + off Q M sd + 2 * (natAbs R * Q)
   width-splits =
@@ -30,14 +31,14 @@ module _ (P Q : ℕ) (su sd R U L M : ℤ) where
       by-ring (U ∷ L ∷ su ∷ sd ∷ R ∷ M ∷ pos Q ∷ []) (search reading depth 30) tt in
       omega (
         arith,
-        mag-mul (U -ℤ L) (pos Q),
-        mag-mul (U -ℤ (su +ℤ R)) (pos Q),
-        mag-mul (L -ℤ (sd +ℤ negℤ R)) (pos Q),
-        mag-mul R (pos Q),
+        natAbs-mul (U -ℤ L) (pos Q),
+        natAbs-mul (U -ℤ (su +ℤ R)) (pos Q),
+        natAbs-mul (L -ℤ (sd +ℤ negℤ R)) (pos Q),
+        natAbs-mul R (pos Q),
         mag-add₃ _ (p +ℤ negℤ q) (r +ℤ negℤ s) (t +ℤ t) g,
-        mag-add p (negℤ q),
-        mag-add r (negℤ s),
-        mag-add t t,
+        natAbs-add p (negℤ q),
+        natAbs-add r (negℤ s),
+        natAbs-add t t,
         natAbs-neg q,
         natAbs-neg s,
       )

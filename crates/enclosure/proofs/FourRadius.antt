@@ -11,6 +11,7 @@ use Rattle.algebra.specs.Absolute.{abs}
 use Rattle.algebra.specs.Sum.{Σ<}
 use Rattle.algebra.proofs.Linear.{reading, le, lin-le}
 use Rattle.algebra.proofs.Order.{nonneg, mul-nonneg}
+use Rattle.algebra.proofs.Absolute.{natAbs-add, natAbs-mul}
 use Rattle.enclosure.specs.Arithmetic.{Arithmetic}
 use Rattle.enclosure.specs.NaturalSum.{Σℕ}
 use Rattle.enclosure.specs.Cell.{Cell}
@@ -20,7 +21,7 @@ use Rattle.enclosure.proofs.NaturalSum.{Σℕ-ext, Σℕ-add}
 use Rattle.enclosure.proofs.Converted.{Converted, EachConverted}
 use Rattle.enclosure.proofs.Laws.{Laws, one}
 use Rattle.enclosure.proofs.Terms.{inner}
-use Rattle.enclosure.proofs.Magnitude.{mag-add, mag-mul, sum-size}
+use Rattle.enclosure.proofs.Magnitude.{sum-size}
 use Rattle.enclosure.proofs.Accumulate.{Approx, magnitudes, zero-approx, accumulate}
 use Rattle.enclosure.proofs.Traces.{Rounded, up-nonneg, rising}
 use Rattle.enclosure.proofs.CellSize.{reach}
@@ -48,7 +49,7 @@ module _ {A : Arithmetic} (L : Laws A) where
       where
         go : (w : Option ℤ) → up 1 (abs (b .mid) +ℤ b .rad) ≡ w → P * natAbs (Option·getD w (pos 0)) ≤ (P + 1) * (natAbs (b .mid) + natAbs (b .rad))
         go none e = omega arith
-        go (some w) e = omega (arith, sum-size (up-nonneg L one reach-nonneg e .close), mul-le-mul-left (P + 1) (mag-add (abs (b .mid)) (b .rad)))
+        go (some w) e = omega (arith, sum-size (up-nonneg L one reach-nonneg e .close), mul-le-mul-left (P + 1) (natAbs-add (abs (b .mid)) (b .rad)))
 
     pub outer-rounded : (a : Cell) → Converted P a → (t : ℤ) → outerTerm A a b ≡ some t → Rounded L units (a .rad *ℤ raisedReach b) t
     unfolding raisedReach outerTerm outerRadius
@@ -86,7 +87,7 @@ module _ {A : Arithmetic} (L : Laws A) where
     terms-are : magnitudes k (inner a b) + magnitudes k raisedOuter ≡ Σℕ k terms
     terms-are =
         sym (Σℕ-add k (λ l. natAbs (a l .mid) * natAbs (b l .rad)) (λ l. natAbs (a l .rad) * natAbs (raisedReach (b l)))
-        ∙ ap₂ _+_ (Σℕ-ext k _ _ (λ l i. sym (mag-mul (abs (a l .mid)) (b l .rad)))) (Σℕ-ext k _ _ (λ l i. sym (mag-mul (a l .rad) (raisedReach (b l))))))
+        ∙ ap₂ _+_ (Σℕ-ext k _ _ (λ l i. sym (natAbs-mul (abs (a l .mid)) (b l .rad)))) (Σℕ-ext k _ _ (λ l i. sym (natAbs-mul (a l .rad) (raisedReach (b l))))))
 
     terms-≤ : (l : ℕ) → l < k → P * terms l + (P + 1) * (natAbs (a l .mid) * natAbs (b l .mid)) ≤ (P + 1) * (reach (a l) * reach (b l))
     terms-≤ l i =

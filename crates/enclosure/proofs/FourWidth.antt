@@ -11,6 +11,7 @@ use Rattle.algebra.specs.Sum.{Σ<}
 use Rattle.algebra.proofs.Reading.{by-ring}
 use Rattle.algebra.proofs.Linear.{reading}
 use Rattle.algebra.proofs.Order.{≼-refl}
+use Rattle.algebra.proofs.Absolute.{natAbs-add, natAbs-mul}
 use Rattle.rounding.specs.Property.{off, Err}
 use Rattle.enclosure.specs.Arithmetic.{Arithmetic}
 use Rattle.enclosure.specs.NaturalSum.{Σℕ}
@@ -22,7 +23,6 @@ use Rattle.enclosure.proofs.Converted.{EachConverted}
 use Rattle.enclosure.proofs.Laws.{Laws, one}
 use Rattle.enclosure.proofs.Terms.{inner, mids}
 use Rattle.enclosure.proofs.Covers.{ends-of}
-use Rattle.enclosure.proofs.Magnitude.{mag-add, mag-mul}
 use Rattle.enclosure.proofs.Accumulate.{magnitudes, zero-approx, accumulate}
 use Rattle.enclosure.proofs.Traces.{Joint, joint}
 use Rattle.enclosure.proofs.CellSize.{reach}
@@ -36,7 +36,7 @@ use Rattle.enclosure.proofs.FourSteps.{four-steps}
 size-from-error : (Q : ℕ) (r X : ℤ) → natAbs r * Q ≤ natAbs X + off Q X r
 size-from-error Q r X =
     let e : r *ℤ pos Q ≡ X +ℤ (r *ℤ pos Q -ℤ X) = by-ring (r ∷ X ∷ pos Q ∷ []) (search reading depth 20) tt in
-    omega (arith, mag-mul r (pos Q), ap natAbs e, mag-add X (r *ℤ pos Q -ℤ X))
+    omega (arith, natAbs-mul r (pos Q), ap natAbs e, natAbs-add X (r *ℤ pos Q -ℤ X))
 
 module _ {A : Arithmetic} (L : Laws A) (k : ℕ) (a b : ℕ → Cell) (oka : EachConverted (L .P) k a) (okb : EachConverted (L .P) k b) where
   open Arithmetic A using (up, down, units)
@@ -53,7 +53,7 @@ module _ {A : Arithmetic} (L : Laws A) (k : ℕ) (a b : ℕ → Cell) (oka : Eac
   centres h i = joint L (mids a b) (pos 0) (pos 0) (≼-refl (pos 0)) k h i
 
   mids-are : magnitudes k (mids a b) ≡ Σℕ k mids-size
-  mids-are = Σℕ-ext k (λ l. natAbs (mids a b l)) mids-size (λ l i. mag-mul (a l .mid) (b l .mid))
+  mids-are = Σℕ-ext k (λ l. natAbs (mids a b l)) mids-size (λ l i. natAbs-mul (a l .mid) (b l .mid))
 
   pub four-width : 1 ≤ k → k ≤ 32 → 4 ≤ units → 8388608 ≤ P → (e : Range) → entry A four k a b ≡ some e
       → 2 * (P * (units * natAbs (e .upper -ℤ e .lower)))

@@ -1,4 +1,4 @@
--- Magnitudes as naturals: the triangle inequality, products, and what one rounding does to a magnitude.
+-- Magnitudes as naturals: the triangle inequality for three and four summands, and what one rounding does to a magnitude.
 use mathlib.Core.Path.{_≡_, ap}
 use mathlib.Core.List.{[], _∷_}
 use Prim.Native.Nat.{ℕ, _+_, _*_, _≤_}
@@ -7,21 +7,14 @@ use native.Mathlib.Nat.{mul-le-mul-left}
 use lib.IntN.{ℤ, pos, natAbs, _+ℤ_, _*ℤ_, _-ℤ_}
 use Rattle.algebra.proofs.Reading.{by-ring}
 use Rattle.algebra.proofs.Linear.{reading}
-use Rattle.algebra.proofs.Natural.{to-le, to-eq}
-use Rattle.algebra.proofs.Absolute.{abs-add, abs-mul}
+use Rattle.algebra.proofs.Absolute.{natAbs-add}
 use Rattle.rounding.specs.Property.{Err}
 
-pub mag-add : (x y : ℤ) → natAbs (x +ℤ y) ≤ natAbs x + natAbs y
-mag-add x y = to-le (abs-add x y)
-
-pub mag-mul : (x y : ℤ) → natAbs (x *ℤ y) ≡ natAbs x * natAbs y
-mag-mul x y = to-eq (abs-mul x y)
-
 pub mag-add₃ : (z p q r : ℤ) → z ≡ p +ℤ q +ℤ r → natAbs z ≤ natAbs p + natAbs q + natAbs r
-mag-add₃ z p q r e = omega (arith, ap natAbs e, mag-add (p +ℤ q) r, mag-add p q)
+mag-add₃ z p q r e = omega (arith, ap natAbs e, natAbs-add (p +ℤ q) r, natAbs-add p q)
 
 pub mag-add₄ : (z p q r s : ℤ) → z ≡ p +ℤ q +ℤ r +ℤ s → natAbs z ≤ natAbs p + natAbs q + natAbs r + natAbs s
-mag-add₄ z p q r s e = omega (arith, ap natAbs e, mag-add (p +ℤ q +ℤ r) s, mag-add (p +ℤ q) r, mag-add p q)
+mag-add₄ z p q r s e = omega (arith, ap natAbs e, natAbs-add (p +ℤ q +ℤ r) s, natAbs-add (p +ℤ q) r, natAbs-add p q)
 
 -- ---- of a rounded sum: no absolute error, and at most 1 + 1 / P of the exact one
 module _ {P : ℕ} {x v : ℤ} (h : Err P 1 x v) where
@@ -33,5 +26,5 @@ module _ {P : ℕ} {x v : ℤ} (h : Err P 1 x v) where
   pub sum-size : P * natAbs v ≤ (P + 1) * natAbs x
   sum-size =
       let e : v ≡ x +ℤ (v -ℤ x) = by-ring (x ∷ v ∷ []) (search reading depth 20) tt in
-      let g : natAbs v ≤ natAbs x + natAbs (v -ℤ x) = omega (arith, ap natAbs e, mag-add x (v -ℤ x)) in
+      let g : natAbs v ≤ natAbs x + natAbs (v -ℤ x) = omega (arith, ap natAbs e, natAbs-add x (v -ℤ x)) in
       omega (arith, mul-le-mul-left P g, sum-err)
