@@ -1,4 +1,4 @@
--- The conversion of two numbers of a format, in order, is never refused, and no pair of numbers that encloses [a, b] has a smaller radius than the pair
+-- The conversion of two numbers of a format is never refused, and no pair of numbers that encloses [a, b] has a smaller radius than the pair
 -- that it gives. Every valid cell is as `Converted` asks. Assumes nothing.
 use mathlib.Core.Path.{_≡_, sym, _∙_, ap, subst}
 use mathlib.Core.List.{[], _∷_}
