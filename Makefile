@@ -30,7 +30,7 @@ check: ## prove what changed since the last check
 bench: $(archive) ## time operations, sheets, sheet jobs and trains beside their peers; ROUNDS=N sets the rounds
 	@$(MAKE) --no-print-directory -C bench $(if $(ROUNDS),ROUNDS=$(ROUNDS))
 
-widths: $(archive) ## compare how wide the ranges of the four methods are, and cells that are converted and back
+widths: $(archive) ## compare how wide the ranges of the five methods are, and cells that are converted and back
 	@$(MAKE) --no-print-directory -C bench widths
 
 install: $(archive) ## install archive, headers and coupling.pc under PREFIX, /usr/local unless given

@@ -11,7 +11,7 @@ static const struct peer *const peers[] = {
     [OURS] = &peer_job,
     &peer_product,
     [INTEGERS] = &peer_integers,
-    &peer_classical,
+    &peer_once,
     &peer_machine,
 #ifdef HAVE_MPFR
     &peer_mpfr,
@@ -43,7 +43,7 @@ static void print_peer(size_t p, const struct times *times)
 {
     printf("| %-38s |", peers[p]->name);
     for (int method = 0; method < METHODS; method++) {
-        if (!has_method(peers[p], method)) {
+        if (!has_method(peers[p]->methods, method)) {
             print_empty();
             print_empty();
             continue;

@@ -1,9 +1,9 @@
-/* The products in plain C over 64-bit integers, not proved. Values that depend on one
-   cell are computed once for each cell, before the entries. */
+/* The products in plain C over 64-bit integers, not proved: by methods 3, 4, 5 and 7 a
+   dot product for each sum. Values that depend on one cell are computed once for each
+   cell, before the entries. */
 #include "integer_product.h"
 
-#include "plain_number.h"
-#include "plain_order.h"
+#include "integer_cells.h"
 
 #define TINY 0x01000000u /* 2^-125 */
 
@@ -12,19 +12,8 @@
 static uint32_t abs_a[CELLS], part_a[CELLS], minus_a[CELLS];
 static uint32_t inner_b[CELLS], outer_b[CELLS], part_b[CELLS], abs_part_b[CELLS];
 
-static void convert(size_t count, const uint32_t *lower, const uint32_t *upper, uint32_t *m, uint32_t *r)
-{
-    for (size_t c = 0; c < count; c++) {
-        m[c] = midpoint_near(lower[c], upper[c]);
-        r[c] = greatest(sub_up(m[c], lower[c]), sub_up(upper[c], m[c]));
-    }
-}
-
-/* sign(m) * min(|m|, r) */
-static uint32_t part(uint32_t m, uint32_t r)
-{
-    return (m & SIGN) | least(m & ~SIGN, r);
-}
+/* Also for method 5: |m| + r and |p| of A, and |m| of B. */
+static uint32_t outer_a[CELLS], abs_part_a[CELLS], abs_b[CELLS];
 
 /* (k + 2) / 2^24 for method 3, as an exact sum of k + 2 terms 2^-24. */
 static uint32_t raised(size_t k)
@@ -37,7 +26,7 @@ static uint32_t raised(size_t k)
 
 static void derive(int method, size_t k, size_t a, size_t b, const struct patterns *p)
 {
-    uint32_t factor = raised(k);
+    uint32_t factor = method == 3 ? raised(k) : 0;
     for (size_t c = 0; c < a; c++) {
         abs_a[c] = p->ma[c] & ~SIGN;
         part_a[c] = part(p->ma[c], p->ra[c]);
@@ -50,6 +39,17 @@ static void derive(int method, size_t k, size_t a, size_t b, const struct patter
         part_b[c] = part(p->mb[c], p->rb[c]);
         abs_part_b[c] = part_b[c] & ~SIGN;
     }
+}
+
+/* What method 5 needs beside derive, which comes first. */
+static void derive_nearest(size_t a, size_t b, const struct patterns *p)
+{
+    for (size_t c = 0; c < a; c++) {
+        outer_a[c] = add_up(abs_a[c], p->ra[c]);
+        abs_part_a[c] = part_a[c] & ~SIGN;
+    }
+    for (size_t c = 0; c < b; c++)
+        abs_b[c] = p->mb[c] & ~SIGN;
 }
 
 static uint32_t dot_up(size_t k, size_t n, const uint32_t *x, const uint32_t *y, uint32_t s)
@@ -106,6 +106,20 @@ static void centred(int method, size_t k, size_t n, size_t row, size_t j, const 
     *up = add_up(high, radius);
 }
 
+/* A refused step gives a pattern that is not finite, and so do all steps that use it. */
+static void nearest(size_t k, size_t n, size_t row, size_t j, const struct patterns *p, uint32_t *lo, uint32_t *up)
+{
+    uint32_t centre = dot_near(k, n, p->ma + row, p->mb + j, 0);
+    uint32_t size = dot_near(k, n, abs_a + row, abs_b + j, 0);
+    centre = dot_near(k, n, part_a + row, part_b + j, centre);
+    size = dot_near(k, n, abs_part_a + row, abs_part_b + j, size);
+    uint32_t e = error(k, size);
+    uint32_t radius = sub_up(dot_up(k, n, outer_a + row, outer_b + j, 0), size);
+    radius = add_up(radius, add_up(e, e));
+    *lo = sub_down(centre, radius);
+    *up = add_up(centre, radius);
+}
+
 bool integer_product(int method, size_t m, size_t k, size_t n, struct patterns *p)
 {
     if (method != 1) {
@@ -113,12 +127,16 @@ bool integer_product(int method, size_t m, size_t k, size_t n, struct patterns *
         convert(k * n, p->bl, p->bu, p->mb, p->rb);
         derive(method, k, m * k, k * n, p);
     }
+    if (method == 5)
+        derive_nearest(m * k, k * n, p);
     bool finite = true;
     for (size_t i = 0; i < m; i++)
         for (size_t j = 0; j < n; j++) {
             uint32_t *lo = &p->lo[i * n + j], *up = &p->up[i * n + j];
             if (method == 1)
                 classical(k, n, i * k, j, p, lo, up);
+            else if (method == 5)
+                nearest(k, n, i * k, j, p, lo, up);
             else
                 centred(method, k, n, i * k, j, p, lo, up);
             finite &= is_finite(*lo) && is_finite(*up);

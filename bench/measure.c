@@ -11,18 +11,11 @@
 #define STEPS 256  /* the least number of steps over l in a turn */
 #define SHORT 1024 /* products with at most this many steps get ten times as many rounds */
 
-const int methods[METHODS] = {1, 3, 4, 7};
-
 struct bounds {
     uint32_t lower[CELLS], upper[CELLS];
 };
 
 static struct bounds expected[METHODS];
-
-bool has_method(const struct peer *peer, int method)
-{
-    return methods[method] == 1 || !peer->classical_only;
-}
 
 static bool equal(const struct bounds *x, const struct bounds *y, size_t cells)
 {
@@ -48,7 +41,7 @@ static bool round_of_turns(const struct matrices *x, const struct peer *const *p
 {
     for (int method = 0; method < METHODS; method++)
         for (size_t p = 0; p < count; p++) {
-            if (!has_method(peers[p], method))
+            if (!has_method(peers[p]->methods, method))
                 continue;
             double took = turn(x, peers[p], method);
             if (took >= LONGEST) {

@@ -4,18 +4,12 @@
 
 #include "peer.h"
 
-#define METHODS 4
 #define MOST_PEERS 9
-
-extern const int methods[METHODS];
 
 /* The nanoseconds of one call, the least of all rounds. */
 struct times {
     double least[MOST_PEERS][METHODS];
 };
-
-/* Whether a peer has the method with this index in methods. */
-bool has_method(const struct peer *peer, int method);
 
 /* Times the peers in turns, by each method that they have; small products get ten
    times as many rounds. Each result must equal the first peer's, bit for bit: where

@@ -4,6 +4,7 @@
 #define PEER_H
 
 #include "matrices.h"
+#include "methods.h"
 
 #ifdef __cplusplus
 extern "C" {
@@ -11,7 +12,7 @@ extern "C" {
 
 struct peer {
     const char *name;
-    bool classical_only; /* method 1 alone */
+    const char *methods; /* a digit for each method that it has */
 
     /* Copies the matrices in the peer's own representation; not timed. */
     void (*load)(const struct matrices *x);
@@ -24,7 +25,7 @@ struct peer {
 };
 
 extern const struct peer peer_job, peer_product;
-extern const struct peer peer_integers, peer_classical, peer_machine;
+extern const struct peer peer_integers, peer_once, peer_machine;
 extern const struct peer peer_mpfr, peer_mpfi, peer_boost, peer_boost_hoisted;
 
 #ifdef __cplusplus

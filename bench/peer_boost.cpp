@@ -71,7 +71,7 @@ static bool run_hoisted(int method)
     return method == 1 && cells<hoisted>::multiply();
 }
 
-const struct peer peer_boost = {"Boost.Interval float, default policies", true,
+const struct peer peer_boost = {"Boost.Interval float, default policies", "1",
     cells<guarded>::load, run_guarded, cells<guarded>::result};
-const struct peer peer_boost_hoisted = {"Boost.Interval float, mode set once", true,
+const struct peer peer_boost_hoisted = {"Boost.Interval float, mode set once", "1",
     cells<hoisted>::load, run_hoisted, cells<hoisted>::result};

@@ -32,7 +32,7 @@ static void job_result(uint32_t *lower, uint32_t *upper)
     coupling_read(out, out_length, lower, cells, upper, cells);
 }
 
-const struct peer peer_job = {"ours, sheet job", false, load_job, run_job, job_result};
+const struct peer peer_job = {"ours, sheet job", ALL_METHODS, load_job, run_job, job_result};
 
 /* ---- the product alone */
 
@@ -56,4 +56,4 @@ static void product_result(uint32_t *lower, uint32_t *upper)
     memcpy(upper, up, given.m * given.n * sizeof *upper);
 }
 
-const struct peer peer_product = {"ours, product alone", false, load_product, run_product, product_result};
+const struct peer peer_product = {"ours, product alone", ALL_METHODS, load_product, run_product, product_result};

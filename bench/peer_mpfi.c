@@ -69,4 +69,4 @@ static void result(uint32_t *lower, uint32_t *upper)
     }
 }
 
-const struct peer peer_mpfi = {"MPFI, 24 bits", true, load, run, result};
+const struct peer peer_mpfi = {"MPFI, 24 bits", "1", load, run, result};

@@ -16,7 +16,7 @@ static void load_sizes(const struct matrices *x)
 
 /* ---- integers */
 
-static struct patterns all, classical;
+static struct patterns all, once;
 
 static void load_patterns(const struct matrices *x, struct patterns *p)
 {
@@ -37,12 +37,12 @@ static void load_all(const struct matrices *x) { load_patterns(x, &all); }
 static bool run_all(int method) { return integer_product(method, m, k, n, &all); }
 static void all_result(uint32_t *lower, uint32_t *upper) { patterns_result(&all, lower, upper); }
 
-static void load_classical(const struct matrices *x) { load_patterns(x, &classical); }
-static bool run_classical(int method) { return method == 1 && integer_classical(m, k, n, &classical); }
-static void classical_result(uint32_t *lower, uint32_t *upper) { patterns_result(&classical, lower, upper); }
+static void load_once(const struct matrices *x) { load_patterns(x, &once); }
+static bool run_once(int method) { return integer_once(method, m, k, n, &once); }
+static void once_result(uint32_t *lower, uint32_t *upper) { patterns_result(&once, lower, upper); }
 
-const struct peer peer_integers = {"plain C, 64-bit integers", false, load_all, run_all, all_result};
-const struct peer peer_classical = {"plain C, each corner product once", true, load_classical, run_classical, classical_result};
+const struct peer peer_integers = {"plain C, 64-bit integers", ALL_METHODS, load_all, run_all, all_result};
+const struct peer peer_once = {"plain C, each product once", "15", load_once, run_once, once_result};
 
 /* ---- the machine's floats */
 
@@ -75,4 +75,4 @@ static void machine_result(uint32_t *lower, uint32_t *upper)
     }
 }
 
-const struct peer peer_machine = {"hardware floats, fesetround", false, load_machine, run_machine, machine_result};
+const struct peer peer_machine = {"hardware floats, fesetround", ALL_METHODS, load_machine, run_machine, machine_result};

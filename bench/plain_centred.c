@@ -1,8 +1,7 @@
 /* Benchmarks, not proved: methods 3, 4 and 7 on the machine's floats, each operation
    rounded by the machine in the mode that is set. The steps of a method are grouped
-   into passes of one mode each, so that a product sets the mode only a few times. A
-   pass takes its operands from memory and leaves its results there, and so the
-   compiler cannot move it over a call of fesetround. Called by plain_product.c. */
+   into passes of one mode each, so that a product sets the mode only a few times; those
+   over single cells are in plain_cells.c. Called by plain_product.c. */
 #include "plain_product.h"
 
 #include <fenv.h>
@@ -14,9 +13,6 @@
 /* radius: the radii of the result. wide: |mB| + rB. inner: method 3's rB', or rB by
    the other methods. pa, pb: method 7's parts. */
 static float radius[CELLS], wide[CELLS], inner[CELLS], pa[CELLS], pb[CELLS];
-
-static float least(float x, float y) { return x < y ? x : y; }
-static float greatest(float x, float y) { return x > y ? x : y; }
 
 /* start + x[0] * y[0] + x[1] * y[n] + .., added from the left. */
 static inline float dot(size_t k, size_t n, const float *x, const float *y, float start)
@@ -31,29 +27,6 @@ static inline float dot_magnitudes(size_t k, size_t n, const float *x, const flo
     for (size_t l = 0; l < k; l++)
         start += fabsf(x[l]) * y[l * n];
     return start;
-}
-
-/* Mode nearest: the exact midpoint, rounded once. The sum of two floats is exact in
-   binary64, unless one is below 2^-28 of the other. Then the midpoint is so close to
-   half of the other, a float, that it becomes this float, whether or not the sum was
-   rounded first. */
-PASS midpoints(size_t cells, const float *lo, const float *up, float *m)
-{
-    for (size_t c = 0; c < cells; c++)
-        m[c] = (float)(((double)lo[c] + (double)up[c]) * 0.5);
-}
-
-/* Mode up: the larger of the distances from the midpoint to the bounds. */
-PASS distances(size_t cells, const float *lo, const float *up, const float *m, float *r)
-{
-    for (size_t c = 0; c < cells; c++)
-        r[c] = greatest(m[c] - lo[c], up[c] - m[c]);
-}
-
-static void parts(size_t cells, const float *m, const float *r, float *p)
-{
-    for (size_t c = 0; c < cells; c++)
-        p[c] = copysignf(least(fabsf(m[c]), r[c]), m[c]);
 }
 
 /* Mode up: first |mB| + rB and rB' for each cell of B, then the radii of the result. */
@@ -105,16 +78,16 @@ PASS subtract_radii(size_t cells, float *x)
    those up and those down. Method 3 has one centre for both bounds. */
 void plain_centred(int method, size_t m, size_t k, size_t n, struct floats *f)
 {
-    midpoints(m * k, f->al, f->au, f->ma);
-    midpoints(k * n, f->bl, f->bu, f->mb);
+    plain_midpoints(m * k, f->al, f->au, f->ma);
+    plain_midpoints(k * n, f->bl, f->bu, f->mb);
     if (method == 3)
         centres(method, m, k, n, f, f->lo);
     fesetround(FE_UPWARD);
-    distances(m * k, f->al, f->au, f->ma, f->ra);
-    distances(k * n, f->bl, f->bu, f->mb, f->rb);
+    plain_distances(m * k, f->al, f->au, f->ma, f->ra);
+    plain_distances(k * n, f->bl, f->bu, f->mb, f->rb);
     if (method == 7) {
-        parts(m * k, f->ma, f->ra, pa);
-        parts(k * n, f->mb, f->rb, pb);
+        plain_parts(m * k, f->ma, f->ra, pa);
+        plain_parts(k * n, f->mb, f->rb, pb);
     }
     radii(method, m, k, n, f);
     if (method == 3)

@@ -1,5 +1,6 @@
 /* Benchmarks, not proved: the products in plain C on the machine's floats. Methods 3,
-   4 and 7 are in plain_centred.c, method 1 in plain_classical.c. */
+   4 and 7 are in plain_centred.c, method 5 in plain_nearest.c, method 1 in
+   plain_classical.c. */
 #include "plain_product.h"
 
 #include <fenv.h>
@@ -23,6 +24,8 @@ bool plain_product(int method, size_t m, size_t k, size_t n, struct floats *f)
         plain_uppers(m, k, n, f);
         fesetround(FE_DOWNWARD);
         plain_lowers(m, k, n, f);
+    } else if (method == 5) {
+        plain_nearest(m, k, n, f);
     } else {
         plain_centred(method, m, k, n, f);
     }

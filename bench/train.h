@@ -6,6 +6,7 @@
 
 #include "coupling.h"
 #include "matrices.h"
+#include "methods.h"
 
 #define SHEETS COUPLING_SHEETS_MAX
 
@@ -17,7 +18,7 @@ struct train {
 
 struct train_peer {
     const char *name;
-    bool classical_only; /* method 1 alone */
+    const char *methods; /* a digit for each method that it has */
 
     /* Multiplies the train; timed. Returns the length of the sheet in out, which has
        COUPLING_SHEET_MAX bytes, or 0 on a refusal. */
@@ -25,7 +26,7 @@ struct train_peer {
 };
 
 extern const struct train_peer peer_train, peer_jobs;
-extern const struct train_peer peer_train_integers, peer_train_classical, peer_train_machine;
+extern const struct train_peer peer_train_integers, peer_train_once, peer_train_machine;
 
 /* Returns whether all sheets were written, each with size times size cells. */
 bool draw_train(size_t size, struct train *train);

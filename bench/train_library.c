@@ -25,5 +25,5 @@ static size_t run_jobs(int method, const struct train *train, uint8_t *out)
     return a_length;
 }
 
-const struct train_peer peer_train = {"ours, one train", false, run_train};
-const struct train_peer peer_jobs = {"ours, seven sheet jobs", false, run_jobs};
+const struct train_peer peer_train = {"ours, one train", ALL_METHODS, run_train};
+const struct train_peer peer_jobs = {"ours, seven sheet jobs", ALL_METHODS, run_jobs};

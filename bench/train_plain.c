@@ -27,11 +27,6 @@ static size_t write_sheet(size_t size, const uint32_t *lower, const uint32_t *up
 
 typedef bool product_call(int method, size_t m, size_t k, size_t n, struct patterns *p);
 
-static bool multiply_classical(int method, size_t m, size_t k, size_t n, struct patterns *p)
-{
-    return method == 1 && integer_classical(m, k, n, p);
-}
-
 static size_t run_patterns(int method, const struct train *train, uint8_t *out, product_call *multiply)
 {
     static struct patterns p;
@@ -52,13 +47,13 @@ static size_t run_integers(int method, const struct train *train, uint8_t *out)
     return run_patterns(method, train, out, integer_product);
 }
 
-static size_t run_classical(int method, const struct train *train, uint8_t *out)
+static size_t run_once(int method, const struct train *train, uint8_t *out)
 {
-    return run_patterns(method, train, out, multiply_classical);
+    return run_patterns(method, train, out, integer_once);
 }
 
-const struct train_peer peer_train_integers = {"plain C, 64-bit integers", false, run_integers};
-const struct train_peer peer_train_classical = {"plain C, each corner product once", true, run_classical};
+const struct train_peer peer_train_integers = {"plain C, 64-bit integers", ALL_METHODS, run_integers};
+const struct train_peer peer_train_once = {"plain C, each product once", "15", run_once};
 
 /* ---- the machine's floats */
 
@@ -90,4 +85,4 @@ static size_t run_machine(int method, const struct train *train, uint8_t *out)
     return write_sheet(n, lower, upper, out);
 }
 
-const struct train_peer peer_train_machine = {"hardware floats, fesetround", false, run_machine};
+const struct train_peer peer_train_machine = {"hardware floats, fesetround", ALL_METHODS, run_machine};

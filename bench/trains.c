@@ -22,7 +22,7 @@ static const struct train_peer *const peers[] = {
     [OURS] = &peer_train,
     &peer_jobs,
     &peer_train_integers,
-    &peer_train_classical,
+    &peer_train_once,
     &peer_train_machine,
 };
 
@@ -33,11 +33,6 @@ static struct train train;
 /* The sheet that the first peer wrote; its length is 0 if that peer refused. */
 static uint8_t expected[COUPLING_SHEET_MAX];
 static size_t expected_length;
-
-static bool is_left_out(const struct train_peer *peer, int method)
-{
-    return peer->classical_only && methods[method] != 1;
-}
 
 /* The nanoseconds of one call, or LONGEST where it did not write the expected sheet. */
 static double turn(const struct train_peer *peer, int method)
@@ -54,7 +49,7 @@ static double turn(const struct train_peer *peer, int method)
 static bool round_of_turns(int method, int round, double **times)
 {
     for (size_t p = 0; p < PEERS; p++) {
-        if (is_left_out(peers[p], method))
+        if (!has_method(peers[p]->methods, method))
             continue;
         times[p][round] = turn(peers[p], method);
         if (times[p][round] >= LONGEST) {
@@ -89,7 +84,7 @@ static void print_peer(size_t p, double medians[METHODS][PEERS])
 {
     printf("| %-38s |", peers[p]->name);
     for (int method = 0; method < METHODS; method++) {
-        if (is_left_out(peers[p], method)) {
+        if (!has_method(peers[p]->methods, method)) {
             print_empty();
             print_empty();
             continue;

@@ -5,16 +5,16 @@
 #include "kinds.h"
 #include "measure.h"
 
-#define ORDER 8 /* rows and columns */
+#define ORDER 8 /* rows and columns of a product */
 #define PRODUCTS 5000
 #define ENTRIES (PRODUCTS * ORDER * ORDER)
 #define CONVERSIONS 1000000
 
 /* Of all entries by one method: the sum of their widths, and how many are narrower
-   than by method 1, as wide, and wider. */
+   than by each method, as wide, and wider. */
 struct tally {
     double sum;
-    long narrower, equal, wider;
+    long narrower[METHODS], equal[METHODS], wider[METHODS];
 };
 
 /* Of all cells of one kind, converted to midpoint and radius and back: the sums of
@@ -24,9 +24,10 @@ struct trips {
     long unchanged;
 };
 
-/* Multiplies products of each kind by each method. Returns false, as the next one
-   does, where a call is refused or a width is not exact in binary64. */
-bool measure_products(struct tally tallies[KINDS][METHODS]);
+/* Multiplies products of ORDER by k by ORDER, of each kind by each method. Returns
+   false, as the next one does, where a call is refused or a width is not exact in
+   binary64. */
+bool measure_products(size_t k, struct tally tallies[KINDS][METHODS]);
 
 bool measure_conversions(struct trips trips[KINDS]);
 

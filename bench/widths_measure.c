@@ -16,10 +16,11 @@ static double width(uint32_t lower, uint32_t upper)
     return w;
 }
 
-static void draw_product(const struct kind *kind, struct matrices *x)
+static void draw_product(const struct kind *kind, size_t k, struct matrices *x)
 {
-    x->m = x->k = x->n = ORDER;
-    for (size_t c = 0; c < ORDER * ORDER; c++) {
+    x->m = x->n = ORDER;
+    x->k = k;
+    for (size_t c = 0; c < ORDER * k; c++) {
         struct cell a = kind->draw();
         struct cell b = kind->draw();
         x->al[c] = a.lower;
@@ -29,34 +30,43 @@ static void draw_product(const struct kind *kind, struct matrices *x)
     }
 }
 
+/* Adds one entry, with its width by each method. */
+static void add_entry(const double *widths, struct tally *tallies)
+{
+    for (int method = 0; method < METHODS; method++) {
+        struct tally *t = &tallies[method];
+        t->sum += widths[method];
+        for (int other = 0; other < METHODS; other++) {
+            t->narrower[other] += widths[method] < widths[other];
+            t->equal[other] += widths[method] == widths[other];
+            t->wider[other] += widths[method] > widths[other];
+        }
+    }
+}
+
 static bool add_product(const struct matrices *x, struct tally *tallies)
 {
     static uint32_t lower[CELLS], upper[CELLS];
-    double classical[ORDER * ORDER];
+    static double widths[ORDER * ORDER][METHODS];
     peer_product.load(x);
     for (int method = 0; method < METHODS; method++) {
         if (!peer_product.run(methods[method]))
             return false;
         peer_product.result(lower, upper);
-        for (size_t c = 0; c < ORDER * ORDER; c++) {
-            double w = width(lower[c], upper[c]);
-            if (methods[method] == 1)
-                classical[c] = w;
-            tallies[method].sum += w;
-            tallies[method].narrower += w < classical[c];
-            tallies[method].equal += w == classical[c];
-            tallies[method].wider += w > classical[c];
-        }
+        for (size_t c = 0; c < ORDER * ORDER; c++)
+            widths[c][method] = width(lower[c], upper[c]);
     }
+    for (size_t c = 0; c < ORDER * ORDER; c++)
+        add_entry(widths[c], tallies);
     return true;
 }
 
-bool measure_products(struct tally tallies[KINDS][METHODS])
+bool measure_products(size_t k, struct tally tallies[KINDS][METHODS])
 {
     static struct matrices x;
     for (int kind = 0; kind < KINDS; kind++)
         for (int product = 0; product < PRODUCTS; product++) {
-            draw_product(&kinds[kind], &x);
+            draw_product(&kinds[kind], k, &x);
             if (!add_product(&x, tallies[kind]))
                 return false;
         }

@@ -35,7 +35,7 @@
    or changes floating-point state.
 
    Stack: on x86-64 a call of coupling_multiply or coupling_train took at most
-   54,264 bytes below its caller's frame, measured on 32 by 32 sheets by each
+   58,904 bytes below its caller's frame, measured on 32 by 32 sheets by each
    method (tests/drivers/stack.c); the other calls take less. COUPLING_STACK bytes
    are enough for each call. */
 #ifndef COUPLING_H
@@ -90,9 +90,9 @@ extern "C" {
 /* ---- The sheet job ----
 
    Reads sheet A and sheet B, multiplies them by a method, which is 1 (classical),
-   3, 4 or 7, and writes the product's sheet to the front of out. Returns the
+   3, 4, 5 or 7, and writes the product's sheet to the front of out. Returns the
    length written, 16 to 16,400, or the first of these refusals:
-     9            the method is not 1, 3, 4 or 7
+     9            the method is not 1, 3, 4, 5 or 7
      matrix 1     A's sheet, as coupling_read refuses it (never 2)
      matrix 2     B's sheet, likewise
      1, matrix 2  A's columns are not B's rows
@@ -112,7 +112,7 @@ uint32_t coupling_multiply(uint32_t method, const uint8_t *a, size_t a_len, cons
    front of out. A sheet has 16 x its record count bytes, or all that is left
    where that is fewer or ends before the count; the last sheet has all that is
    left. Returns the length written, or the first of these refusals:
-     9            the method is not 1, 3, 4 or 7
+     9            the method is not 1, 3, 4, 5 or 7
      12           count is 0 or above 8
    then sheet by sheet, p being its position from 1 on; no byte of a sheet is
    looked at before its turn:
@@ -148,7 +148,7 @@ uint32_t coupling_write(size_t rows, size_t columns, const uint32_t *lowers, siz
    four work arrays take the midpoints and radii of A's cells and of B's; method 1
    leaves them as they were, but their lengths are checked too. Returns 0, or the
    first of:
-     9            the method is not 1, 3, 4 or 7
+     9            the method is not 1, 3, 4, 5 or 7
      1            sizes: A's (matrix 1), B's or A's columns are not B's rows (2)
      2            an array is shorter than its cells: A (matrix 1), B (2), work
                   (0), result (3)

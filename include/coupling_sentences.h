@@ -17,7 +17,7 @@ static inline const char *coupling_sentence(uint32_t number)
     case 6: return "the sheet's length or record count is wrong, or a byte that must be zero is not";
     case 7: return "an index is not below the record count, or a cell is outside the matrix";
     case 8: return "the cells of the chain do not rise by row, then column";
-    case 9: return "the method is not 1, 3, 4 or 7";
+    case 9: return "the method is not 1, 3, 4, 5 or 7";
     case 10: return "a wear class is above 7";
     case 11: return "the out buffer is shorter than the sheet to be written";
     case 12: return "the number of sheets is not from 1 to 8";

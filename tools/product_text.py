@@ -10,7 +10,7 @@ from text_lines import BadText, lines_of, quoted
 Product = namedtuple("Product", "method rows columns cells")
 Refusal = namedtuple("Refusal", "number matrix row column")
 
-METHODS = (1, 3, 4, 7)
+METHODS = (1, 3, 4, 5, 7)
 PATTERN = re.compile("[0-9A-F]{8}")
 
 # The refusals that print_product prints, each with the matrices it is about, and those that name a cell; the others have row and column 0.

@@ -86,5 +86,7 @@ void put_large(uint8_t *sheet)
 {
     uint8_t *record = draw_record(sheet);
     uint32_t fraction = draw_fraction(), bound = draw_number(from_to(239, 254), fraction);
+    if (one_in(4))
+        bound = draw_sign(MAX);
     put_number(record + (bound & SIGN ? 4 : 8), bound, 4);
 }

@@ -11,7 +11,8 @@ uint32_t draw_fault_number(void);
 /* One fault, so that a read of the sheet is refused with this number. */
 void put_fault(uint8_t *sheet, uint32_t number);
 
-/* A bound from 2^112 on in one cell, so that a product may be too large. */
+/* A bound from 2^112 on in one cell, so that a product may be too large, or |m| + r of the
+   cell itself. */
 void put_large(uint8_t *sheet);
 
 #endif

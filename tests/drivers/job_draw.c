@@ -6,8 +6,8 @@
 
 uint32_t draw_method(void)
 {
-    static const uint32_t methods[] = {1, 3, 4, 7};
-    int which = from_to(0, 3);
+    static const uint32_t methods[] = {1, 3, 4, 5, 7};
+    int which = from_to(0, 4);
     return one_in(20) ? (uint32_t)from_to(0, 9) : methods[which];
 }
 

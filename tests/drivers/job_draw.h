@@ -10,7 +10,7 @@ struct job {
     uint8_t a[GUARDED(BYTES)], b[GUARDED(BYTES)];
 };
 
-/* 1, 3, 4 or 7, or now and then any digit. */
+/* 1, 3, 4, 5 or 7, or now and then any digit. */
 uint32_t draw_method(void);
 
 /* Draws a method and two sheets, which can be multiplied, cannot, or are damaged. The

@@ -3,13 +3,13 @@
 
 #include <stdio.h>
 
-const char *const method_columns[] = {"method 1", "method 3", "method 4", "method 7", "other", NULL};
+const char *const method_columns[] = {"method 1", "method 3", "method 4", "method 5", "method 7", "other", NULL};
 
 int method_column(uint32_t method)
 {
-    static const uint32_t known[] = {1, 3, 4, 7};
+    static const uint32_t known[] = {1, 3, 4, 5, 7};
     int column = 0;
-    while (column < 4 && known[column] != method)
+    while (column < 5 && known[column] != method)
         column++;
     return column;
 }
@@ -22,20 +22,11 @@ void count_outcome(struct table *table, int column, uint32_t code)
         bool fits = code / 10000 == 100 * o->number + o->matrix && (o->met_by >> column & 1) != 0;
         if (fits && row < (o->placed ? PLACES : 1) && at < (o->placed ? PLACES : 1)) {
             o->calls[column]++;
-            o->at[row][at] = true;
+            o->at[row][at] |= 1u << column;
             return;
         }
     }
     table->strange++;
-}
-
-static int places_of(const struct outcome *o)
-{
-    int places = 0;
-    for (int row = 0; row < PLACES; row++)
-        for (int column = 0; column < PLACES; column++)
-            places += o->at[row][column];
-    return places;
 }
 
 /* The least number of calls with this outcome in a column that can have it. */
@@ -45,6 +36,24 @@ static unsigned long fewest_calls(const struct outcome *o)
     for (int column = 0; column < COLUMNS; column++)
         if ((o->met_by >> column & 1) != 0 && o->calls[column] < fewest)
             fewest = o->calls[column];
+    return fewest;
+}
+
+static int places_in(const struct outcome *o, int column)
+{
+    int places = 0;
+    for (int place = 0; place < PLACES * PLACES; place++)
+        places += (int)(o->at[place / PLACES][place % PLACES] >> column & 1);
+    return places;
+}
+
+/* The least number of places in a column that can have it. */
+static int fewest_places(const struct outcome *o)
+{
+    int fewest = PLACES * PLACES;
+    for (int column = 0; column < COLUMNS; column++)
+        if ((o->met_by >> column & 1) != 0 && places_in(o, column) < fewest)
+            fewest = places_in(o, column);
     return fewest;
 }
 
@@ -62,7 +71,7 @@ static void print_outcome(const struct table *table, const struct outcome *o)
         else
             printf(" %13s", "-");
     if (o->placed)
-        printf(" %7d\n", places_of(o));
+        printf(" %7d\n", fewest_places(o));
     else
         printf(" %7s\n", "-");
 }
@@ -84,7 +93,7 @@ bool met_enough(const struct table *table)
         printf("%lu calls have an outcome that the table has not\n", table->strange);
     for (size_t i = 0; i < table->count; i++) {
         const struct outcome *o = &table->outcomes[i];
-        if (fewest_calls(o) >= table->least && (!o->placed || places_of(o) >= table->least_places))
+        if (fewest_calls(o) >= table->least && (!o->placed || fewest_places(o) >= table->least_places))
             continue;
         printf("met too seldom, or at too few places:\n");
         print_outcome(table, o);
@@ -104,8 +113,8 @@ void print_summary(const struct table *table)
         refusals++;
         if (fewest_calls(o) < calls)
             calls = fewest_calls(o);
-        if (o->placed && places_of(o) < places)
-            places = places_of(o);
+        if (o->placed && fewest_places(o) < places)
+            places = fewest_places(o);
     }
     printf("; %d refusals, each met %lu times or more", refusals, calls);
     if (table->by != NULL)

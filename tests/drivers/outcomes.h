@@ -1,6 +1,6 @@
 /* Test drivers, not proved: a table of the outcomes of the calls of a run: for each
    refusal, how often it occurred by each function or method, and at how many places
-   (row and column). */
+   (row and column) at least by each. */
 #ifndef OUTCOMES_H
 #define OUTCOMES_H
 
@@ -18,14 +18,14 @@ struct outcome {
     unsigned met_by;            /* a bit for each column in which it can occur */
     bool placed;                /* whether it names a row and a column */
     unsigned long calls[COLUMNS];
-    bool at[PLACES][PLACES];
+    unsigned at[PLACES][PLACES];    /* a bit for each column in which it occurred there */
 };
 
 struct table {
     const char *const *columns;         /* their names, then NULL */
     const char *by;                     /* what a column is, such as "method", or NULL */
     unsigned long least;                /* required calls with each outcome in each of its columns */
-    int least_places;                   /* required places of each refusal that names a cell */
+    int least_places;                   /* required places of each refusal that names a cell, likewise */
     struct outcome *outcomes;
     size_t count;
     unsigned long strange;              /* calls with an outcome that is not in the table */
@@ -44,7 +44,7 @@ void print_summary(const struct table *table);
 
 /* For products, jobs and trains: one column for each method, and one for all other numbers. */
 extern const char *const method_columns[];
-enum { METHODS = 0xF, OTHER_METHOD = 0x10 };
+enum { METHODS = 0x1F, OTHER_METHOD = 0x20 };
 int method_column(uint32_t method);
 
 /* The refusals of sheet m, in a job, in a train or in the printed product. */

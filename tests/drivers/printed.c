@@ -15,8 +15,8 @@
 #include "job_draw.h"
 #include "run.h"
 
-static const char *const columns[] = {"product 1", "product 3", "product 4", "product 7", "refused", NULL};
-enum { PRODUCTS = 0xF, REFUSED_COLUMN = 4, REFUSED = 1 << REFUSED_COLUMN };
+static const char *const columns[] = {"product 1", "product 3", "product 4", "product 5", "product 7", "refused", NULL};
+enum { PRODUCTS = METHODS, REFUSED_COLUMN = 5, REFUSED = 1 << REFUSED_COLUMN };
 
 static struct outcome outcomes[] = {
     {.number = 0, .met_by = PRODUCTS}, {.number = 9, .met_by = REFUSED},

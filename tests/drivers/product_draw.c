@@ -2,18 +2,8 @@
    others have one or several faults, so that the order of the checks is tested too. */
 #include "product_draw.h"
 
-#include "cells.h"
 #include "draw.h"
-#include "numbers.h"
-
-#define HALF 0x3F000000u
-#define LARGE 0x71800000u   /* 2^100 */
-
-/* A matrix: the slices of its bounds, and the kind of its numbers. */
-struct matrix {
-    enum slice lowers, uppers;
-    struct kind kind;
-};
+#include "product_plant.h"
 
 static void draw_sizes(size_t *m, size_t *k, size_t *n)
 {
@@ -26,46 +16,8 @@ static void draw_sizes(size_t *m, size_t *k, size_t *n)
 
 static uint32_t draw_method(void)
 {
-    static const uint32_t known[] = {1, 3, 4, 7}, unknown[] = {0, 2, 5, 6, 8, 9, 257, 0x10001, UINT32_MAX};
-    return one_in(40) ? unknown[from_to(0, 8)] : known[from_to(0, 3)];
-}
-
-static void fill(struct call *call, const struct matrix *x)
-{
-    for (size_t c = 0; c < cells_of(call, x->lowers); c++)
-        draw_cell(x->kind, cell(call, x->lowers, c), cell(call, x->uppers, c));
-}
-
-static void put(struct call *call, enum slice lowers, enum slice uppers, size_t at, uint32_t lower, uint32_t upper)
-{
-    *cell(call, lowers, at) = lower;
-    *cell(call, uppers, at) = upper;
-}
-
-/* All cells are small but for one of A and one of B, whose product overflows: only the
-   entry that uses both is refused. */
-static void plant_overflow(struct call *call)
-{
-    size_t i = (size_t)from_to(0, (int)call->a_rows - 1);
-    size_t l = (size_t)from_to(0, (int)call->a_columns - 1);
-    size_t j = (size_t)from_to(0, (int)call->b_columns - 1);
-    struct matrix a = {AL, AU, {115, 128}}, b = {BL, BU, {115, 128}};
-    fill(call, &a);
-    fill(call, &b);
-    put(call, AL, AU, i * call->a_columns + l, LARGE, LARGE);
-    put(call, BL, BU, l * call->b_columns + j, LARGE, LARGE);
-}
-
-/* A cell of B for which |mB| + rB overflows: methods 3, 4 and 7 refuse the first entry of
-   its column, though all cells of A are points. Method 1 accepts. */
-static void plant_wide_cell(struct call *call)
-{
-    size_t c = (size_t)from_to(0, (int)cells_of(call, BL) - 1);
-    struct matrix b = {BL, BU, {115, 128}};
-    fill(call, &b);
-    for (size_t at = 0; at < cells_of(call, AL); at++)
-        put(call, AL, AU, at, HALF, HALF);
-    put(call, BL, BU, c, 0x7E800000, MAX);     /* [2^126, MAX] */
+    static const uint32_t known[] = {1, 3, 4, 5, 7}, unknown[] = {0, 2, 6, 8, 9, 257, 261, 0x10001, UINT32_MAX};
+    return one_in(40) ? unknown[from_to(0, 8)] : known[from_to(0, 4)];
 }
 
 /* Makes one to three cells of a matrix faulty. */
@@ -108,11 +60,15 @@ static void draw_cells(struct call *call)
     draw_kinds(&a.kind, &b.kind);
     if (one_in(8))
         plant_overflow(call);
-    else if (one_in(20))
+    else if (one_in(10))
         plant_wide_cell(call);
+    else if (one_in(20))
+        plant_largest(call);
+    else if (one_in(40))
+        plant_opposed(call);
     else {
-        fill(call, &a);
-        fill(call, &b);
+        fill_matrix(call, &a);
+        fill_matrix(call, &b);
     }
     if (one_in(7))
         put_faults(call, &a);

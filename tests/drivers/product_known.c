@@ -1,5 +1,5 @@
 /* Test driver of products, not proved: products with a known result, of 1 by 1 matrices
-   and of the largest ones. */
+   and of the largest ones; product_sums.c has those of a row by a column. */
 #include "product_known.h"
 
 #include <stdio.h>
@@ -25,6 +25,13 @@ static const struct known {
     {"[-MAX, MAX] as midpoint and radius", 4, SIGN | MAX, MAX, 0, 0, 0, 0, 0, MAX},
     {"[1 - 2^-24, 1 + 2^-23] x 1", 4, 0x3F7FFFFF, 0x3F800001, ONE, ONE, 0x3F7FFFFE, 0x3F800001, ONE, 0x34000000},
     {"[-1 - 2^-23, -1 + 2^-24] x 1", 7, 0xBF800001, 0xBF7FFFFF, ONE, ONE, 0xBF800001, 0xBF7FFFFE, SIGN | ONE, 0x34000000},
+    {"[0, 2] x [0, 2]", 5, 0, TWO, 0, TWO, 0xB5A00000, 0x40800003, ONE, ONE},
+    {"[1, 2] x [-1, 3]", 5, ONE, TWO, SIGN | ONE, 0x40400000, 0xC0000006, 0x40C00003, 0x3FC00000, 0x3F000000},
+    {"0 x 0, where the spacing is 2^-149", 5, 0, 0, 0, 0, 0x81000002, 0x01000002, 0, 0},
+    {"2^-149 x 1", 5, 1, 1, ONE, ONE, 0x81000002, 0x01000003, 1, 0},
+    {"1 x 1, a power of two", 5, ONE, ONE, ONE, ONE, ONE - 9, ONE + 5, ONE, 0},
+    {"[1 - 2^-24, 1 + 2^-23] x 1", 5, 0x3F7FFFFF, 0x3F800001, ONE, ONE, ONE - 11, ONE + 6, ONE, 0x34000000},
+    {"MAX - 5 x 2^104, the largest that is not refused", 5, MAX - 5, MAX - 5, ONE, ONE, MAX - 10, MAX, MAX - 5, 0},
     {"2^-149 x [-1/8, 5/4], which needs 2^-125", 3, 1, 1, 0xBE000000, 0x3FA00000, 0x81000001, 0x01000002, 1, 0},
 };
 
@@ -87,30 +94,33 @@ static void check_constant_needed(void)
 }
 
 /* All cells [1, 1]: size 32 is accepted, 33 is refused with 1. */
-static void check_largest(uint32_t method)
+static void check_largest(uint32_t method, uint32_t lo, uint32_t up)
 {
     prepare(&call, method, COUPLING_SIZE_MAX, COUPLING_SIZE_MAX, COUPLING_SIZE_MAX);
     for (int s = AL; s <= BU; s++)
         for (size_t c = 0; c < cells_of(&call, (enum slice)s); c++)
             *cell(&call, (enum slice)s, c) = ONE;
     ask_library(&call, &library);
-    bool whole = left_in(&library, CL, 1023) == (method == 3 ? 0x41FFFFDD : 0x42000000)
-        && left_in(&library, CU, 1023) == (method == 3 ? 0x42000012 : 0x42000000);
+    bool whole = left_in(&library, CL, 1023) == lo && left_in(&library, CU, 1023) == up;
     expect(library.code == 0 && whole, "library", method, "size 32");
     call.a_rows = 33;
     ask_library(&call, &library);
     expect(library.code == 1010000, "library", method, "size 33");
 }
 
+/* By each method the bounds of 32. */
+static const uint32_t of_32[5][3] = {{1, 0x42000000, 0x42000000}, {3, 0x41FFFFDD, 0x42000012}, {4, 0x42000000, 0x42000000},
+                                     {5, 0x41FFFF7B, 0x42000043}, {7, 0x42000000, 0x42000000}};
+
 int check_known_products(void)
 {
     for (size_t i = 0; i < KNOWN; i++)
         check_row(&known[i]);
     check_constant_needed();
-    static const uint32_t methods[] = {1, 3, 4, 7};
-    for (int i = 0; i < 4; i++)
-        check_largest(methods[i]);
+    differences += check_known_sums();
+    for (int i = 0; i < 5; i++)
+        check_largest(of_32[i][0], of_32[i][1], of_32[i][2]);
     if (differences == 0)
-        printf("%zu of one cell and 8 of size 32 or 33, as expected\n", KNOWN);
+        printf("%zu of one cell, 3 of a row by a column and 10 of size 32 or 33, as expected\n", KNOWN);
     return differences;
 }

@@ -6,4 +6,7 @@
    results that differ from the known ones and prints these; or prints how many agree. */
 int check_known_products(void);
 
+/* The part of it with sums of several products, by method 5. */
+int check_known_sums(void);
+
 #endif

@@ -26,7 +26,7 @@ static struct outcome outcomes[] = {
 };
 
 static struct table table = {
-    .columns = method_columns, .by = "method", .least = 5, .least_places = 30,
+    .columns = method_columns, .by = "method", .least = 5, .least_places = 15,
     .outcomes = outcomes, .count = sizeof outcomes / sizeof outcomes[0],
 };
 

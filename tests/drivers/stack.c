@@ -63,11 +63,11 @@ static size_t measure(void *(*run)(void *), uint32_t method)
 
 int main(void)
 {
-    const uint32_t methods[] = {1, 3, 4, 7};
+    const uint32_t methods[] = {1, 3, 4, 5, 7};
     size_t most_job = 0, most_train = 0;
     for (int i = 0; i < COUPLING_SHEETS_MAX; i++)
         put_full(sheets[i]);
-    for (int i = 0; i < 4; i++) {
+    for (int i = 0; i < 5; i++) {
         size_t job = measure(run_job, methods[i]), train = measure(run_train, methods[i]);
         printf("method %u: job %zu bytes, train %zu bytes\n", methods[i], job, train);
         if (job == 0 || train == 0)

@@ -14,9 +14,9 @@
 #include "train_draw.h"
 
 /* The columns of the methods, then those of a sheet that does not fit, by method. */
-static const char *const columns[] = {"method 1", "method 3", "method 4", "method 7", "other",
-                                      "1, no fit", "3, no fit", "4, no fit", "7, no fit", NULL};
-enum { NO_FIT_COLUMN = 5, NO_FIT = METHODS << NO_FIT_COLUMN };
+static const char *const columns[] = {"method 1", "method 3", "method 4", "method 5", "method 7", "other",
+                                      "1, no fit", "3, no fit", "4, no fit", "5, no fit", "7, no fit", NULL};
+enum { NO_FIT_COLUMN = 6, NO_FIT = METHODS << NO_FIT_COLUMN };
 
 #define ACCEPTED(sheets) {.number = 0, .matrix = sheets, .met_by = METHODS}
 #define MISFIT(position) {.number = 1, .matrix = position, .met_by = NO_FIT}
@@ -32,7 +32,7 @@ static struct outcome outcomes[] = {
 };
 
 static struct table table = {
-    .columns = columns, .by = "method", .least = 5, .least_places = 10,
+    .columns = columns, .by = "method", .least = 5, .least_places = 5,
     .outcomes = outcomes, .count = sizeof outcomes / sizeof outcomes[0],
 };
 

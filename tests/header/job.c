@@ -50,9 +50,10 @@ static void test_methods(void)
     uint8_t s[LENGTH];
     put_sheet(s);
     for (uint32_t method = 0; method < 10; method++) {
-        int known = method == 1 || method == 3 || method == 4 || method == 7;
+        int known = method == 1 || method == 3 || method == 4 || method == 5 || method == 7;
         uint32_t r = guarded(method, s, LENGTH, s, LENGTH, COUPLING_SHEET_MAX);
-        CHECK(r == (known ? method == 3 ? 80 : LENGTH : refusal(9, 0, 0, 0)));
+        uint32_t length = method == 3 || method == 5 ? 80 : LENGTH; /* by these a sum of zeros is not [0, 0] */
+        CHECK(r == (known ? length : refusal(9, 0, 0, 0)));
     }
 }
 

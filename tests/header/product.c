@@ -63,13 +63,15 @@ static void test_results(void)
     CHECK(holds(A_MIDS, ONE_AND_HALF) && holds(A_RADS, HALF) && holds(B_MIDS, HALF) && holds(B_RADS, ONE_AND_HALF));
     set_call(3);
     CHECK(call() == 0);
+    set_call(5);
+    CHECK(call() == 0 && holds(LOWERS, MINUS | (FOUR + 4)) && holds(UPPERS, EIGHT + 2));
     set_call(7);
     CHECK(call() == 0 && holds(LOWERS, MINUS | FOUR) && holds(UPPERS, EIGHT));
 }
 
 static void test_methods_and_sizes(void)
 {
-    const uint32_t unknown[] = {0, 2, 5, 6, 8, 9, 0xFFFFFFFF};
+    const uint32_t unknown[] = {0, 2, 6, 8, 9, 0xFFFFFFFF};
     for (size_t i = 0; i < COUNT(unknown); i++) {
         set_call(unknown[i]);
         CHECK(refused(refusal(9, 0, 0, 0)));
@@ -117,8 +119,8 @@ static void test_cells(void)
 /* After 5 the result's cells are 0, and the work slices as converted; method 1 leaves these. */
 static void test_overflow(void)
 {
-    const uint32_t methods[] = {1, 3, 4, 7}, mids[CELLS] = {ONE_AND_HALF, ONE_AND_HALF, COUPLING_LARGEST, ONE_AND_HALF};
-    for (int i = 0; i < 4; i++) {
+    const uint32_t methods[] = {1, 3, 4, 5, 7}, mids[CELLS] = {ONE_AND_HALF, ONE_AND_HALF, COUPLING_LARGEST, ONE_AND_HALF};
+    for (int i = 0; i < 5; i++) {
         set_call(methods[i]);
         given[A_LOWERS][2] = given[A_UPPERS][2] = COUPLING_LARGEST;
         CHECK(call() == refusal(5, 3, 1, 0) && holds(LOWERS, 0) && holds(UPPERS, 0));

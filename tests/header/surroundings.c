@@ -15,17 +15,19 @@
 static uint8_t full[COUPLING_SHEET_MAX], sheets[COUPLING_SHEETS_MAX][COUPLING_SHEET_MAX]; /* each of a train is the full one */
 static uint32_t low[CELLS], high[CELLS];                                                  /* what the full sheet is read as */
 
+static const uint32_t methods[] = {1, 3, 4, 5, 7};
+enum { METHODS = COUNT(methods) };
+
 /* All that one round of calls returns and writes. */
 struct answers {
-    uint32_t read, write, multiply[4], train[4], product[4], operations[12], to_midrad, to_bounds, words[4];
-    uint8_t sheet[COUPLING_SHEET_MAX], out[4][COUPLING_SHEET_MAX], last[4][COUPLING_SHEET_MAX];
-    uint32_t lowers[CELLS], uppers[CELLS], lent[4][6][CELLS];
+    uint32_t read, write, multiply[METHODS], train[METHODS], product[METHODS], operations[12], to_midrad, to_bounds, words[4];
+    uint8_t sheet[COUPLING_SHEET_MAX], out[METHODS][COUPLING_SHEET_MAX], last[METHODS][COUPLING_SHEET_MAX];
+    uint32_t lowers[CELLS], uppers[CELLS], lent[METHODS][6][CELLS];
 };
 
 static void multiply_all(struct answers *x)
 {
-    const uint32_t methods[] = {1, 3, 4, 7};
-    for (int i = 0; i < 4; i++) {
+    for (int i = 0; i < METHODS; i++) {
         uint32_t(*lent)[CELLS] = x->lent[i];
         x->multiply[i] = coupling_multiply(methods[i], full, sizeof full, full, sizeof full, x->out[i], sizeof x->out[i]);
         x->train[i] = coupling_train(methods[i], COUPLING_SHEETS_MAX, sheets[0], sizeof sheets, x->last[i], sizeof x->last[i]);
@@ -62,7 +64,7 @@ static void call_first(void)
     CHECK(coupling_read(full, sizeof full, low, CELLS, high, CELLS) == 100 * SIZE + SIZE);
     call_all(&first);
     CHECK(first.read == 100 * SIZE + SIZE && first.write == sizeof full && first.to_midrad == 0 && first.to_bounds == 0);
-    for (int i = 0; i < 4; i++)
+    for (int i = 0; i < METHODS; i++)
         CHECK(first.multiply[i] == sizeof full && first.train[i] == sizeof full && first.product[i] == 0);
     for (int i = 0; i < 12; i++)
         CHECK(!COUPLING_OPERATION_REFUSED(first.operations[i]));

@@ -48,7 +48,7 @@ static void test_counts(void)
     CHECK(guarded(1, UINT32_MAX, LENGTH, LENGTH) == refusal(12, 0, 0, 0));
     CHECK(guarded(1, 256 + 1, LENGTH, LENGTH) == refusal(12, 0, 0, 0));
     for (uint32_t method = 0; method < 10; method++) {
-        int known = method == 1 || method == 3 || method == 4 || method == 7;
+        int known = method == 1 || method == 3 || method == 4 || method == 5 || method == 7;
         CHECK(guarded(method, 1, LENGTH, LENGTH) == (known ? LENGTH : refusal(9, 0, 0, 0)));
         CHECK(guarded(method, 0, 0, 0) == refusal(known ? 12 : 9, 0, 0, 0));
     }

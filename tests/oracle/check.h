@@ -34,6 +34,7 @@ void check_small_format(void);
 void check_smallest_radius(void);
 void check_products(void);
 void check_product_refusals(void);
+void check_method_five(void);
 void check_reading(void);
 void check_read_refusals(void);
 void check_writing(void);

@@ -1,6 +1,6 @@
-/* Independent implementation, not proved: one entry of a product by each of the four
-   methods, from its k pairs of cells. Method 1 is here; methods 3, 4 and 7, which use
-   midpoints and radii, are in methods_midrad.c.
+/* Independent implementation, not proved: one entry of a product by each of the five
+   methods, from its k pairs of cells. Method 1 is here; those that use midpoints and
+   radii are in methods_midrad.c (3, 4 and 7) and method_five.c.
 
    Every operation is rounded separately, and sums start at 0. A refused step marks the
    entry as refused; the results of later steps are then not used. */
@@ -46,7 +46,7 @@ static struct entry classical(const struct pair *pairs, size_t k)
 
 bool method_known(uint32_t method)
 {
-    return method == 1 || method == 3 || method == 4 || method == 7;
+    return method == 1 || method == 3 || method == 4 || method == 5 || method == 7;
 }
 
 struct entry entry_by_method(uint32_t method, const struct pair *pairs, size_t k)
@@ -55,6 +55,7 @@ struct entry entry_by_method(uint32_t method, const struct pair *pairs, size_t k
     case 1:  return classical(pairs, k);
     case 3:  return three_products(pairs, k);
     case 4:  return four_products(pairs, k);
+    case 5:  return five_products(pairs, k);
     default: return seven_products(pairs, k);
     }
 }

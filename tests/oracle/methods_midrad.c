@@ -1,14 +1,14 @@
 /* Independent implementation, not proved: one entry of a product by methods 4, 7 and 3,
-   from midpoints and radii. */
+   from midpoints and radii; method 5, which shares some of the steps, is in
+   method_five.c. */
 #include <string.h>
 
 #include "parts.h"
 
 #define TWO_TO_MINUS_125 0x01000000u
 
-/* sum + a * b, the product rounded first, then the sum. */
-static uint32_t add_product(bool *refused, enum direction direction,
-                            uint32_t sum, uint32_t a, uint32_t b)
+uint32_t add_product(bool *refused, enum direction direction,
+                     uint32_t sum, uint32_t a, uint32_t b)
 {
     uint32_t product = step(refused, MUL, direction, a, b);
     return step(refused, ADD, direction, sum, product);
@@ -55,16 +55,14 @@ struct entry four_products(const struct pair *pairs, size_t k)
     return e;
 }
 
-/* p = sign(m) * min(|m|, r). */
-static uint32_t part(uint32_t m, uint32_t r)
+uint32_t part(uint32_t m, uint32_t r)
 {
     uint32_t least = lesser(magnitude(m), r);
     return value_of(m) < 0 ? least | SIGN_BIT : least;
 }
 
-/* The sum of mA * mB, continued with pA * pB, all rounded in the same direction. */
-static uint32_t centre_with_parts(bool *refused, enum direction direction,
-                                  const struct pair *pairs, size_t k)
+uint32_t centre_with_parts(bool *refused, enum direction direction,
+                           const struct pair *pairs, size_t k)
 {
     uint32_t sum = centre(refused, direction, pairs, k);
     for (size_t l = 0; l < k; l++)

@@ -44,7 +44,7 @@ bool oracle_smallest_radius(uint32_t r, uint32_t lo, uint32_t hi);
 struct refusal oracle_check_sizes(size_t a_rows, size_t a_columns,
                                   size_t b_rows, size_t b_columns);
 
-/* A (m by k) times B (k by n) by method 1, 3, 4 or 7. m_a, r_a, m_b, r_b are
+/* A (m by k) times B (k by n) by method 1, 3, 4, 5 or 7. m_a, r_a, m_b, r_b are
    the work slices, c_lo and c_hi the result. After success and after refusal
    5 the work slices hold midpoints and radii (method 1: untouched); after 5
    the result cells are 0; after any other refusal nothing is touched. */

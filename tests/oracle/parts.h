@@ -48,10 +48,18 @@ struct entry entry_by_method(uint32_t method, const struct pair *pairs, size_t k
 uint32_t step(bool *refused, enum operation operation, enum direction direction, uint32_t a, uint32_t b);
 uint32_t lesser(uint32_t a, uint32_t b);
 
-/* methods_midrad.c */
+/* methods_midrad.c and method_five.c */
 struct entry three_products(const struct pair *pairs, size_t k);
 struct entry four_products(const struct pair *pairs, size_t k);
+struct entry five_products(const struct pair *pairs, size_t k);
 struct entry seven_products(const struct pair *pairs, size_t k);
+
+/* methods_midrad.c: sum + a * b, the product rounded first, then the sum; p, which is
+   sign(m) * min(|m|, r); the sum of mA * mB, continued with pA * pB, all rounded in the
+   same direction. */
+uint32_t add_product(bool *refused, enum direction direction, uint32_t sum, uint32_t a, uint32_t b);
+uint32_t part(uint32_t m, uint32_t r);
+uint32_t centre_with_parts(bool *refused, enum direction direction, const struct pair *pairs, size_t k);
 
 /* sheet_read.c: the length of the first of the sheets that stand back to back in len bytes:
    16 for each of its records, or all bytes where they are fewer or end before the record

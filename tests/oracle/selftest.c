@@ -115,6 +115,7 @@ int main(void)
     check_smallest_radius();
     check_products();
     check_product_refusals();
+    check_method_five();
     check_reading();
     check_read_refusals();
     check_writing();

@@ -96,7 +96,7 @@ static void check_print_refusals(void)
     put_cells(ONE, TWO, NEGATIVE | ONE, THREE);
     char text[64];
     CHECK(oracle_print(NULL, 0, text, sizeof text) == 16 && memcmp(text, "refused 9 0 0 0\n", 16) == 0);
-    for (const char *other = "025689x\n+ "; *other != 0; other++)
+    for (const char *other = "02689x\n+ "; *other != 0; other++)
         CHECK(prints(*other, 32, 32, "refused 9 0 0 0\n"));
     CHECK(prints('4', 0, 0, "refused 6 1 0 0\n") && prints('4', 5, 0, "refused 6 1 0 0\n"));
     CHECK(prints('4', 31, 0, "refused 6 1 0 0\n") && prints('4', 32, 0, "refused 6 2 0 0\n"));
@@ -106,7 +106,7 @@ static void check_print_refusals(void)
     put_head(a, 0, 1, 2, 1);
     CHECK(prints('4', 16, 32, "refused 1 2 0 0\n"));
     put_cells(MAX, MAX, MAX, MAX);
-    CHECK(prints('7', 32, 32, "refused 5 3 0 0\n"));
+    CHECK(prints('7', 32, 32, "refused 5 3 0 0\n") && prints('5', 32, 32, "refused 5 3 0 0\n"));
     put_head(b, 1, 1, 32, 2);
     put_cell(b + RECORD_BYTES, 0, 0, 31, TWO, ONE, 0);
     CHECK(prints('7', 32, 32, "refused 4 2 0 31\n"));
@@ -118,6 +118,7 @@ void check_print(void)
     put_cells(ONE, TWO, NEGATIVE | ONE, THREE);
     CHECK(prints('4', 32, 32, "product 4 1 1\n0 0 C0400000 40C00000\n"));
     CHECK(prints('3', 32, 32, "product 3 1 1\n0 0 C0400004 40C00002\n"));
+    CHECK(prints('5', 32, 32, "product 5 1 1\n0 0 C0000006 40C00003\n"));
     CHECK(prints('1', 32, 32, "product 1 1 1\n0 0 C0000000 40C00000\n"));
     CHECK(prints('7', 32, 32, "product 7 1 1\n0 0 C0000000 40C00000\n"));
     memset(text, SPARE, sizeof text);

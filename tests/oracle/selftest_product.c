@@ -3,7 +3,10 @@
 
 #define ROOM 1025   /* one more than the cells of any matrix */
 
-static const uint32_t methods[4] = {1, 3, 4, 7};
+static const uint32_t methods[5] = {1, 3, 4, 5, 7};
+/* The bounds of 32 by methods 3 and 5 are about 32 -+ 34/2^19 and 32 -+ 33/2^17. */
+static const uint32_t lowers_of_32[5] = {0x42000000, 0x41FFFFDD, 0x42000000, 0x41FFFF7B, 0x42000000};
+static const uint32_t uppers_of_32[5] = {0x42000000, 0x42000012, 0x42000000, 0x42000043, 0x42000000};
 
 /* The memory lent to a call, and the lengths of its ten slices. */
 static uint32_t a_lo[ROOM], a_hi[ROOM], b_lo[ROOM], b_hi[ROOM], c_lo[ROOM], c_hi[ROOM];
@@ -67,14 +70,11 @@ void check_products(void)
     CHECK(gives(4, NEGATIVE, 0, NEGATIVE, NEGATIVE, 0, 0));
     CHECK(gives(1, NEGATIVE | MAX, NEGATIVE | MAX, ONE, ONE, NEGATIVE | MAX, NEGATIVE | MAX));
 
-    for (int i = 0; i < 4; i++) {
+    for (int i = 0; i < 5; i++) {
         reset();
         CHECK(is(multiply(methods[i], 32, 32, 32), 0, 0, 0, 0));
         CHECK(result_untouched(1024) && work_untouched(methods[i] == 1 ? 0 : 1024));
-        if (methods[i] == 3)    /* about 32 - 34/2^19 and 32 + 34/2^19 */
-            CHECK(all_are(c_lo, 1024, 0x41FFFFDD) && all_are(c_hi, 1024, 0x42000012));
-        else
-            CHECK(all_are(c_lo, 1024, 0x42000000) && all_are(c_hi, 1024, 0x42000000));
+        CHECK(all_are(c_lo, 1024, lowers_of_32[i]) && all_are(c_hi, 1024, uppers_of_32[i]));
         CHECK(is(multiply(methods[i], 33, 1, 1), 1, 1, 0, 0));
     }
 }
@@ -86,7 +86,7 @@ static void check_frame(void)
     reset();
     a_lo[0] = NAN_PATTERN;
     lengths[0] = 0;
-    CHECK(is(multiply(5, 0, 1, 1), 9, 0, 0, 0) && is(multiply(0, 1, 1, 1), 9, 0, 0, 0));
+    CHECK(is(multiply(6, 0, 1, 1), 9, 0, 0, 0) && is(multiply(0, 1, 1, 1), 9, 0, 0, 0));
     CHECK(is(multiply(4, 0, 1, 0), 1, 1, 0, 0) && is(multiply(4, 1, 33, 1), 1, 1, 0, 0));
     CHECK(is(multiply(4, 1, 1, 0), 1, 2, 0, 0) && is(multiply(1, 1, 1, 33), 1, 2, 0, 0));
     CHECK(is(oracle_check_sizes(2, 3, 2, 3), 1, 2, 0, 0) && is(oracle_check_sizes(2, 3, 3, 2), 0, 0, 0, 0));
@@ -119,7 +119,7 @@ static void check_cells(void)
 /* 5 names the first refused entry by rows; the result is 0, the work converted. */
 static void check_overflow(void)
 {
-    for (int i = 0; i < 4; i++) {
+    for (int i = 0; i < 5; i++) {
         reset();                    /* A and B have 1 and MAX on the diagonal */
         a_lo[1] = a_hi[1] = a_lo[2] = a_hi[2] = NEGATIVE;
         b_lo[1] = b_hi[1] = b_lo[2] = b_hi[2] = 0;
@@ -136,7 +136,7 @@ static void check_overflow(void)
     b_lo[3] = 0x7E800000;
     b_hi[3] = MAX;
     CHECK(is(multiply(1, 2, 2, 2), 0, 0, 0, 0));
-    for (int i = 1; i < 4; i++)
+    for (int i = 1; i < 5; i++)
         CHECK(is(multiply(methods[i], 2, 2, 2), 5, 3, 0, 1));
     CHECK(gives(4, ONE, ONE, MAX, MAX, MAX, MAX) && gives(7, ONE, ONE, MAX, MAX, MAX, MAX));
     CHECK(gives(1, MAX, MAX, NEGATIVE | ONE, ONE, NEGATIVE | MAX, MAX));

@@ -51,12 +51,12 @@ static void check_counts(void)
 {
     for (size_t position = 1; position <= 9; position++)
         put(position, TWO, TWO);
-    CHECK(gives(1, 1, TWO, TWO) && gives(4, 2, FOUR, FOUR));
+    CHECK(gives(1, 1, TWO, TWO) && gives(4, 2, FOUR, FOUR) && gives(5, 2, FOUR - 9, FOUR + 5));
     CHECK(gives(7, 8, 0x43800000, 0x43800000));                         /* 2^8 */
     CHECK(refuses(1, 0, 0, 0, 12000000) && refuses(1, 9, 9 * SHEET, SHEET, 12000000));
     CHECK(refuses(3, 0xFFFFFFFF, SHEET, SHEET, 12000000) && refuses(2, 0, 0, 0, 9000000));
     CHECK(oracle_train(7, 9, NULL, 0, NULL, 0) == 12000000);
-    CHECK(refuses(5, 1, SHEET, SHEET, 9000000));                        /* though one sheet needs no method */
+    CHECK(refuses(6, 1, SHEET, SHEET, 9000000));                        /* though one sheet needs no method */
 }
 
 static void check_values(void)

@@ -91,6 +91,7 @@ fn products() {
     assert_eq!(multiplied(Method::Seven, a, b, 1), (Ok(()), converted, [MINUS | TWO, SIX]));
     assert_eq!(multiplied(Method::Four, a, b, 1), (Ok(()), converted, [MINUS | THREE, SIX]));
     assert_eq!(multiplied(Method::Three, a, b, 1), (Ok(()), converted, [0xC040_0004, 0x40C0_0002]));
+    assert_eq!(multiplied(Method::Five, a, b, 1), (Ok(()), converted, [0xC000_0006, 0x40C0_0003]));
 }
 
 #[test]
@@ -109,7 +110,9 @@ fn refusals_of_a_product() {
     }
     assert_eq!(multiplied(Method::Classical, a, a, 0), (refused(2, 0, 0, 0), [GUARD; 4], [GUARD; 2]));
     assert_eq!(multiplied(Method::Classical, a, large, 1), (refused(5, 3, 0, 0), [GUARD; 4], [0; 2]));
-    assert_eq!(multiplied(Method::Four, large, large, 1), (refused(5, 3, 0, 0), [LARGEST, 0, LARGEST, 0], [0; 2]));
+    for method in [Method::Four, Method::Five] {
+        assert_eq!(multiplied(method, large, large, 1), (refused(5, 3, 0, 0), [LARGEST, 0, LARGEST, 0], [0; 2]));
+    }
 }
 
 type Operation = fn(u32, u32) -> Result<u32, Refusal>;

@@ -1,7 +1,7 @@
 //! Tests of the sheet job in the Rust wrapper, not proved: a success by each method, each refusal, and the codes.
 use coupling::{multiply, Method, Refusal, SHEET_MAX};
 
-const METHODS: [Method; 4] = [Method::Classical, Method::Three, Method::Four, Method::Seven];
+const METHODS: [Method; 5] = [Method::Classical, Method::Three, Method::Four, Method::Five, Method::Seven];
 const LENGTH: usize = 48;
 
 /// 2 by 2 with cells (0, 0) and (1, 1), both [-1, 2].
@@ -38,7 +38,8 @@ fn products() {
     for method in METHODS {
         let mut out = [0; SHEET_MAX];
         let length = multiply(method, &sheet(), &sheet(), &mut out).expect("not refused");
-        assert_eq!(length, if method == Method::Three { 80 } else { LENGTH });
+        let zeros_widened = matches!(method, Method::Three | Method::Five);
+        assert_eq!(length, if zeros_widened { 80 } else { LENGTH });
         assert_eq!(out[2..6], [2, 2, (length / 16) as u8, 0]);
     }
     let mut out = [0; LENGTH];

@@ -26,15 +26,21 @@ def one(**changes):
 
 # 1 by 1: [1 - 2^-24, 1 + 2^-23], whose midpoint has to be rounded, and [1, 1]
 NARROW = one(lower=ONE - 1, upper=ONE + 1) + one(upper=ONE)
+# 3 by 2 with the cell [2^126, MAX] in row 2, and 2 by 3 with it in column 1: |m| + r is too large
+WIDE_ROW = head(1, 3, 2, 3) + cell(2, 0, 0, ONE, TWO) + cell(0, 2, 1, 0x7E800000, MAX)
+WIDE_COLUMN = head(1, 2, 3, 3) + cell(2, 0, 0, ONE, TWO) + cell(0, 1, 1, 0x7E800000, MAX)
+# 2 by 2: 2^-100 in each place
+SMALL = head(1, 2, 2, 5) + b"".join(cell((i + 2) % 5, i // 2, i % 2, 0x0D800000, 0x0D800000) for i in range(4))
 
 CASES = {
     "example": b"4" + A + B,
-    "method-1": b"1" + THREE + GOOD, "method-3": b"3" + THREE + GOOD, "method-4": b"4" + THREE + GOOD, "method-7": b"7" + THREE + GOOD,
-    "midpoint-3": b"3" + NARROW, "midpoint-4": b"4" + NARROW, "midpoint-7": b"7" + NARROW,
-    "zeros": b"1" + head(0, 2, 3, 1) + head(0, 3, 1, 1), "outside-the-chain": b"1" + head(0, 1, 1, 2) + b"\xFF" * 16 + B,
-    "size-32": b"7" + FULL + FULL, "column-by-row": b"3" + head(0, 32, 1, 1) + head(0, 1, 32, 1),
+    "method-1": b"1" + THREE + GOOD, "method-3": b"3" + THREE + GOOD, "method-4": b"4" + THREE + GOOD, "method-5": b"5" + THREE + GOOD, "method-7": b"7" + THREE + GOOD,
+    "midpoint-3": b"3" + NARROW, "midpoint-4": b"4" + NARROW, "midpoint-5": b"5" + NARROW, "midpoint-7": b"7" + NARROW,
+    "zeros": b"1" + head(0, 2, 3, 1) + head(0, 3, 1, 1), "zeros-5": b"5" + head(0, 2, 3, 1) + head(0, 3, 1, 1),
+    "outside-the-chain": b"1" + head(0, 1, 1, 2) + b"\xFF" * 16 + B,
+    "size-32": b"7" + FULL + FULL, "size-32-5": b"5" + FULL + FULL, "column-by-row": b"3" + head(0, 32, 1, 1) + head(0, 1, 32, 1),
     # 9: the digit
-    "nothing": b"", "method-0": b"0" + A + B, "method-2": b"2" + A + B, "method-5": b"5" + A + B, "method-9": b"9" + A + B,
+    "nothing": b"", "method-0": b"0" + A + B, "method-2": b"2" + A + B, "method-6": b"6" + A + B, "method-9": b"9" + A + B,
     "no-digit": A + B, "line-feed": b"\n4" + A + B, "letter": b"a" + A + B, "byte-255": b"\xFF" + A + B, "9-before-6": b"8",
     # where A ends
     "digit-alone": b"4", "one-byte": b"4\0", "five-bytes": b"4" + A[:5], "six-bytes": b"4" + A[:6], "head-alone": b"4" + A[:16], "A-cut-short": b"4" + A[:-1],
@@ -53,6 +59,8 @@ CASES = {
     "overflow-in-A": b"1" + one(upper=MAX, wear=1) + B, "overflow-in-B": b"1" + A + one(lower=MAX | NEGATIVE, wear=7),
     "overflow-1": b"1" + one(lower=MAX, upper=MAX) + one(lower=TWO, upper=TWO), "overflow-3": b"3" + THREE + head(1, 2, 12, 2) + cell(0, 0, 10, MAX, MAX),
     "overflow-4": b"4" + THREE + head(1, 2, 12, 2) + cell(0, 1, 11, MAX, MAX), "overflow-7": b"7" + one(lower=MAX, upper=MAX) + one(lower=TWO, upper=TWO),
+    "overflow-5": b"5" + one(lower=MAX, upper=MAX) + one(upper=ONE), "wide-in-A": b"5" + WIDE_ROW + SMALL, "wide-in-A-4": b"4" + WIDE_ROW + SMALL,
+    "wide-in-B": b"5" + SMALL + WIDE_COLUMN,
     "overflow-in-row-2": b"4" + THREE[:48] + cell(0, 2, 0, MAX, MAX) + head(1, 2, 1, 2) + cell(0, 0, 0, TWO, TWO),
     "layout-in-A": b"1" + patched(A, 6, [1]) + B, "layout-in-B": b"1" + A + one(spare=b"\1\0\0"),
     "index-in-A": b"1" + patched(A, 0, [2]) + B, "index-in-B": b"1" + A + one(row=1), "unordered-in-A": b"1" + one(link=1) + B, "unordered-in-B": b"1" + A + one(link=1),

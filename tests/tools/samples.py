@@ -44,7 +44,7 @@ def test_train(library, method):
 
 
 def main(library, program):
-    for method in (1, 3, 4, 7):
+    for method in (1, 3, 4, 5, 7):
         test_product(library, program, method)
         test_train(library, method)
     ok("sample sheets", "multiplied by each method; the decimals enclose the patterns; a train of three is two jobs in a row")

@@ -11,6 +11,8 @@ pub enum Method {
     Three = 3,
     /// Method 4: midpoints and radii.
     Four = 4,
+    /// Method 5: the corrected midpoint of method 7 rounded to nearest, and a bound on the error.
+    Five = 5,
     /// Method 7: midpoints and radii with a correction of the midpoint.
     Seven = 7,
 }
@@ -28,7 +30,7 @@ pub struct Matrix<'a> {
     pub uppers: &'a [u32],
 }
 
-/// What a product by method 3, 4 or 7 converts its matrices into; method 1 leaves it as it was, but its lengths are checked too.
+/// What a product by method 3, 4, 5 or 7 converts its matrices into; method 1 leaves it as it was, but its lengths are checked too.
 #[derive(Debug)]
 pub struct Work<'a> {
     /// The midpoints of A's cells.

@@ -45,7 +45,7 @@ module _ (D : ℕ) (d : 0 < D) where
   unfolding down
   up-neg X = sym (negate² (up binary32 D (negℤ X)))
 
-  pub agree-neg : {X Y : ℤ} → Agree D X Y → Agree D (negℤ X) (negℤ Y)
+  agree-neg : {X Y : ℤ} → Agree D X Y → Agree D (negℤ X) (negℤ Y)
   agree-neg {X} {Y} a = record {
     ups = up-neg X ∙ ap negate (a .downs) ∙ sym (up-neg Y);
     downs = down-neg X ∙ ap negate (a .ups) ∙ sym (down-neg Y);
@@ -79,7 +79,7 @@ module _ (δ g h r r′ : ℕ) (large : 2 ^ (g + 24) ≤ h * 2 ^ g + r) (l : r <
   step-is =
       sym (pow-add 2 (ex binary32 (2 ^ δ) N) δ) ∙ ap (λ x. 2 ^ x) enough ∙ pow-add 2 (1 + more) g ∙ ap (λ x. x * 2 ^ g) (pow-add 2 1 more)
 
-  pub agree-far : Agree (2 ^ δ) (pos (h * 2 ^ g + r′)) (pos N)
+  agree-far : Agree (2 ^ δ) (pos (h * 2 ^ g + r′)) (pos N)
   agree-far = agree-of (2 ^ δ) (pow-pos δ) (h * 2 ^ g + r′) N
       (jam-lo binary32 (2 ^ δ) h (2 ^ g) (2 ^ more) r r′ (pow-pos δ) l l′ z step-is)
       (jam-hi binary32 (2 ^ δ) h (2 ^ g) (2 ^ more) r r′ (pow-pos δ) l l′ z step-is)

@@ -43,7 +43,7 @@ pub extern "C" fn coupling_write(
     length_code(sheets::put(rows, columns, lowers, uppers, out))
 }
 
-// A times B by method 1, 3, 4 or 7: the bounds of the product in lo and up, the midpoints and radii of A and B in ma, ra, mb and rb.
+// A times B by method 1, 3, 4, 5 or 7: the bounds of the product in lo and up, the midpoints and radii of A and B in ma, ra, mb and rb.
 // The bounds enclose the product of any two matrices of fractions whose entries lie in the cells of A and B.
 #[no_mangle]
 pub extern "C" fn coupling_product(

@@ -12,7 +12,7 @@ use Rattle.algebra.proofs.Linear.{reading}
 use Rattle.algebra.proofs.Absolute.{natAbs-add, natAbs-mul}
 use Rattle.rounding.specs.Property.{off, Err}
 use Rattle.enclosure.specs.NaturalSum.{Σℕ}
-use Rattle.enclosure.proofs.Magnitude.{mag-add₃, mag-add₄, sum-err}
+use Rattle.enclosure.proofs.Magnitude.{mag-add₄, sum-err, error-splits}
 
 -- ---- a running sum whose every step obeys the error law: X l is the exact term, in 1 / Q of a unit
 pub data Trace (P Q : ℕ) (X : ℕ → ℤ) (s : ℤ) : ℕ → ℤ → Type 0 where
@@ -56,17 +56,11 @@ module _ (P Q i Y : ℕ) (u t v X x : ℤ) where
       let g : (u +ℤ t) *ℤ pos Q ≡ X +ℤ (u *ℤ pos Q -ℤ X) +ℤ x +ℤ (t *ℤ pos Q -ℤ x) = by-ring (u ∷ t ∷ X ∷ x ∷ pos Q ∷ []) (search reading depth 20) tt in
       omega (arith, h, mul-le-mul-right Q (sum-err k), natAbs-mul (u +ℤ t) (pos Q), mag-add₄ _ X (u *ℤ pos Q -ℤ X) x (t *ℤ pos Q -ℤ x) g)
 
-  error-splits : off Q (X +ℤ x) v ≤ off Q X u + off Q x t + natAbs (v -ℤ (u +ℤ t)) * Q
-  error-splits =
-      let g : v *ℤ pos Q -ℤ (X +ℤ x) ≡ (u *ℤ pos Q -ℤ X) +ℤ (t *ℤ pos Q -ℤ x) +ℤ (v -ℤ (u +ℤ t)) *ℤ pos Q =
-      by-ring (u ∷ t ∷ v ∷ X ∷ x ∷ pos Q ∷ []) (search reading depth 20) tt in
-      omega (arith, natAbs-mul (v -ℤ (u +ℤ t)) (pos Q), mag-add₃ _ (u *ℤ pos Q -ℤ X) (t *ℤ pos Q -ℤ x) ((v -ℤ (u +ℤ t)) *ℤ pos Q) g)
-
   step-error : natAbs X ≤ Y → 64 * (P * off Q X u) ≤ (65 * i + 64) * Y + 65 * i * (P * Q) → Err P Q x t → Err P 1 (u +ℤ t) v → 65 * i + 64 ≤ P
       → 64 * (P * off Q (X +ℤ x) v) ≤ (65 * i + 64 + 65) * (Y + natAbs x) + 65 * (i + 1) * (P * Q)
   step-error h₁ h₂ h₃ h₄ h₅ =
       error-grows P Q Y (natAbs x) i (off Q X u) (off Q (X +ℤ x) v) (off Q x t) (natAbs (v -ℤ (u +ℤ t)) * Q)
-      h₂ (term-error h₃) (addition-error h₁ h₄) error-splits h₅
+      h₂ (term-error h₃) (addition-error h₁ h₄) (error-splits Q u t v X x) h₅
 
 -- ---- all steps
 module _ {P Q i : ℕ} {X : ℕ → ℤ} {s X₀ : ℤ} {Y₀ : ℕ} (a : Approx P Q i s X₀ Y₀) where

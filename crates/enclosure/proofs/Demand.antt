@@ -1,5 +1,5 @@
--- Demand 3: every method encloses, over any arithmetic and for every format, and in binary32 method 4 is as narrow as demanded.
--- Assumes nothing.
+-- Demand 3: every method encloses and method 5 bounds the error of its centre, over any arithmetic and for every format, and in binary32 method 4
+-- is as narrow as demanded. Assumes nothing.
 use mathlib.Core.Path.{_≡_, sym, _∙_, subst}
 use mathlib.Core.List.{[], _∷_}
 use mathlib.Core.Option.{some}
@@ -17,7 +17,8 @@ use Rattle.rounding.specs.Format.{Format, binary32, units, half}
 use Rattle.enclosure.specs.Arithmetic.{Arithmetic, of}
 use Rattle.enclosure.specs.NaturalSum.{Σℕ}
 use Rattle.enclosure.specs.Cell.{Cell, leastCorner, greatestCorner}
-use Rattle.enclosure.specs.Methods.{Method, classical, three, four, seven, Range, entry}
+use Rattle.enclosure.specs.Methods.{Method, classical, three, four, five, seven, Range, entry}
+use Rattle.enclosure.specs.CentreError.{CentreWithin}
 use Rattle.enclosure.specs.Demand.{ValidCells, Encloses, exactLower, exactUpper, S, T, WidthFour, Kept}
 use Rattle.enclosure.proofs.NaturalSum.{Σ-pos, Σ-sub}
 use Rattle.enclosure.proofs.Converted.{EachConverted}
@@ -28,6 +29,8 @@ use Rattle.enclosure.proofs.Covers.{Covers, covers-encloses}
 use Rattle.enclosure.proofs.Classical.{classical-covers}
 use Rattle.enclosure.proofs.Three.{three-covers}
 use Rattle.enclosure.proofs.Four.{four-covers}
+use Rattle.enclosure.proofs.FiveError.{centre-within}
+use Rattle.enclosure.proofs.Five.{five-covers}
 use Rattle.enclosure.proofs.Seven.{seven-covers}
 use Rattle.enclosure.proofs.PairSize.{pairWidth, pair-width-is}
 use Rattle.enclosure.proofs.FourWidth.{four-width}
@@ -40,6 +43,7 @@ module _ {A : Arithmetic} (L : Laws A) (k : ℕ) (a b : ℕ → Cell) (oka : Eac
   entry-covers classical e h = classical-covers L k a b e h
   entry-covers three e h = three-covers L k a b few fine oka okb e h
   entry-covers four e h = four-covers L k a b oka okb e h
+  entry-covers five e h = five-covers L k a b (omega (arith, few, fine)) oka okb e h
   entry-covers seven e h = seven-covers L k a b oka okb e h
 
   pub entry-encloses : (m : Method) (e : Range) → entry A m k a b ≡ some e → Encloses (A .units) k a b e
@@ -60,6 +64,12 @@ module _ (f : Format) (u : f .prec ≤ f .unit) (p : 8388608 ≤ half f)
   unfolding format-laws
   format-four-width k≥ k≤ q h =
       four-width (format-laws f u) k a b (λ l i. valid-converted f (a l) (va l i)) (λ l i. valid-converted f (b l) (vb l i)) k≥ k≤ q p e h
+
+-- whatever the cells: C is as near to the exact sum as method 5 says, where k is at most half f
+pub format-centre-within : (f : Format) → f .prec ≤ f .unit → (k : ℕ) (a b : ℕ → Cell) (e : Range) → k ≤ half f → entry (of f) five k a b ≡ some e
+    → CentreWithin (of f) k a b
+unfolding format-laws
+format-centre-within f u k a b e few h = centre-within (format-laws f u) k a b few e h
 
 -- ---- binary32: P is 2^23, Q is 2^149
 pub binary32-encloses : (m : Method) (k : ℕ) (a b : ℕ → Cell) (e : Range) → k ≤ 32 → ValidCells binary32 k a → ValidCells binary32 k b
@@ -90,6 +100,9 @@ binary32-four-width k a b e k≥ k≤ va vb h =
     (e .upper -ℤ e .lower) (exactUpper k a b -ℤ exactLower k a b) (≼-abs (e .upper -ℤ e .lower)) (exact-width k a b)
     (format-four-width binary32 (lit≤ tt) (lit≤ tt) k a b e va vb k≥ k≤ (lit≤ tt) h)
 
+pub binary32-centre-within : (k : ℕ) (a b : ℕ → Cell) (e : Range) → k ≤ 32 → entry (of binary32) five k a b ≡ some e → CentreWithin (of binary32) k a b
+binary32-centre-within k a b e few h = format-centre-within binary32 (lit≤ tt) k a b e (omega arith) h
+
 -- ---- the demand
 pub demand-kept : (m : Method) (k : ℕ) (a b : ℕ → Cell) (e : Range) → 1 ≤ k → k ≤ 32 → ValidCells binary32 k a → ValidCells binary32 k b
     → entry (of binary32) m k a b ≡ some e → Kept m k a b e
@@ -97,4 +110,5 @@ demand-kept m k a b e k≥ k≤ va vb h =
     record {
       encloses = binary32-encloses m k a b e k≤ va vb h;
       width = λ p. binary32-four-width k a b e k≥ k≤ va vb (subst (λ z. entry (of binary32) z k a b ≡ some e) p h);
+      centre = λ p. binary32-centre-within k a b e k≤ (subst (λ z. entry (of binary32) z k a b ≡ some e) p h);
     }

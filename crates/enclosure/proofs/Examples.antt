@@ -1,4 +1,4 @@
--- Worked examples beside those that 01 states, computed: an entry by method 4 and one by method 3, the numbers of the width, and a pick. Assumes nothing.
+-- Worked examples beside those that 01 states, computed: entries by methods 4, 3 and 5, the numbers of the width, and a pick. Assumes nothing.
 use mathlib.Core.Path.{_≡_, refl}
 use mathlib.Core.Option.{some, bind}
 use Prim.Native.Nat.{ℕ, zero, suc, _+_, _-_, _*_, _^_}
@@ -14,8 +14,9 @@ use Rattle.enclosure.specs.Arithmetic.{of}
 use Rattle.enclosure.specs.Sums.{sum}
 use Rattle.enclosure.specs.Cell.{Cell, largest, leastCorner, greatestCorner}
 use Rattle.enclosure.specs.Conversion.{mid, rad, cellOf}
-use Rattle.enclosure.specs.Methods.{three, four, Range, entry, ends, radius₃, radius₄, centre, total}
-use Rattle.enclosure.specs.Methods.{innerTerm, outerRadius, outerTerm, raisedRadius, raisedTerm, midTerm}
+use Rattle.enclosure.specs.Methods.{three, four, five, Range, part, entry, ends, radius₃, radius₄, radius₅, errorBound, error₅, size₅, centre, centre₇, total}
+use Rattle.enclosure.specs.Methods.{innerTerm, outerRadius, outerTerm, raisedRadius, raisedTerm, largestTerm}
+use Rattle.enclosure.specs.Methods.{midTerm, partTerm, midSizeTerm, partSizeTerm}
 use Rattle.enclosure.specs.Fraction.{In}
 use Rattle.enclosure.specs.Demand.{exactLower, exactUpper, S, T, WidthFour}
 
@@ -44,6 +45,21 @@ pub three-worked : entry (of binary32) three 1 (λ l. cell (pos 1) (pos 1)) (λ 
     ≡ some (range (negℤ (pos (2 ^ 24 + 2))) (pos (2 ^ 24 + 4)))
 unfolding entry ends radius₃ centre total sum bind raisedRadius raisedTerm outerRadius outerTerm midTerm mid rad maxℤ up down near lo hi nr ceil expo size MAX
 three-worked = refl
+
+-- one unit × one unit by method 5: C and G are 0, whose spacing is a unit, so E is 2^23 + 2 units; R is one unit and 2 × E, rounded up.
+-- [0, 2] × [0, 2]: C and G are 2, whose spacing is 2^-22, so E is a little above 2^-21; R is 4 - 2 and 2 × E, rounded up to 2 + 5 / 2^22
+-- 1 × 1 + 1 × -1: C is 0, but G is 2, so E is a little above 3 × 2^-22; R is 2 × E
+abbrev opposed : ℕ → Cell
+opposed zero = cell (whole 1) (whole 1)
+opposed (suc l) = cell (negℤ (whole 1)) (negℤ (whole 1))
+
+pub five-worked : (entry (of binary32) five 1 (λ l. cell (pos 1) (pos 1)) (λ l. cell (pos 1) (pos 1))
+    ≡ some (range (negℤ (pos (2 ^ 24 + 6))) (pos (2 ^ 24 + 6))))
+    × (entry (of binary32) five 1 (λ l. cell (whole 0) (whole 2)) (λ l. cell (whole 0) (whole 2))
+    ≡ some (range (negℤ (over 5 22)) (over (4 * 2 ^ 21 + 3) 21)))
+    × (entry (of binary32) five 2 (λ l. cell (whole 1) (whole 1)) opposed ≡ some (range (negℤ (over (3 * 2 ^ 22 + 1) 43)) (over (3 * 2 ^ 22 + 1) 43)))
+unfolding entry ends radius₅ error₅ errorBound size₅ centre₇ centre total sum bind largestTerm outerRadius midTerm partTerm midSizeTerm partSizeTerm part mid rad minℤ maxℤ up down near lo hi nr ceil expo size MAX
+five-worked = (refl, refl, refl)
 
 -- ---- the numbers of the width, of two pairs: [1, 2] × [-1, 3] and [0, 2] × [0, 2]
 abbrev row : ℕ → Cell

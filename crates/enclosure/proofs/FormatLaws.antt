@@ -1,5 +1,5 @@
 -- The arithmetic of every format whose unit is at most 2 ^ -prec obeys the laws. Assumes nothing.
-use mathlib.Core.Path.{_≡_, sym, ap, _∙_}
+use mathlib.Core.Path.{_≡_, refl, sym, ap, _∙_}
 use mathlib.Core.Logic.{⊎-elim}
 use mathlib.Core.Option.{some, Option·none-ne-some}
 use Prim.Native.Nat.{ℕ, suc, _+_, _-_, _*_, _^_, _≤_, _<_}
@@ -13,7 +13,9 @@ use Rattle.rounding.specs.Format.{Format, half, MAX}
 use Rattle.rounding.specs.Rounding.{up, down}
 use Rattle.rounding.proofs.Directed.{up-is, up-above, down-is, down-below}
 use Rattle.rounding.proofs.Nearest.{near-is}
-use Rattle.rounding.proofs.Error.{up-err, down-err, near-err}
+use Rattle.rounding.proofs.NearestLaws.{near-kept, near-mono-abs}
+use Rattle.rounding.proofs.Spacing.{spacing-mono, spacing-high, spacing-low}
+use Rattle.rounding.proofs.Error.{up-err, down-err, near-err, near-spacing}
 use Rattle.enclosure.specs.Arithmetic.{of}
 use Rattle.enclosure.proofs.Laws.{Laws}
 
@@ -38,6 +40,7 @@ module _ (f : Format) where
         units-above = pow-pos (f .unit);
         eps-is = ap (λ n. n * 2 ^ (f .unit - f .prec)) double-half ∙ sym (pow-add 2 (f .prec) (f .unit - f .prec)) ∙ ap (λ n. 2 ^ n) together;
         tiny-is = sym double-half;
+        normal-is = refl;
         up-above = λ d h. up-is f _ d h .above;
         up-room = room-above;
         up-err = λ d h. up-err f _ d (up-is f _ d h);
@@ -45,6 +48,12 @@ module _ (f : Format) where
         down-room = room-below;
         down-err = λ d h. down-err f _ d (down-is f _ d h);
         near-err = λ d h. near-err f _ d (near-is f _ d h);
+        near-spacing = λ X d h. near-spacing f _ d (near-is f _ d h);
+        near-again = λ X d h. near-kept (near-is f _ d h .num);
+        near-mono = λ X d h. near-mono-abs f _ d X h;
+        spacing-mono = spacing-mono f;
+        spacing-high = spacing-high f;
+        spacing-low = spacing-low f;
       }
     where
       together : f .prec + (f .unit - f .prec) ≡ f .unit

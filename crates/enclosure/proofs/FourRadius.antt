@@ -1,6 +1,5 @@
 -- The radius of method 4 as rounded: it is not negative, and how far it is from the sum of |mA| × rB + rA × w, where w is |mB| + rB rounded up.
 use mathlib.Core.Path.{_≡_, refl, sym, _∙_, ap, ap₂, subst}
-use mathlib.Core.List.{[], _∷_}
 use mathlib.Core.Option.{Option, none, some, Option·getD}
 use Prim.Native.Nat.{ℕ, _+_, _*_, _≤_, _<_}
 use native.Mathlib.Omega.{arith}
@@ -9,7 +8,6 @@ use lib.IntN.{ℤ, pos, natAbs, _+ℤ_, _*ℤ_}
 use Rattle.algebra.specs.Order.{_≼_}
 use Rattle.algebra.specs.Absolute.{abs}
 use Rattle.algebra.specs.Sum.{Σ<}
-use Rattle.algebra.proofs.Linear.{reading, le, lin-le}
 use Rattle.algebra.proofs.Order.{nonneg, mul-nonneg}
 use Rattle.algebra.proofs.Absolute.{natAbs-add, natAbs-mul}
 use Rattle.enclosure.specs.Arithmetic.{Arithmetic}
@@ -20,7 +18,7 @@ use Rattle.enclosure.proofs.Accepted.{bound}
 use Rattle.enclosure.proofs.NaturalSum.{Σℕ-ext, Σℕ-add}
 use Rattle.enclosure.proofs.Converted.{Converted, EachConverted}
 use Rattle.enclosure.proofs.Laws.{Laws, one}
-use Rattle.enclosure.proofs.Terms.{inner}
+use Rattle.enclosure.proofs.Terms.{inner, reach-nonneg}
 use Rattle.enclosure.proofs.Magnitude.{sum-size}
 use Rattle.enclosure.proofs.Accumulate.{Approx, magnitudes, zero-approx, accumulate}
 use Rattle.enclosure.proofs.Traces.{Rounded, up-nonneg, rising}
@@ -40,22 +38,21 @@ module _ {A : Arithmetic} (L : Laws A) where
   raisedReach b = Option·getD (up 1 (abs (b .mid) +ℤ b .rad)) (pos 0)
 
   module _ (b : Cell) (o : Converted P b) where
-    reach-nonneg : pos 0 ≼ abs (b .mid) +ℤ b .rad
-    reach-nonneg = lin-le (abs (b .mid) ∷ b .rad ∷ []) (le (o .rad-nonneg) ∷ []) (search reading depth 20) (omega arith)
-
     pub raised-reach-≤ : P * natAbs (raisedReach b) ≤ (P + 1) * reach b
     unfolding raisedReach
     raised-reach-≤ = go (up 1 (abs (b .mid) +ℤ b .rad)) refl
       where
         go : (w : Option ℤ) → up 1 (abs (b .mid) +ℤ b .rad) ≡ w → P * natAbs (Option·getD w (pos 0)) ≤ (P + 1) * (natAbs (b .mid) + natAbs (b .rad))
         go none e = omega arith
-        go (some w) e = omega (arith, sum-size (up-nonneg L one reach-nonneg e .close), mul-le-mul-left (P + 1) (natAbs-add (abs (b .mid)) (b .rad)))
+        go (some w) e =
+            let r = up-nonneg L one (reach-nonneg (b .mid) (b .rad) (o .rad-nonneg)) e in
+            omega (arith, sum-size (r .close), mul-le-mul-left (P + 1) (natAbs-add (abs (b .mid)) (b .rad)))
 
     pub outer-rounded : (a : Cell) → Converted P a → (t : ℤ) → outerTerm A a b ≡ some t → Rounded L units (a .rad *ℤ raisedReach b) t
     unfolding raisedReach outerTerm outerRadius
     outer-rounded a i t h =
         let c = bound (up 1 (abs (b .mid) +ℤ b .rad)) _ h in
-        let w = up-nonneg L one reach-nonneg (c .first) in
+        let w = up-nonneg L one (reach-nonneg (b .mid) (b .rad) (o .rad-nonneg)) (c .first) in
         let e : Option·getD (up 1 (abs (b .mid) +ℤ b .rad)) (pos 0) ≡ c .value = ap (λ z. Option·getD z (pos 0)) (c .first) in
         subst (λ z. Rounded L units (a .rad *ℤ z) t) (sym e) (up-nonneg L units-above (mul-nonneg (i .rad-nonneg) (w .nonnegative)) (c .then))
 

@@ -2,22 +2,24 @@
 use mathlib.Core.Path.{_≡_}
 use mathlib.Core.List.{[], _∷_}
 use mathlib.Core.Option.{some}
-use Prim.Native.Nat.{ℕ, _*_, _<_}
+use Prim.Native.Nat.{ℕ, _+_, _*_, _≤_, _<_}
 use native.Mathlib.Omega.{arith}
-use lib.IntN.{ℤ, pos, negℤ, _*ℤ_}
+use lib.IntN.{ℤ, pos, negℤ, natAbs, _*ℤ_}
 use Rattle.algebra.specs.Order.{_≼_}
+use Rattle.algebra.specs.Absolute.{abs}
 use Rattle.algebra.proofs.Linear.{reading, le, lin-le}
-use Rattle.rounding.specs.Property.{Err}
+use Rattle.rounding.specs.Property.{off, Err}
 use Rattle.enclosure.specs.Arithmetic.{Arithmetic}
 
 pub record Laws (A : Arithmetic) : Type 0 where
   -- a directed rounding errs by at most a P-th, the nearest by half of that
   pub P : ℕ
   pub MAX : ℕ
-  -- the constants: 2 ^ -prec is 1 / (2 * P), and method 3 adds 2 * P units
+  -- the constants: 2 ^ -prec is 1 / (2 * P); method 3 adds 2 * P units, method 5 adds P
   pub units-above : 0 < A .units
   pub eps-is : 2 * P * A .eps ≡ A .units
   pub tiny-is : A .tiny ≡ 2 * P
+  pub normal-is : A .normal ≡ P
   -- up: not below, and none above MAX. Below -MAX it is -MAX, so there the error has no bound
   pub up-above : {D : ℕ} {X v : ℤ} → 0 < D → A .up D X ≡ some v → X ≼ v *ℤ pos D
   pub up-room : {D : ℕ} {X v : ℤ} → 0 < D → A .up D X ≡ some v → X ≼ pos (MAX * D)
@@ -26,8 +28,15 @@ pub record Laws (A : Arithmetic) : Type 0 where
   pub down-below : {D : ℕ} {X v : ℤ} → 0 < D → A .down D X ≡ some v → v *ℤ pos D ≼ X
   pub down-room : {D : ℕ} {X v : ℤ} → 0 < D → A .down D X ≡ some v → negℤ (pos (MAX * D)) ≼ X
   pub down-err : {D : ℕ} {X v : ℤ} → 0 < D → A .down D X ≡ some v → X ≼ pos (MAX * D) → Err P D X v
-  -- nearest
+  -- nearest; it is off by at most half the spacing of the result, keeps a result, and grows with the magnitude
   pub near-err : {D : ℕ} {X v : ℤ} → 0 < D → A .near D X ≡ some v → Err (2 * P) D X v
+  pub near-spacing : {D : ℕ} (X : ℤ) {v : ℤ} → 0 < D → A .near D X ≡ some v → 2 * off D X v ≤ A .spacing v * D
+  pub near-again : {D : ℕ} (X : ℤ) {v : ℤ} → 0 < D → A .near D X ≡ some v → A .near 1 v ≡ some v
+  pub near-mono : {D : ℕ} (X : ℤ) {Y v w : ℤ} → 0 < D → abs X ≼ Y → A .near D X ≡ some v → A .near D Y ≡ some w → abs v ≼ w
+  -- the spacing grows with the magnitude: that is less than 2 * P times the spacing, and from P units on at least P times
+  pub spacing-mono : (v w : ℤ) → natAbs v ≤ natAbs w → A .spacing v ≤ A .spacing w
+  pub spacing-high : (v : ℤ) → natAbs v < 2 * P * A .spacing v
+  pub spacing-low : (v : ℤ) → P * A .spacing v ≤ natAbs v + P
 
 pub one : 0 < 1
 one = omega arith

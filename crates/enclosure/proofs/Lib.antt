@@ -17,6 +17,7 @@ pub mod Terms
 pub mod Magnitude
 pub mod Accumulate
 pub mod Traces
+pub mod NearSum
 -- the conversion
 pub mod Farther
 pub mod Conversion
@@ -27,6 +28,8 @@ pub mod Four
 pub mod Seven
 pub mod ThreeRadius
 pub mod Three
+pub mod FiveError
+pub mod Five
 -- the width of method 4
 pub mod CellSize
 pub mod PairSize

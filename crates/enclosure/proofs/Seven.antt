@@ -1,14 +1,14 @@
 -- Method 7 encloses: centre and radius of method 4, continued with pA × pB and with -|pA| × |pB|.
 use mathlib.Core.Path.{_≡_, sym, _∙_, ap}
 use mathlib.Core.Option.{some}
-use Prim.Native.Nat.{ℕ}
-use lib.IntN.{ℤ, pos, _+ℤ_, _*ℤ_}
+use Prim.Native.Nat.{ℕ, _<_}
+use lib.IntN.{ℤ, pos, _+ℤ_, _*ℤ_, _-ℤ_}
 use Rattle.algebra.specs.Order.{_≼_}
 use Rattle.algebra.specs.Sum.{Σ<}
 use Rattle.algebra.proofs.Order.{≼-trans, ≼-of-≡}
 use Rattle.algebra.proofs.Sum.{Σ-add}
 use Rattle.enclosure.specs.Arithmetic.{Arithmetic}
-use Rattle.enclosure.specs.Cell.{Cell}
+use Rattle.enclosure.specs.Cell.{Cell, leastCorner, greatestCorner}
 use Rattle.enclosure.specs.Methods.{Range, seven, entry, radius₄, radius₇, centre, centre₇, total, sharedTerm, partTerm}
 use Rattle.enclosure.proofs.Accepted.{bound}
 use Rattle.enclosure.proofs.Part.{part-is}
@@ -20,6 +20,18 @@ use Rattle.enclosure.proofs.RoundedSum.{continued-above, continued-belo
 use Rattle.enclosure.proofs.Covers.{Covers, ends-of, ends-cover, centre-and-radius-above, centre-and-radius-below}
 use Rattle.enclosure.proofs.Four.{radius-above, centre-above, centre-below}
 
+-- ---- the pair's bounds with the parts
+abbrev pub pairRadius : (a b : ℕ → Cell) → ℕ → ℤ
+pairRadius a b l = inner a b l +ℤ outer a b l +ℤ shared a b l
+
+module _ {P : ℕ} (k : ℕ) (a b : ℕ → Cell) (oka : EachConverted P k a) (okb : EachConverted P k b) where
+  pub least-above₇ : (l : ℕ) → l < k → mids a b l +ℤ parts a b l -ℤ pairRadius a b l ≼ leastCorner (a l) (b l)
+  least-above₇ l i = least-above (a l) (b l) (oka l i) (okb l i) _ _ (part-is _ _ (oka l i .rad-nonneg)) (part-is _ _ (okb l i .rad-nonneg))
+
+  pub greatest-below₇ : (l : ℕ) → l < k → greatestCorner (a l) (b l) ≼ mids a b l +ℤ parts a b l +ℤ pairRadius a b l
+  greatest-below₇ l i = greatest-below (a l) (b l) (oka l i) (okb l i) _ _ (part-is _ _ (oka l i .rad-nonneg)) (part-is _ _ (okb l i .rad-nonneg))
+
+-- ---- the sums
 module _ {A : Arithmetic} (L : Laws A) (k : ℕ) (a b : ℕ → Cell) where
   open Arithmetic A using (up, down, units)
 
@@ -41,10 +53,7 @@ module _ {A : Arithmetic} (L : Laws A) (k : ℕ) (a b : ℕ → Cell) where
       (≼-of-≡ (sym (Σ-add k (mids a b) (parts a b))))
 
   module _ (oka : EachConverted (L .P) k a) (okb : EachConverted (L .P) k b) where
-    abbrev radius : ℕ → ℤ
-    radius l = inner a b l +ℤ outer a b l +ℤ shared a b l
-
-    radius₇-above : {r : ℤ} → radius₇ A k a b ≡ some r → Σ< k radius ≼ r *ℤ pos units
+    radius₇-above : {r : ℤ} → radius₇ A k a b ≡ some r → Σ< k (pairRadius a b) ≼ r *ℤ pos units
     unfolding radius₇ total
     radius₇-above h =
         let c = bound (radius₄ A k a b) _ h in
@@ -57,9 +66,6 @@ module _ {A : Arithmetic} (L : Laws A) (k : ℕ) (a b : ℕ → Cell) where
     seven-covers e h =
         let c = ends-of A (radius₇ A k a b) (centre₇ A k a b down) (centre₇ A k a b up) h in
         let r = radius₇-above (c .rad-is) in
-        ends-cover L k a b (λ l. mids a b l +ℤ parts a b l) radius
-        (λ l i. least-above (a l) (b l) (oka l i) (okb l i) _ _ (part-is _ _ (oka l i .rad-nonneg)) (part-is _ _ (okb l i .rad-nonneg)))
-        (λ l i. greatest-below (a l) (b l) (oka l i) (okb l i) _ _ (part-is _ _ (oka l i .rad-nonneg)) (part-is _ _ (okb l i .rad-nonneg)))
-        c
+        ends-cover L k a b (λ l. mids a b l +ℤ parts a b l) (pairRadius a b) (least-above₇ k a b oka okb) (greatest-below₇ k a b oka okb) c
         (centre-and-radius-below units (c .minus) (c .rad) _ _ (centre₇-below (c .minus-is)) r)
         (centre-and-radius-above units (c .plus) (c .rad) _ _ (centre₇-above (c .plus-is)) r)

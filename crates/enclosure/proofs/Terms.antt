@@ -8,10 +8,10 @@ use lib.IntN.{ℤ, pos, negℤ, _+ℤ_, _*ℤ_}
 use Rattle.algebra.specs.Order.{_≼_}
 use Rattle.algebra.specs.Absolute.{abs}
 use Rattle.algebra.proofs.Linear.{reading, le, lin-le}
-use Rattle.algebra.proofs.Order.{_⊠_}
+use Rattle.algebra.proofs.Order.{_⊠_, ≼-trans}
 use Rattle.enclosure.specs.Arithmetic.{Arithmetic}
 use Rattle.enclosure.specs.Cell.{Cell}
-use Rattle.enclosure.specs.Methods.{part, innerTerm, outerRadius, outerTerm, sharedTerm, midTerm, partTerm}
+use Rattle.enclosure.specs.Methods.{part, innerTerm, outerRadius, outerTerm, sharedTerm, midTerm, partTerm, largestTerm}
 use Rattle.enclosure.proofs.Accepted.{bound}
 use Rattle.enclosure.proofs.Laws.{Laws, up-sum}
 
@@ -33,9 +33,19 @@ module _ (a b : ℕ → Cell) (l : ℕ) where
   abbrev pub shared : ℤ
   shared = negℤ (abs (part (a l .mid) (a l .rad)) *ℤ abs (part (b l .mid) (b l .rad)))
 
+  -- method 5: (|mA| + rA) × (|mB| + rB)
+  abbrev pub reaches : ℤ
+  reaches = (abs (a l .mid) +ℤ a l .rad) *ℤ (abs (b l .mid) +ℤ b l .rad)
+
 -- r * v is below what r * w is below, where v is not above w
 scaled : (Q : ℕ) (r v w t : ℤ) → pos 0 ≼ r → v ≼ w → r *ℤ w ≼ t *ℤ pos Q → r *ℤ v ≼ t *ℤ pos Q
 scaled Q r v w t p h k = lin-le (r ∷ v ∷ w ∷ t ∷ pos Q ∷ []) (le (p ⊠ h) ∷ le k ∷ []) (search reading depth 30) (omega arith)
+
+pub reach-nonneg : (m r : ℤ) → pos 0 ≼ r → pos 0 ≼ abs m +ℤ r
+reach-nonneg m r h = lin-le (abs m ∷ r ∷ []) (le h ∷ []) (search reading depth 20) (omega arith)
+
+product-≼ : (x y v w : ℤ) → pos 0 ≼ x → pos 0 ≼ y → x ≼ v → y ≼ w → x *ℤ y ≼ v *ℤ w
+product-≼ x y v w p q h k = lin-le (x ∷ y ∷ v ∷ w ∷ []) (le (p ⊠ k) ∷ le (h ⊠ q) ∷ le (h ⊠ k) ∷ []) (search reading depth 30) (omega arith)
 
 module _ {A : Arithmetic} (L : Laws A) (a b : ℕ → Cell) (l : ℕ) (t : ℤ) where
   open Arithmetic A using (up, down, units)
@@ -70,3 +80,12 @@ module _ {A : Arithmetic} (L : Laws A) (a b : ℕ → Cell) (l : ℕ) (t : ℤ) 
   pub parts-below : partTerm A down (a l) (b l) ≡ some t → t *ℤ pos units ≼ parts a b l
   unfolding partTerm
   parts-below h = down-below units-above h
+
+  pub reaches-above : pos 0 ≼ a l .rad → pos 0 ≼ b l .rad → largestTerm A (a l) (b l) ≡ some t → reaches a b l ≼ t *ℤ pos units
+  unfolding largestTerm outerRadius
+  reaches-above p q h =
+      let c = bound (up 1 (abs (a l .mid) +ℤ a l .rad)) _ h in
+      let d = bound (up 1 (abs (b l .mid) +ℤ b l .rad)) _ (c .then) in
+      ≼-trans
+      (product-≼ _ _ (c .value) (d .value) (reach-nonneg (a l .mid) (a l .rad) p) (reach-nonneg (b l .mid) (b l .rad) q) (up-sum L (c .first)) (up-sum L (d .first)))
+      (up-above units-above (d .then))

@@ -1,4 +1,4 @@
--- The rounded arithmetic that the methods use: three roundings of X / D units, and the constants of method 3. Definitions only.
+-- The rounded arithmetic that the methods use: three roundings of X / D units, and the constants of methods 3 and 5. Definitions only.
 -- The methods are defined for any such arithmetic; `of` gives that of a number format.
 use mathlib.Core.Option.{Option}
 use Prim.Native.Nat.{ℕ, _-_, _^_}
@@ -18,6 +18,10 @@ pub record Arithmetic : Type 0 where
   pub eps : ℕ
   -- the constant that method 3 adds to a radius: 2 ^ prec units, 2 ^ -125 for binary32
   pub tiny : ℕ
+  -- the distance from a number to the next one of larger magnitude, in units
+  pub spacing : ℤ → ℕ
+  -- the constant that method 5 adds to its bound on the error: the least normal number, 2 ^ (prec - 1) units, 2 ^ -126 for binary32
+  pub normal : ℕ
 
 -- the arithmetic of a format whose unit is at most 2 ^ -prec
 abbrev pub of : Format → Arithmetic
@@ -29,4 +33,6 @@ of f =
       units = Format.units f;
       eps = 2 ^ (f .unit - f .prec);
       tiny = 2 ^ f .prec;
+      spacing = λ v. Format.spacing f v;
+      normal = Format.half f;
     }

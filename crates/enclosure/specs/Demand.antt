@@ -1,4 +1,5 @@
--- Demand 3 on one entry, over whole numbers: it encloses the exact results, and by method 4 it is not too wide. Definitions only (01, "Four products").
+-- Demand 3 on one entry, over whole numbers: it encloses the exact results, by method 4 it is not too wide, and by method 5 the error of its centre is
+-- bounded. Definitions only (01, "Four products"; 02, P3).
 -- The entry has k pairs of cells: a l of the row and b l of the column, for l from 0 to k - 1; e is the entry that a method returned.
 -- Bounds are in units, of which Q make 1 (2^149 for binary32), and products of two bounds in 1 / Q of a unit (2^-298).
 use mathlib.Core.Path.{_≡_}
@@ -11,7 +12,8 @@ use Rattle.enclosure.specs.Arithmetic.{of}
 use Rattle.enclosure.specs.NaturalSum.{Σℕ}
 use Rattle.enclosure.specs.Cell.{Cell, largest, leastCorner, greatestCorner}
 use Rattle.enclosure.specs.Conversion.{cellOf}
-use Rattle.enclosure.specs.Methods.{Method, four, Range}
+use Rattle.enclosure.specs.Methods.{Method, four, five, Range}
+use Rattle.enclosure.specs.CentreError.{CentreWithin}
 use Rattle.enclosure.specs.Fraction.{Fraction, _⊛_, fsum, In}
 
 -- ---- a valid cell: its bounds are numbers of the format, the lower not above the upper, and midpoint and radius are computed in the format
@@ -69,3 +71,4 @@ WidthFour k a b e =
 pub record Kept (m : Method) (k : ℕ) (a b : ℕ → Cell) (e : Range) : Type 0 where
   pub encloses : Encloses (units binary32) k a b e
   pub width : m ≡ four → WidthFour k a b e
+  pub centre : m ≡ five → CentreWithin (of binary32) k a b

@@ -6,4 +6,5 @@ pub mod Conversion
 pub mod Optimal
 pub mod Methods
 pub mod Fraction
+pub mod CentreError
 pub mod Demand

@@ -1,4 +1,4 @@
-// One entry of an interval product by the four methods, as definitions (specs/) and laws (proofs/).
+// One entry of an interval product by the five methods, as definitions (specs/) and laws (proofs/).
 // Nothing calls the function below: every crate must have one.
 ghost use mathlib.Core.Path.{_≡_};
 

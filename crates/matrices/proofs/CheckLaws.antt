@@ -17,22 +17,22 @@ use Rattle.matrices.specs.Checks.{Given, methodOf, checkMethod, faulty, 
 use Rattle.matrices.proofs.Firsts.{first-none, first-more, first-here}
 
 -- ---- 9
-pub method-in : (n : ℕ) → ((n ≡ 1) ⊎ (n ≡ 7)) ⊎ ((3 ≤ n) × (n ≤ 4)) → done ≡ checkMethod n
+pub method-in : (n : ℕ) → ((n ≡ 1) ⊎ (n ≡ 7)) ⊎ ((3 ≤ n) × (n ≤ 5)) → done ≡ checkMethod n
 unfolding checkMethod methodOf
 method-in n h = go h
   where
     is : (m : ℕ) → n ≡ m → done ≡ checkMethod m → done ≡ checkMethod n
     is m e h = subst (λ k. done ≡ checkMethod k) (sym e) h
 
-    go : ((n ≡ 1) ⊎ (n ≡ 7)) ⊎ ((3 ≤ n) × (n ≤ 4)) → done ≡ checkMethod n
+    go : ((n ≡ 1) ⊎ (n ≡ 7)) ⊎ ((3 ≤ n) × (n ≤ 5)) → done ≡ checkMethod n
     go (inl (inl e)) = is 1 e refl
     go (inl (inr e)) = is 7 e refl
-    go (inr h) = ⊎-elim (λ e. is 3 (sym e) refl) (λ l. is 4 (omega arith) refl) (eq-or-lt-of-le (h .0))
+    go (inr h) = ⊎-elim (λ e. is 3 (sym e) refl) (λ l. ⊎-elim (λ e. is 4 (sym e) refl) (λ m. is 5 (omega arith) refl) (eq-or-lt-of-le l)) (eq-or-lt-of-le (h .0))
 
-pub method-out : (n : ℕ) → ((n ≡ 1) ⊎ (n ≡ 7) → ⊥) → (3 ≤ n → n ≤ 4 → ⊥) → refuses (ofMatrix 9 0) ≡ checkMethod n
+pub method-out : (n : ℕ) → ((n ≡ 1) ⊎ (n ≡ 7) → ⊥) → (3 ≤ n → n ≤ 5 → ⊥) → refuses (ofMatrix 9 0) ≡ checkMethod n
 unfolding checkMethod methodOf
 method-out n a b =
-    rw (ne-eqb n 1 (λ e. a (inl e)), ne-eqb n 7 (λ e. a (inr e)), ne-eqb n 3 (λ e. b (omega arith) (omega arith)), ne-eqb n 4 (λ e. b (omega arith) (omega arith)))
+    rw (ne-eqb n 1 (λ e. a (inl e)), ne-eqb n 7 (λ e. a (inr e)), ne-eqb n 3 (λ e. b (omega arith) (omega arith)), ne-eqb n 4 (λ e. b (omega arith) (omega arith)), ne-eqb n 5 (λ e. b (omega arith) (omega arith)))
 
 -- ---- 3 and 4
 module _ (X : Matrix) where

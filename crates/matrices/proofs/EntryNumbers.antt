@@ -7,7 +7,7 @@ use lib.IntN.{ℤ, _+ℤ_, _-ℤ_}
 use Rattle.rounding.specs.Format.{binary32, Num}
 use Rattle.rounding.specs.Rounding.{up, down}
 use Rattle.enclosure.specs.Arithmetic.{of}
-use Rattle.enclosure.specs.Methods.{Method, classical, three, four, seven, Range, total, ends, entry₁, entry}
+use Rattle.enclosure.specs.Methods.{Method, classical, three, four, five, seven, Range, total, ends, entry₁, entry}
 use Rattle.binary32.proofs.Held.{Fits}
 use Rattle.binary32.proofs.Numbers.{down-fits, up-fits}
 use Rattle.matrices.specs.Matrix.{Matrix}
@@ -39,4 +39,5 @@ unfolding entryOf entry entry₁ total
 entry-numbers classical k n A B i j e h = both-numbers _ _ e (sum-fits down (down-fits 1 (lit< tt)) _ k) (sum-fits up (up-fits 1 (lit< tt)) _ k) h
 entry-numbers three k n A B i j e h = ends-numbers _ _ _ e h
 entry-numbers four k n A B i j e h = ends-numbers _ _ _ e h
+entry-numbers five k n A B i j e h = ends-numbers _ _ _ e h
 entry-numbers seven k n A B i j e h = ends-numbers _ _ _ e h

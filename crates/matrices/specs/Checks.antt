@@ -5,7 +5,7 @@ use mathlib.Core.List.{List}
 use Prim.Native.Nat.{ℕ, _*_, _/_, _%_, _≤_, _<_}
 use lib.Dec.{ltb, eqb}
 use lib.ListN.{length}
-use Rattle.enclosure.specs.Methods.{Method, classical, three, four, seven}
+use Rattle.enclosure.specs.Methods.{Method, classical, three, four, five, seven}
 use Rattle.refusals.specs.Refusal.{ofMatrix, ofCell}
 use Rattle.refusals.specs.Answer.{Answer, refuses, done, unless, then}
 use Rattle.refusals.specs.Sizes.{checkSize, checkLengths}
@@ -52,11 +52,12 @@ abbrev pub called : (method ar ac br bc : ℕ) (al au bl bu ma ra mb rb lo up : 
 called method ar ac br bc al au bl bu ma ra mb rb lo up =
     given method ar ac br bc al au bl bu (length ma) (length ra) (length mb) (length rb) (length lo) (length up)
 
--- ---- refusal 9: the method is not 1, 3, 4 or 7
+-- ---- refusal 9: the method is not 1, 3, 4, 5 or 7
 unfoldable pub methodOf : ℕ → Option Method
-methodOf n = cond (eqb n 1) (some classical) (cond (eqb n 3) (some three) (cond (eqb n 4) (some four) (cond (eqb n 7) (some seven) none)))
+methodOf n =
+    cond (eqb n 1) (some classical) (cond (eqb n 3) (some three) (cond (eqb n 4) (some four) (cond (eqb n 5) (some five) (cond (eqb n 7) (some seven) none))))
 
--- the method with the number n; where n is not 1, 3, 4 or 7 (refusal 9) this value is not used
+-- the method with the number n; where n is not 1, 3, 4, 5 or 7 (refusal 9) this value is not used
 abbrev pub chosen : ℕ → Method
 chosen n = Option·getD (methodOf n) classical
 

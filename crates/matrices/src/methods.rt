@@ -5,12 +5,12 @@ ghost use Rattle.matrices.specs.Checks.{checkMethod};
 use refusals::Outcome;
 use refusals::Refusal;
 
-// Refusal 9 where the number is not 1, 3, 4 or 7.
+// Refusal 9 where the number is not 1, 3, 4, 5 or 7.
 pub fn check_method(method: u32) -> Outcome
     ensures { λ r. ⌜ outcome r ≡ checkMethod method ⌝ }
 {
     match method {
-        1 | 3 | 4 | 7 => Outcome::Done,
+        1 | 3 | 4 | 5 | 7 => Outcome::Done,
         _ => Outcome::Refused(Refusal::of_matrix(9, 0)),
     }
 }

@@ -1,7 +1,6 @@
 -- What the entries' functions ask for holds where the checks accepted.
 use mathlib.Core.Path.{_≡_, sym, ap, subst}
 use mathlib.Core.List.{List}
-use mathlib.Core.Logic.{_⊎_}
 use Prim.Native.Nat.{ℕ, _*_, _≤_}
 use native.Mathlib.Omega.{arith}
 use lib.ListN.{length}
@@ -13,7 +12,7 @@ use Rattle.products.specs.Written.{Sizes}
 use Rattle.matrices.specs.Checks.{Given, chosen, checkOf}
 use Rattle.matrices.proofs.CheckTells.{Checked, checked-tells}
 use Rattle.products.proofs.EntryExt.{ByMidRad}
-use Rattle.products.proofs.Chosen.{numbered, by-mid-rad}
+use Rattle.products.proofs.Chosen.{Others, numbered, by-mid-rad}
 use Rattle.products.proofs.MidRads.{Converted, converted-front, mid-rads}
 
 module _ (g : Given) (ok : checkOf g ≡ done) where
@@ -46,7 +45,7 @@ module _ (g : Given) (ok : checkOf g ≡ done) where
         b-fine = subst (AllFine (g .B)) (sym inner) (known .b-fine);
       }
 
-  -- ---- methods 3, 4 and 7
+  -- ---- methods 3, 4, 5 and 7
 
   -- what the two conversions ask for
   pub a-convertible :
@@ -74,7 +73,7 @@ module _ (g : Given) (ok : checkOf g ≡ done) where
       (converted-front (g .B) (g .b-rows * g .b-columns) m r m₀ r₀ (known .b-fine) (subst (λ (n : ℕ). g .b-rows * g .b-columns ≤ n) lm (w .0)) (subst (λ (n : ℕ). g .b-rows * g .b-columns ≤ n) lr (w .1)) em er)
 
   module _ (not-1 : g .method ≡ 1 → ⊥) where
-    which : (g .method ≡ 3) ⊎ ((g .method ≡ 4) ⊎ (g .method ≡ 7))
+    which : Others (g .method)
     which = let m = known .method in numbered (g .method) (m .0) (m .1) not-1
 
     pub chosen-by-mid-rad : ByMidRad (chosen (g .method))
@@ -82,7 +81,7 @@ module _ (g : Given) (ok : checkOf g ≡ done) where
 
     -- what the entries' function asks for
     pub ready : (ma ra mb rb : List ℕ) → Converted (g .A) (g .a-rows * g .a-columns) ma ra → Converted (g .B) (g .a-columns * g .b-columns) mb rb
-        → ((g .method ≡ 3) ⊎ ((g .method ≡ 4) ⊎ (g .method ≡ 7))) × Sized (g .a-rows) (g .a-columns) (g .b-columns) ma ra mb rb (g .lowers) (g .uppers)
+        → Others (g .method) × Sized (g .a-rows) (g .a-columns) (g .b-columns) ma ra mb rb (g .lowers) (g .uppers)
     ready ma ra mb rb a b =
         let s = sizes in
         (which, record { rows = s .rows; inner = s .inner; columns = s .columns; a = mid-rads a; b = mid-rads b; lowers = s .lowers; uppers = s .uppers })

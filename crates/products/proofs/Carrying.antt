@@ -7,14 +7,15 @@ use mathlib.Core.Option.{Option, none, some, bind}
 use Prim.Native.Nat.{ℕ, zero, suc, _+_, _-_, _^_, _≤_, _<_}
 use native.Mathlib.Numerals.{add-one}
 use native.Mathlib.Omega.{arith}
-use lib.Dec.{ltb}
+use lib.Dec.{ltb, lit<}
 use lib.IntN.{ℤ, pos, negℤ, natAbs, _+ℤ_, _*ℤ_, negℤ-negℤ}
 use borrow.Author.Tests.{lt-ltb, le-ltb}
 use Rattle.algebra.specs.Order.{_≼_}
 use Rattle.algebra.proofs.Linear.{reading, lin-eq}
 use Rattle.algebra.proofs.Order.{≼-refl}
 use Rattle.rounding.specs.Format.{binary32, MAX}
-use Rattle.rounding.specs.Rounding.{up, down, negate}
+use Rattle.rounding.specs.Rounding.{up, down, near, negate}
+use Rattle.rounding.proofs.Nearest.{near-odd}
 use Rattle.enclosure.specs.Sums.{sum}
 use Rattle.unpacked.specs.declared.Number.{Number}
 use Rattle.unpacked.specs.Number.{worth, Below, Holds, Runs, IsNumber, zeroNumber}
@@ -24,6 +25,15 @@ use Rattle.unpacked.proofs.Limits.{number-holds}
 
 pub true-false : {A : Type 0} → true ≡ false → A
 true-false e = absurd (subst (λ x. cond x (Unit {0}) ⊥) e tt)
+
+-- ---- what follows a partial result
+pub bind-some : (m : Option ℤ) (f : ℤ → Option ℤ) (v : ℤ) → m ≡ some v → bind m f ≡ f v
+unfolding bind
+bind-some m f v e = ap (λ t. bind t f) e
+
+pub bind-none : (m : Option ℤ) (f : ℤ → Option ℤ) → m ≡ none → bind m f ≡ none
+unfolding bind
+bind-none m f e = ap (λ t. bind t f) e
 
 -- ---- a partial result that is a number, or none
 pub holds-runs : (m : Option ℤ) (x : Number) → Holds m x → ltb 653 (x .exp) ≡ false → Runs m x
@@ -91,10 +101,15 @@ module _ (add : ℤ → Option ℤ) (f : ℕ → Option ℤ) (s : ℤ) where
 neg-sum : (a b : ℤ) → negℤ (negℤ a +ℤ negℤ b) ≡ a +ℤ b
 neg-sum a b = lin-eq (a ∷ b ∷ []) [] (search reading depth 20) (omega arith)
 
+mirror-bind : (add back : ℤ → Option ℤ) → ((w : ℤ) → negate (add (negℤ w)) ≡ back w) → (v : ℤ) (t : Option ℤ)
+    → negate (bind t λ u. add (v +ℤ u)) ≡ bind (negate t) λ u. back (negℤ v +ℤ u)
+unfolding bind
+mirror-bind add back turn v none = refl
+mirror-bind add back turn v (some u) = ap (λ w. negate (add w)) (sym (neg-sum v u)) ∙ turn (negℤ v +ℤ negℤ u)
+
 pub mirror-plus : (v : ℤ) (t : Option ℤ) → negate (bind t λ u. up binary32 1 (v +ℤ u)) ≡ plusDown (negℤ v) (negate t)
-unfolding bind down
-mirror-plus v none = refl
-mirror-plus v (some u) = ap (λ w. negate (up binary32 1 w)) (sym (neg-sum v u))
+unfolding down
+mirror-plus = mirror-bind (up binary32 1) (down binary32 1) (λ w. refl)
 
 pub negate² : (a : Option ℤ) → negate (negate a) ≡ a
 negate² (some v) = ap some (negℤ-negℤ v)
@@ -112,14 +127,24 @@ module _ (f : ℕ → Option ℤ) (s : ℤ) where
   pub down-more : (l : ℕ) (x r : Number) (t : Option ℤ) → Runs (sum (down binary32 1) f s l) x → f l ≡ t → Holds (plusDown (worth x) t) r → Holds (sum (down binary32 1) f s (l + 1)) r
   down-more l x r t R e h = subst (λ m. Holds m r) (sym (sum-next (down binary32 1) f s l (worth x) t (R .is) e)) h
 
+  -- where `back` is `add` with the other sign
+  mirrored-more : (add back : ℤ → Option ℤ) → ((w : ℤ) → negate (add (negℤ w)) ≡ back w) → (l : ℕ) (x r : Number) (t : Option ℤ)
+      → Runs (negate (sum add f s l)) x → f l ≡ t → Holds (bind (negate t) λ u. back (worth x +ℤ u)) r → Holds (negate (sum add f s (l + 1))) r
+  mirrored-more add back turn l x r t R e h = subst (λ m. Holds m r) (sym whole) h
+    where
+      whole : negate (sum add f s (l + 1)) ≡ bind (negate t) λ u. back (worth x +ℤ u)
+      whole =
+          ap negate (sum-next add f s l (negℤ (worth x)) t (mirrored-is (sum add f s l) x R) e)
+          ∙ mirror-bind add back turn (negℤ (worth x)) t ∙ ap (λ v. bind (negate t) λ u. back (v +ℤ u)) (negℤ-negℤ (worth x))
+
   pub up-more : (l : ℕ) (x r : Number) (t : Option ℤ) → Runs (negate (sum (up binary32 1) f s l)) x → f l ≡ t → Holds (plusDown (worth x) (negate t)) r
       → Holds (negate (sum (up binary32 1) f s (l + 1))) r
-  up-more l x r t R e h = subst (λ m. Holds m r) (sym whole) h
-    where
-      whole : negate (sum (up binary32 1) f s (l + 1)) ≡ plusDown (worth x) (negate t)
-      whole =
-          ap negate (sum-next (up binary32 1) f s l (negℤ (worth x)) t (mirrored-is (sum (up binary32 1) f s l) x R) e)
-          ∙ mirror-plus (negℤ (worth x)) t ∙ ap (λ v. plusDown v (negate t)) (negℤ-negℤ (worth x))
+  unfolding down
+  up-more = mirrored-more (up binary32 1) (down binary32 1) (λ w. refl)
+
+  pub near-more : (l : ℕ) (x r : Number) (t : Option ℤ) → Runs (negate (sum (near binary32 1) f s l)) x → f l ≡ t → Holds (bind (negate t) λ u. near binary32 1 (worth x +ℤ u)) r
+      → Holds (negate (sum (near binary32 1) f s (l + 1))) r
+  near-more = mirrored-more (near binary32 1) (near binary32 1) (λ w. ap negate (near-odd binary32 1 (lit< tt) w) ∙ negate² (near binary32 1 w))
 
   -- and to nearest, or by any other rounding
   pub any-more : (add : ℤ → Option ℤ) (l : ℕ) (x r : Number) (t : Option ℤ) → Runs (sum add f s l) x → f l ≡ t → Holds (bind t λ u. add (worth x +ℤ u)) r → Holds (sum add f s (l + 1)) r

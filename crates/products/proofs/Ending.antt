@@ -1,4 +1,4 @@
--- The end of an entry of methods 3, 4 and 7: centre less radius, centre and radius. It is none where one of them or of its two ends is none,
+-- The end of an entry of methods 3, 4, 5 and 7: centre less radius, centre and radius. It is none where one of them or of its two ends is none,
 -- and has both ends otherwise. And which entry stands at a place, and what is read for it.
 use mathlib.Core.Path.{_≡_, refl, sym, ap, ap₂, _∙_}
 use mathlib.Core.Bool.{true, false}
@@ -14,11 +14,11 @@ use Rattle.algebra.proofs.Linear.{reading, lin-eq}
 use Rattle.rounding.specs.Format.{binary32}
 use Rattle.rounding.specs.Rounding.{up, down, negate}
 use Rattle.enclosure.specs.Arithmetic.{of}
-use Rattle.enclosure.specs.Methods.{Range, ends, entry}
+use Rattle.enclosure.specs.Methods.{Range, ends}
 use Rattle.unpacked.specs.declared.Number.{Number}
 use Rattle.products.specs.declared.sums.Sums.{Sums}
 use Rattle.unpacked.specs.Number.{worth, Runs}
-use Rattle.products.specs.Running.{Ended, BothNumbers, refusedSums}
+use Rattle.products.specs.Running.{Ended, BothNumbers, refusedSums, Closes}
 use Rattle.products.specs.Centred.{OneNone}
 use Rattle.products.specs.MidRad.{Sized}
 use Rattle.products.specs.Derived.{MidRad}
@@ -86,12 +86,6 @@ module _ (R L H : Option ℤ) (l o r : Number) (e : Sums) (a : Runs L l) (b : Ru
     pub end-is : ends (of binary32) R L H ≡ some (record { lower = worth (e .lower); upper = negℤ (worth (e .opposed)) })
     unfolding bind
     end-is = are ∙ ap₂ both (lower-runs .is) (mirrored-is high (e .opposed) upper-runs)
-
--- what an entry with these ends is
-pub record Closes (entry : Option Range) (e : Sums) : Type 0 where
-  pub refused : refusedSums e ≡ true → entry ≡ none
-  pub numbers : refusedSums e ≡ false → BothNumbers e
-  pub whole : refusedSums e ≡ false → entry ≡ some (record { lower = worth (e .lower); upper = negℤ (worth (e .opposed)) })
 
 pub closes : (R L H : Option ℤ) (l o r : Number) (e : Sums) → Runs L l → Runs (negate H) o → Runs (negate R) r → Ended l o r e → Closes (ends (of binary32) R L H) e
 closes R L H l o r e a b c E = record { refused = end-none R L H l o r e a b c E; numbers = end-numbers R L H l o r e a b c E; whole = end-is R L H l o r e a b c E }

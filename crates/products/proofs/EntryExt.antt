@@ -1,15 +1,15 @@
--- An entry looks at its first k pairs of cells alone; by methods 3, 4 and 7 it looks at their midpoints and radii alone.
+-- An entry looks at its first k pairs of cells alone; by methods 3, 4, 5 and 7 it looks at their midpoints and radii alone.
 use mathlib.Core.Path.{_≡_, refl, ap, ap₂, _∙_}
 use mathlib.Core.Option.{Option, none, some, bind}
 use Prim.Native.Nat.{ℕ, _<_}
-use lib.IntN.{ℤ, pos, _+ℤ_}
+use lib.IntN.{ℤ, pos, _+ℤ_, _-ℤ_}
 use Rattle.enclosure.specs.Arithmetic.{Arithmetic}
 use Rattle.enclosure.specs.Cell.{Cell}
-use Rattle.enclosure.specs.Methods.{Method, classical, three, four, seven, entry, entry₁, ends, radius₃, radius₄, radius₇, centre, centre₇, total}
-use Rattle.enclosure.specs.Methods.{leastTerm, greatestTerm, innerTerm, outerTerm, raisedTerm, sharedTerm, midTerm, partTerm}
+use Rattle.enclosure.specs.Methods.{Method, classical, three, four, five, seven, entry, entry₁, ends, radius₃, radius₄, radius₅, radius₇, size₅, error₅, errorBound, centre, centre₇, total}
+use Rattle.enclosure.specs.Methods.{leastTerm, greatestTerm, innerTerm, outerTerm, raisedTerm, sharedTerm, midTerm, partTerm, midSizeTerm, partSizeTerm, largestTerm}
 use Rattle.enclosure.proofs.Sums.{sum-ext}
 
-bind-each : {A B : Type 0} (m : Option A) {f g : A → Option B} → ((v : A) → f v ≡ g v) → bind m f ≡ bind m g
+pub bind-each : {A B : Type 0} (m : Option A) {f g : A → Option B} → ((v : A) → f v ≡ g v) → bind m f ≡ bind m g
 unfolding bind
 bind-each none h = refl
 bind-each (some v) h = h v
@@ -44,6 +44,20 @@ module _ (A : Arithmetic) (k : ℕ) (a b a′ b′ : ℕ → Cell) (same-a : (l 
   unfolding centre₇
   centre₇-ext way = bind-ext (centre-ext way) (total-ext way (partTerm A way))
 
+  size₅-ext : size₅ A k a b ≡ size₅ A k a′ b′
+  unfolding size₅
+  size₅-ext = bind-ext (total-ext near (midSizeTerm A) (pos 0)) (total-ext near (partSizeTerm A))
+
+  error₅-ext : error₅ A k a b ≡ error₅ A k a′ b′
+  unfolding error₅
+  error₅-ext = ap (λ m. bind m (errorBound A k)) size₅-ext
+
+  radius₅-ext : radius₅ A k a b ≡ radius₅ A k a′ b′
+  unfolding radius₅
+  radius₅-ext =
+      bind-ext (total-ext up (largestTerm A) (pos 0))
+      (λ s. bind-ext size₅-ext (λ g. bind-each (up 1 (s -ℤ g)) (λ t. bind-ext error₅-ext (λ e. refl))))
+
   ends-ext : {r r′ s s′ t t′ : Option ℤ} → r ≡ r′ → s ≡ s′ → t ≡ t′ → ends A r s t ≡ ends A r′ s′ t′
   ends-ext {r} {r′} {s} {s′} {t} {t′} e f g = ap₂ (λ x y. ends A x y t) e f ∙ ap (ends A r′ s′) g
 
@@ -52,6 +66,7 @@ module _ (A : Arithmetic) (k : ℕ) (a b a′ b′ : ℕ → Cell) (same-a : (l 
   entry-ext classical = bind-ext (total-ext down (leastTerm A) (pos 0)) (λ l. bind-ext (total-ext up (greatestTerm A) (pos 0)) (λ u. refl))
   entry-ext three = ends-ext radius₃-ext (centre-ext near) (centre-ext near)
   entry-ext four = ends-ext radius₄-ext (centre-ext down) (centre-ext up)
+  entry-ext five = ends-ext radius₅-ext (centre₇-ext near) (centre₇-ext near)
   entry-ext seven = ends-ext radius₇-ext (centre₇-ext down) (centre₇-ext up)
 
 -- ---- midpoints and radii
@@ -60,6 +75,7 @@ module _ (A : Arithmetic) (k : ℕ) (a b a′ b′ : ℕ → Cell) (same-a : (l 
 pub data ByMidRad : Method → Type 0 where
   is-three : ByMidRad three
   is-four : ByMidRad four
+  is-five : ByMidRad five
   is-seven : ByMidRad seven
 
 -- a cell without its bounds
@@ -67,7 +83,8 @@ abbrev pub bare : Cell → Cell
 bare x = record { low = pos 0; high = pos 0; mid = x .mid; rad = x .rad }
 
 pub entry-bare : (A : Arithmetic) (method : Method) (k : ℕ) (a b : ℕ → Cell) → ByMidRad method → entry A method k a b ≡ entry A method k (λ l. bare (a l)) (λ l. bare (b l))
-unfolding entry radius₃ radius₄ radius₇ centre centre₇ total innerTerm outerTerm raisedTerm sharedTerm midTerm partTerm
+unfolding entry radius₃ radius₄ radius₅ radius₇ size₅ error₅ centre centre₇ total innerTerm outerTerm raisedTerm sharedTerm midTerm partTerm midSizeTerm partSizeTerm largestTerm
 entry-bare A _ k a b is-three = refl
 entry-bare A _ k a b is-four = refl
+entry-bare A _ k a b is-five = refl
 entry-bare A _ k a b is-seven = refl

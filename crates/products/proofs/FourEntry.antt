@@ -24,7 +24,7 @@ use Rattle.unpacked.specs.declared.Number.{Number}
 use Rattle.products.specs.declared.centred.Centred.{Centred}
 use Rattle.products.specs.declared.sums.Sums.{Sums}
 use Rattle.unpacked.specs.Number.{worth, Below, Holds, Runs}
-use Rattle.products.specs.Running.{Ended}
+use Rattle.products.specs.Running.{Ended, Closes}
 use Rattle.products.specs.Centred.{growth, zeroCentred, AllNumbers, Added, refusedCentred, CentredSum, OneNone}
 use Rattle.products.specs.Continued.{Line, Reaches, grownBy, Continued}
 use Rattle.products.specs.Derived.{outerOf}
@@ -35,7 +35,7 @@ use Rattle.products.proofs.Radii.{grown-below}
 use Rattle.products.proofs.MidRadSteps.{mid-is, inner-is, outer-is}
 use Rattle.products.proofs.CentredSteps.{CentredHolds, all-numbers, centred-runs, centred-none, centred-more, centred-none-yet, one-stays}
 use Rattle.products.proofs.Zeros.{centred-same, is-zero, down-zero, up-zero, mid-zero, inner-zero}
-use Rattle.products.proofs.Ending.{ends-none, Closes, closes, Places}
+use Rattle.products.proofs.Ending.{ends-none, closes, Places}
 
 -- an entry's row i and column j, and the midpoints and radii of A (k columns) and of B (n columns)
 pub record Spot : Type 0 where

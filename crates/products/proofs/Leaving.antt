@@ -1,4 +1,4 @@
--- What a product leaves on each way out: refused by a check, by method 1, and by methods 3, 4 and 7.
+-- What a product leaves on each way out: refused by a check, by method 1, and by methods 3, 4, 5 and 7.
 use mathlib.Core.Path.{_≡_, refl, sym, ap, subst, _∙_}
 use mathlib.Core.Bool.{Bool, true, false, cond}
 use mathlib.Core.List.{List, _++_}

@@ -24,6 +24,11 @@ pub mod FourEntry
 pub mod SevenEntry
 pub mod NearestSteps
 pub mod ThreeSteps
+-- the sums of method 5
+pub mod CentreSizes
+pub mod ErrorBounds
+pub mod FiveRange
+pub mod FiveEntry
 -- the entries and what a product leaves
 pub mod WrittenExt
 pub mod Accepted

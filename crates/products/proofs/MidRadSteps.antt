@@ -1,4 +1,4 @@
--- What a step adds to the running sums of methods 3, 4 and 7: the rounded products of patterns are the terms of cells with a midpoint and a radius.
+-- What a step adds to the running sums of methods 3, 4, 5 and 7: the rounded products of patterns are the terms of cells with a midpoint and a radius.
 use mathlib.Core.Path.{_≡_, sym, ap₂}
 use mathlib.Core.Option.{Option, some, bind}
 use Prim.Native.Nat.{ℕ}
@@ -10,7 +10,7 @@ use Rattle.rounding.specs.Format.{binary32}
 use Rattle.rounding.specs.Rounding.{up, down, negate}
 use Rattle.enclosure.specs.Arithmetic.{of}
 use Rattle.enclosure.specs.Cell.{Cell}
-use Rattle.enclosure.specs.Methods.{part, midTerm, innerTerm, outerTerm, raisedTerm, partTerm, sharedTerm}
+use Rattle.enclosure.specs.Methods.{part, midTerm, innerTerm, outerTerm, largestTerm, raisedTerm, partTerm, sharedTerm}
 use Rattle.binary32.specs.Number.{valueOf, Finite, held}
 use Rattle.binary32.specs.Operations.{Way, mul, with₂}
 use Rattle.binary32.specs.Order.{magnitudeOf}
@@ -45,6 +45,13 @@ module _ (ma ra mb rb : ℕ) where
   unfolding outerTerm bind
   outer-is w f h k e =
       sym (with-held (mul up) (magnitudeOf ra) (magnitudeOf w) (some (valueOf ra)) (outerOf (valueOf mb) (valueOf rb)) (held-size ra _ (held-is ra f) h) (held-size w _ e (outer-above (valueOf mb) (valueOf rb) k)))
+
+  -- v and w hold |mA| + rA and |mB| + rB
+  pub largest-is : (v w : ℕ) → pos 0 ≼ valueOf ra → pos 0 ≼ valueOf rb → held v ≡ outerOf (valueOf ma) (valueOf ra) → held w ≡ outerOf (valueOf mb) (valueOf rb)
+      → with₂ (mul up) (magnitudeOf v) (magnitudeOf w) ≡ largestTerm (of binary32) (cell ma ra) (cell mb rb)
+  unfolding largestTerm
+  largest-is v w h k d e =
+      with-held (mul up) (magnitudeOf v) (magnitudeOf w) (outerOf (valueOf ma) (valueOf ra)) (outerOf (valueOf mb) (valueOf rb)) (held-size v _ d (outer-above (valueOf ma) (valueOf ra) h)) (held-size w _ e (outer-above (valueOf mb) (valueOf rb) k))
 
   -- v holds rB′
   pub raised-is : (k v : ℕ) → Finite ma → pos 0 ≼ valueOf rb → held v ≡ raisedOf (factorOf k) (valueOf mb) (valueOf rb)

@@ -53,7 +53,7 @@ zero-cell lo hi t =
     (omega arith, omega arith)
 
 -- zero alone has the exponent 64
-none-worth : (x : Number) → IsNumber x → x .exp ≤ 64 → worth x ≡ pos 0
+pub none-worth : (x : Number) → IsNumber x → x .exp ≤ 64 → worth x ≡ pos 0
 none-worth x n h = worth-is x (pos 0) (ap (λ z. z *ℤ pos (2 ^ (x .exp))) (natAbs-zero (x .sig) none) ∙ ap pos (zero-mul (2 ^ (x .exp))))
   where
     no : 376 ≤ x .exp → ⊥

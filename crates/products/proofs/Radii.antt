@@ -38,7 +38,7 @@ abbrev pub NotAbove : Option ℤ → Type 0
 NotAbove none = Unit {0}
 NotAbove (some v) = v ≼ pos 0
 
-negate-above : (m : Option ℤ) → NotBelow m → NotAbove (negate m)
+pub negate-above : (m : Option ℤ) → NotBelow m → NotAbove (negate m)
 negate-above none h = tt
 negate-above (some v) h = lin-le (v ∷ []) (le h ∷ []) (search reading depth 20) (omega arith)
 
@@ -57,7 +57,7 @@ down-under X h = go (down binary32 1 X) (down-to binary32 1 (lit< tt) X)
     go (some v) u = lin-le (X ∷ v ∷ []) (le (u .below) ∷ le h ∷ []) (search reading depth 20) (omega arith)
 
 -- ---- magnitudes
-abs-above : (v : ℤ) → pos 0 ≼ abs v
+pub abs-above : (v : ℤ) → pos 0 ≼ abs v
 abs-above v = nonneg _
 
 pub abs-same : (x : ℤ) → pos 0 ≼ x → abs x ≡ x
@@ -93,7 +93,7 @@ unfolding with₂
 product-above u v = times-above (held (magnitudeOf u)) (held (magnitudeOf v)) (size-above u) (size-above v)
 
 -- ---- numbers taken apart
-holds-below : (m : Option ℤ) (r : Number) → Holds m r → NotAbove m → Below r
+pub holds-below : (m : Option ℤ) (r : Number) → Holds m r → NotAbove m → Below r
 holds-below none r h n = lin-le (worth r ∷ pos (MAX binary32) ∷ []) (lt (h .is .0) ∷ le (nonneg (MAX binary32)) ∷ []) (search reading depth 20) (omega arith)
 holds-below (some v) r h n = subst (λ t. t ≼ pos 0) (sym (h .is .0)) n
 

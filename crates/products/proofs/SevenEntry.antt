@@ -20,23 +20,15 @@ use Rattle.unpacked.specs.declared.Number.{Number}
 use Rattle.products.specs.declared.centred.Centred.{Centred}
 use Rattle.products.specs.declared.sums.Sums.{Sums}
 use Rattle.unpacked.specs.Number.{worth, Runs}
-use Rattle.products.specs.Running.{Ended}
+use Rattle.products.specs.Running.{Ended, Closes}
 use Rattle.products.specs.Centred.{OneNone}
 use Rattle.products.specs.Continued.{centreBy, shrunkBy, PartsSum, PartsNone}
 use Rattle.products.specs.Derived.{partOf}
 use Rattle.products.proofs.Writing.{position-entry-from}
-use Rattle.products.proofs.Carrying.{mirrored-is, negate²}
+use Rattle.products.proofs.Carrying.{bind-some, bind-none, mirrored-is, negate²}
 use Rattle.products.proofs.MidRadSteps.{part-is, shared-is}
-use Rattle.products.proofs.Ending.{ends-none, Closes, closes}
+use Rattle.products.proofs.Ending.{ends-none, closes}
 use Rattle.products.proofs.FourEntry.{Spot, entryBy, a-mid, a-rad, b-mid, b-rad, left, right, line, middles, inners, outers, MiddleSum, MiddleNone}
-
-bind-some : (m : Option ℤ) (f : ℤ → Option ℤ) (v : ℤ) → m ≡ some v → bind m f ≡ f v
-unfolding bind
-bind-some m f v e = ap (λ t. bind t f) e
-
-bind-none : (m : Option ℤ) (f : ℤ → Option ℤ) → m ≡ none → bind m f ≡ none
-unfolding bind
-bind-none m f e = ap (λ t. bind t f) e
 
 module _ (p : Spot) where
   -- a and b hold the parts of pair l

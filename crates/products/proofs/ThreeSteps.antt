@@ -18,7 +18,7 @@ use Rattle.unpacked.specs.declared.Number.{Number}
 use Rattle.products.specs.declared.nearest.Nearest.{Nearest}
 use Rattle.products.specs.declared.sums.Sums.{Sums}
 use Rattle.unpacked.specs.Number.{worth, IsNumber, Below, Holds, Runs, Opposite, minusTiny}
-use Rattle.products.specs.Running.{plusDown, Ended}
+use Rattle.products.specs.Running.{plusDown, Ended, Closes}
 use Rattle.products.specs.Centred.{zeroNearest, NearNumbers, NearAdded, refusedNearest, NearestSum, addsOf, OneNone}
 use Rattle.products.specs.Derived.{raisedOf, factorOf}
 use Rattle.products.proofs.Writing.{position-entry-from}
@@ -28,7 +28,7 @@ use Rattle.unpacked.proofs.CornerTerms.{zero-value}
 use Rattle.products.proofs.Zeros.{near-same, up-same, adds-not, near-zero, mid-zero, raised-zero}
 use Rattle.products.proofs.MidRadSteps.{mid-is, raised-is}
 use Rattle.products.proofs.NearestSteps.{NearestHolds, near-runs, near-none, opposite-runs, tiny, tiny-holds, tinied, tiny-more}
-use Rattle.products.proofs.Ending.{ends-none, Closes, closes}
+use Rattle.products.proofs.Ending.{ends-none, closes}
 use Rattle.products.proofs.FourEntry.{Spot, a-mid, a-rad, b-mid, b-rad, left, right, Read, entryBy, middles, outers}
 
 nested : (m : Option ℤ) (g : ℤ → Option ℤ) → bind m (λ s. bind (up binary32 1 (s +ℤ pos tiny)) g) ≡ bind (tinied m) g

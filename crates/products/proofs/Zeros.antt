@@ -53,16 +53,23 @@ module _ (f : ℕ → Option ℤ) (s : ℤ) (l : ℕ) (e : f l ≡ some (pos 0))
   pub near-same : Runs (sum (near binary32 1) f s l) x → Runs (sum (near binary32 1) f s (l + 1)) x
   near-same = any-same (near binary32 1) (λ v n. near-exact binary32 1 (lit< tt) n)
 
-  pub up-same : Runs (negate (sum (up binary32 1) f s l)) x → Runs (negate (sum (up binary32 1) f s (l + 1))) x
+  -- kept with the other sign
+  mirrored-same : (add : ℤ → Option ℤ) → ((v : ℤ) → Num binary32 v → add (v *ℤ pos 1) ≡ some v) → Runs (negate (sum add f s l)) x → Runs (negate (sum add f s (l + 1))) x
   unfolding bind
-  up-same R = record {
+  mirrored-same add keeps R = record {
     is =
         ap negate
-        (sum-next (up binary32 1) f s l (negℤ (worth x)) (some (pos 0)) (mirrored-is _ x R) e
-        ∙ ap (up binary32 1) (plus-zero (negℤ (worth x))) ∙ up-exact binary32 1 (lit< tt) (num-neg (num-of x (R .number))))
+        (sum-next add f s l (negℤ (worth x)) (some (pos 0)) (mirrored-is _ x R) e
+        ∙ ap add (plus-zero (negℤ (worth x))) ∙ keeps (negℤ (worth x)) (num-neg (num-of x (R .number))))
         ∙ ap some (negℤ-negℤ (worth x));
     number = R .number;
   }
+
+  pub up-same : Runs (negate (sum (up binary32 1) f s l)) x → Runs (negate (sum (up binary32 1) f s (l + 1))) x
+  up-same = mirrored-same (up binary32 1) (λ v n. up-exact binary32 1 (lit< tt) n)
+
+  pub near-mirrored-same : Runs (negate (sum (near binary32 1) f s l)) x → Runs (negate (sum (near binary32 1) f s (l + 1))) x
+  near-mirrored-same = mirrored-same (near binary32 1) (λ v n. near-exact binary32 1 (lit< tt) n)
 
 -- the three sums of methods 4 and 7
 pub centred-same : (f g h : ℕ → Option ℤ) (a b c : ℤ) (l : ℕ) (s : Centred) → f l ≡ some (pos 0) → g l ≡ some (pos 0) → h l ≡ some (pos 0)

@@ -2,6 +2,8 @@ pub mod Apart
 pub mod Running
 pub mod Centred
 pub mod Continued
+pub mod Row
+pub mod CentreSize
 pub mod Derived
 pub mod MidRad
 pub mod Written

@@ -1,4 +1,4 @@
--- The entries of methods 3, 4 and 7 from lists of midpoints and radii. Definitions only, for the contracts of private functions.
+-- The entries of methods 3, 4, 5 and 7 from lists of midpoints and radii. Definitions only, for the contracts of private functions.
 use mathlib.Core.List.{List}
 use mathlib.Core.Option.{Option}
 use Prim.Native.Nat.{ℕ, _+_, _*_, _/_, _%_, _≤_}
@@ -11,7 +11,7 @@ use Rattle.enclosure.specs.Methods.{Method, Range, entry}
 use Rattle.binary32.specs.Number.{valueOf}
 use Rattle.products.specs.Derived.{MidRads}
 
--- the cell with the midpoint and the radius at position c; its bounds are set to 0, since methods 3, 4 and 7 do not use them
+-- the cell with the midpoint and the radius at position c; its bounds are set to 0, since methods 3, 4, 5 and 7 do not use them
 abbrev pub midRadAt : (m r : List ℕ) → ℕ → Cell
 midRadAt m r c = record { low = pos 0; high = pos 0; mid = valueOf (getD m c 0); rad = valueOf (getD r c 0) }
 

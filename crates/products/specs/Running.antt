@@ -1,12 +1,14 @@
 -- The running sums of one entry by method 1. Definitions only, for the contracts of private functions
 -- (01: "One entry's running sum is a value that takes a pair of cells and comes back").
-use mathlib.Core.Bool.{Bool, true, cond}
-use mathlib.Core.Option.{Option, bind}
+use mathlib.Core.Path.{_≡_}
+use mathlib.Core.Bool.{Bool, true, false, cond}
+use mathlib.Core.Option.{Option, none, some, bind}
 use Prim.Native.Nat.{ℕ}
 use lib.Dec.{ltb}
-use lib.IntN.{ℤ, _+ℤ_}
+use lib.IntN.{ℤ, negℤ, _+ℤ_}
 use Rattle.rounding.specs.Format.{binary32}
 use Rattle.rounding.specs.Rounding.{down, negate}
+use Rattle.enclosure.specs.Methods.{Range}
 use Rattle.binary32.specs.Number.{valueOf}
 use Rattle.unpacked.specs.declared.Number.{Number}
 use Rattle.products.specs.declared.apart.Apart.{Apart}
@@ -40,6 +42,12 @@ pub record Ended (low high radius : Number) (r : Sums) : Type 0 where
 -- whether one of the sums is none: its exponent is above 653, that of the largest number
 abbrev pub refusedSums : Sums → Bool
 refusedSums s = cond (ltb 653 (s .lower .exp)) true (ltb 653 (s .opposed .exp))
+
+-- s has the bounds of this entry, or it is refused where the entry is none
+pub record Closes (entry : Option Range) (s : Sums) : Type 0 where
+  pub refused : refusedSums s ≡ true → entry ≡ none
+  pub numbers : refusedSums s ≡ false → BothNumbers s
+  pub whole : refusedSums s ≡ false → entry ≡ some (record { lower = worth (s .lower); upper = negℤ (worth (s .opposed)) })
 
 -- s has the lower sum `low` and the negated upper sum `up`, both numbers
 pub record Sum (low up : Option ℤ) (s : Sums) : Type 0 where

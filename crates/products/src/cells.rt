@@ -1,4 +1,4 @@
-// The cells of a matrix converted to midpoints and radii, into slices that the caller lent. Used by methods 3, 4 and 7.
+// The cells of a matrix converted to midpoints and radii, into slices that the caller lent. Used by methods 3, 4, 5 and 7.
 ghost use mathlib.Core.Path.{_≡_};
 ghost use Prim.Native.Nat.{_≤_};
 ghost use lib.ListN.{length};

@@ -1,4 +1,4 @@
-// Values that methods 3, 4 and 7 work out once for each cell, from its midpoint m and radius r, before the entries. Called by converted.rt.
+// Values that methods 3, 4, 5 and 7 work out once for each cell, from its midpoint m and radius r, before the entries. Called by converted.rt.
 ghost use mathlib.Core.Path.{_≡_};
 ghost use Prim.Native.Nat.{_≤_};
 ghost use lib.ListN.{length};
@@ -11,7 +11,7 @@ use binary32::order::negate;
 use binary32::partial::add_up;
 use binary32::partial::mul_up;
 
-// Outer: |m| + r. Raised(c): (c × |m|) + r, method 3's rB'. Part: sign(m) × min(|m|, r), method 7's p.
+// Outer: |m| + r. Raised(c): (c × |m|) + r, method 3's rB'. Part: sign(m) × min(|m|, r), p of methods 5 and 7.
 pub enum Kind {
     Outer,
     Raised(u32),

@@ -1,4 +1,4 @@
-// Products of interval matrices by four methods: 1 (classical), 3, 4 and 7. The result encloses all products of matrices that lie in A and B.
+// Products of interval matrices by five methods: 1 (classical), 3, 4, 5 and 7. The result encloses all products of matrices that lie in A and B.
 ghost use Prim.Native.Nat.{_≤_};
 ghost use lib.ListN.{length};
 ghost use Rattle.refusals.specs.Answer.{outcome};
@@ -15,11 +15,14 @@ use sums::Place;
 
 mod apart;
 mod cells;
+mod centre_size;
 mod centred;
 mod classical;
 mod converted;
 mod corners;
 mod derived;
+mod error;
+mod five;
 mod four;
 mod near;
 mod nearest;
@@ -28,6 +31,7 @@ mod pattern;
 mod plus;
 mod radius;
 mod rounded;
+mod row;
 mod seven;
 mod shifts;
 mod summands;
@@ -52,7 +56,7 @@ fn finish(place: Place, count: usize, lo: &mut [u32], up: &mut [u32]) -> Outcome
     }
 }
 
-// A times B by this method: the bounds of the product in lo and up; by methods 3, 4 and 7 also the midpoints and radii of A and B in ma, ra, mb and rb.
+// A times B by this method: the bounds of the product in lo and up; by methods 3, 4, 5 and 7 also the midpoints and radii of A and B in ma, ra, mb and rb.
 pub fn product(
     method: u32,
     a_rows: usize,

@@ -1,11 +1,11 @@
 // Numbers unpacked into significand and exponent: comparison with the largest number, sign changes, and rounding down to 24 bits.
 ghost use mathlib.Core.Path.{_≡_};
 ghost use mathlib.Core.Option.{some};
-ghost use Prim.Native.Nat.{_^_, _≤_};
+ghost use Prim.Native.Nat.{_^_, _≤_, _<_};
 ghost use lib.Dec.{leb};
 ghost use lib.IntN.{natAbs};
 ghost use Rattle.rounding.specs.Format.{binary32, MAX};
-ghost use Rattle.unpacked.specs.Number.{worth, Normal, Holds, Opposite, Absolute};
+ghost use Rattle.unpacked.specs.Number.{worth, Normal, Holds, Opposite, Absolute, Negative, Scaled};
 ghost use Rattle.unpacked.specs.Cuts.{CutDown, OrLow};
 use crate::shifts::GUARD;
 use crate::shifts::digits;
@@ -19,7 +19,7 @@ use unpacked::Number;
 use unpacked::ZERO_EXPONENT;
 
 // 2^24, one more than the significand of the largest number.
-const PAST_LARGEST: u64 = 0x100_0000;
+pub const PAST_LARGEST: u64 = 0x100_0000;
 
 // How many bits of a sum are dropped when it is rounded to 24: it is first shifted up to 62 bits, and 62 - 24 is 38.
 pub const DROPPED: u32 = 38;
@@ -61,6 +61,28 @@ pub fn absolute(x: Number) -> Number
         return opposite(x);
     }
     x
+}
+
+// -|x|
+pub fn negative(x: Number) -> Number
+    requires { ⌜ Normal x ⌝ }
+    ensures { λ r. ⌜ Negative x r ⌝ }
+{
+    if x.sig < 0 {
+        return x;
+    }
+    opposite(x)
+}
+
+// x × 2^n, for x other than zero.
+pub fn scaled(x: Number, n: u32) -> Number
+    requires { ⌜ Normal x × (0 < natAbs (x .sig)) × (x .exp ≤ 2000) × (n ≤ 300) ⌝ }
+    ensures { λ r. ⌜ Scaled x n r ⌝ }
+{
+    Number {
+        sig: x.sig,
+        exp: x.exp + n,
+    }
 }
 
 // The exponent of a rounded w: e, or that of zero where w is 0.

@@ -11,19 +11,15 @@ use crate::number::cut_down;
 use crate::number::fits;
 use crate::shifts::GUARD;
 use crate::shifts::lowered;
+use crate::summands::GUARD_AND_CARRY;
 use crate::summands::align;
+use crate::summands::carried;
 use unpacked::LARGEST_EXPONENT;
 use unpacked::Number;
 use unpacked::none;
 
 // 2^24 - 1, the significand of the largest number.
 const LARGEST_SIGNIFICAND: i64 = 0xFF_FFFF;
-
-// -2^60: below it a sum with 36 guard bits has 25 bits in front of them, one too many.
-const LONGEST: i64 = -0x1000_0000_0000_0000;
-
-// Dropped where a sum has 25 bits in front of the guard bits.
-const GUARD_AND_CARRY: u32 = GUARD + 1;
 
 // x + y, rounded down to 24 bits, as if there were no largest number.
 fn add_down(x: Number, y: Number) -> Number
@@ -36,10 +32,10 @@ fn add_down(x: Number, y: Number) -> Number
 
 // w × 2^(exp - 436) units, rounded down to 24 bits, for w from -2^61 to -2^59 or 0: its length is known, so no leading zeros are counted.
 fn cut_negative(w: i64, exp: u32) -> Number
-    requires { ⌜ Filled w × (exp ≤ 4000) ⌝ }
+    requires { ⌜ Filled w exp × (exp ≤ 4000) ⌝ }
     ensures { λ r. ⌜ CutNegative w exp r ⌝ }
 {
-    if w < LONGEST {
+    if carried(w) {
         return Number {
             sig: lowered(w, GUARD_AND_CARRY),
             exp: exp + 1,

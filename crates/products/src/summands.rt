@@ -1,6 +1,11 @@
 // Two summands brought to the larger of their exponents and added, before the sum is rounded. Called by plus.rt and near.rt.
 ghost use mathlib.Core.Path.{_≡_};
+ghost use Prim.Native.Nat.{_^_};
+ghost use lib.Dec.{ltb};
+ghost use lib.IntN.{pos, natAbs};
+ghost use Rattle.algebra.specs.Order.{_≼_};
 ghost use Rattle.unpacked.specs.Cuts.{Summands, AlignedIs, earlier, later};
+use crate::shifts::GUARD;
 use crate::shifts::added;
 use crate::shifts::cap;
 use crate::shifts::lowered;
@@ -8,8 +13,14 @@ use crate::shifts::raised;
 use unpacked::Aligned;
 use unpacked::Number;
 
+// -2^60: below it a sum with 36 guard bits has 25 bits in front of them, one too many.
+const LONGEST: i64 = -0x1000_0000_0000_0000;
+
+// Dropped where a sum has 25 bits in front of the guard bits.
+pub const GUARD_AND_CARRY: u32 = GUARD + 1;
+
 // The summand with the larger exponent; x where the exponents are equal.
-pub fn first(x: Number, y: Number) -> Number
+fn first(x: Number, y: Number) -> Number
     ensures { λ r. ⌜ r ≡ earlier x y ⌝ }
 {
     if x.exp < y.exp {
@@ -19,7 +30,7 @@ pub fn first(x: Number, y: Number) -> Number
 }
 
 // The other summand.
-pub fn second(x: Number, y: Number) -> Number
+fn second(x: Number, y: Number) -> Number
     ensures { λ r. ⌜ r ≡ later x y ⌝ }
 {
     if x.exp < y.exp {
@@ -40,4 +51,12 @@ pub fn align(x: Number, y: Number) -> Aligned
         w: added(raised(b.sig), lowered(raised(s.sig), d)),
         exp: b.exp,
     }
+}
+
+// Whether w, a sum of two summands of which neither is above zero, has 25 bits in front of its guard bits.
+pub fn carried(w: i64) -> bool
+    requires { ⌜ w ≼ pos 0 ⌝ }
+    ensures { λ r. ⌜ r ≡ ltb (2 ^ 60) (natAbs w) ⌝ }
+{
+    w < LONGEST
 }

@@ -90,7 +90,7 @@ impl Sums {
     }
 }
 
-// The bounds of an entry by methods 3, 4 and 7: lower centre - radius, rounded down, and upper centre + radius, rounded up.
+// The bounds of an entry by methods 3, 4, 5 and 7: lower centre - radius, rounded down, and upper centre + radius, rounded up.
 // `opposed` is the negated upper centre, and `radius` the negated radius.
 pub fn ends(lower: Number, opposed: Number, radius: Number) -> Sums
     requires { ⌜ IsNumber lower × IsNumber opposed × IsNumber radius ⌝ }

@@ -1,23 +1,25 @@
 -- Errors: the directed roundings are less than a step off and the nearest at most half a step, so at most 1 / 2 ^ (prec - 1), or half of that, of
--- the exact value, and what D leaves of a unit. Assumes nothing.
+-- the exact value, and what D leaves of a unit; and the nearest at most half the spacing of the result. Assumes nothing.
 use mathlib.Core.Path.{_≡_, sym, ap, subst, subst₂}
 use mathlib.Core.Logic.{⊎-elim}
 use Prim.Native.Nat.{ℕ, suc, _+_, _-_, _*_, _^_, _≤_, _<_, min}
 use native.Mathlib.Omega.{arith}
-use native.Mathlib.Nat.{le-trans, mul-le-mul-left, le-of-mul-le-mul-right}
+use native.Mathlib.Nat.{le-trans, mul-le-mul-left, mul-le-mul-right, le-of-mul-le-mul-right}
+use lib.Pow.{pow-mono}
 use lib.IntN.{ℤ, pos, negsuc, negℤ, natAbs}
 use Rattle.algebra.specs.Order.{_≼_}
 use Rattle.algebra.proofs.Order.{≼-trans, neg-mono}
 use Rattle.algebra.proofs.Natural.{to-le}
-use Rattle.rounding.specs.Format.{Format, half, MAX}
+use Rattle.rounding.specs.Format.{Format, half, MAX, expo, spacing}
 use Rattle.rounding.specs.Rounding.{ex, step, lo, hi, nr}
 use Rattle.rounding.specs.Property.{off, IsUp, IsDown, IsNear, Err}
 use Rattle.rounding.proofs.Grid.{scale}
+use Rattle.rounding.proofs.Spacing.{expo-reaches}
 use Rattle.rounding.proofs.Bracket.{lo-low, lo-near, hi-high, hi-near, hi-least}
 use Rattle.rounding.proofs.Sign.{max-form, of-neg-le, natAbs-neg, off-neg, dist, dist-neg}
 use Rattle.rounding.proofs.Directed.{up-unique, up-pos, up-neg, num-high, mirrored}
-use Rattle.rounding.proofs.Closest.{gap, nr-half}
-use Rattle.rounding.proofs.Nearest.{near-gap}
+use Rattle.rounding.proofs.Closest.{gap, nr-half, nr-large}
+use Rattle.rounding.proofs.Nearest.{near-magnitude, near-gap}
 
 module _ (f : Format) (D : ℕ) (d : 0 < D) where
   -- ---- directed: less than a step
@@ -85,3 +87,10 @@ module _ (f : Format) (D N : ℕ) (d : 0 < D) where
 module _ (f : Format) (D : ℕ) (d : 0 < D) where
   pub near-err : {X v : ℤ} → IsNear f D X v → Err (2 * half f) D X v
   near-err {X} n = record { bound = rw (near-gap f D d n) (nr-err f D (natAbs X) d) }
+
+  pub near-spacing : {X v : ℤ} → IsNear f D X v → 2 * off D X v ≤ spacing f v * D
+  near-spacing {X} {v} n = omega (arith, near-gap f D d n, nr-half f D (natAbs X) d, mul-le-mul-right D (pow-mono larger))
+    where
+      larger : ex f D (natAbs X) ≤ expo f (natAbs v)
+      larger =
+          ⊎-elim (λ (z : ex f D (natAbs X) ≡ 0). omega arith) (λ l. expo-reaches f (rw (near-magnitude f D d n) l)) (nr-large f D (natAbs X) d)

@@ -13,6 +13,7 @@ pub mod DirectedLaws
 pub mod Nearest
 pub mod NearestLaws
 pub mod Error
+pub mod SpacingTimes
 -- bit patterns, and what a machine computes
 pub mod Pattern
 pub mod Encoding

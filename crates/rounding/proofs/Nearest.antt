@@ -157,7 +157,11 @@ module _ (f : Format) (D : ℕ) (d : 0 < D) where
   pub near-iff : (X v : ℤ) → (near f D X ≡ some v) ↔ IsNear f D X v
   near-iff X v = (near-is, near-only)
 
-  -- ---- its distance is that of nr
+  -- ---- its magnitude is nr, and so its distance that of nr
+  pub near-magnitude : {X v : ℤ} → IsNear f D X v → natAbs v ≡ nr f D (natAbs X)
+  near-magnitude {X = pos N} n = ap natAbs (near-shape n)
+  near-magnitude {X = negsuc k} {v} n = sym (natAbs-neg v) ∙ ap natAbs (near-shape (near-neg n))
+
   near-gap-pos : {N : ℕ} {v : ℤ} → IsNear f D (pos N) v → off D (pos N) v ≡ gap (nr f D N * D) N
   near-gap-pos {N} n = ap (off D (pos N)) (near-shape n) ∙ dist₂ (nr f D N * D) N
 

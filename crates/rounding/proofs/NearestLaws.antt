@@ -1,9 +1,10 @@
--- Laws of the nearest: it does not jump over a number, keeps numbers, grows with X / D, and depends on the fraction only. Assumes nothing.
-use mathlib.Core.Path.{_≡_, sym, ap, _∙_, subst}
-use mathlib.Core.Bool.{cond}
+-- Laws of the nearest: it does not jump over a number, keeps numbers, grows with X / D, depends on the fraction only, and on the sign only by
+-- its own sign. Assumes nothing.
+use mathlib.Core.Path.{_≡_, refl, sym, ap, _∙_, subst}
+use mathlib.Core.Bool.{Bool, true, false, cond}
 use mathlib.Core.List.{[], _∷_}
 use mathlib.Core.Logic.{⊎-elim}
-use mathlib.Core.Option.{none, some}
+use mathlib.Core.Option.{none, some, Option·map}
 use Prim.Native.Nat.{ℕ, suc, _*_, _≤_, _<_}
 use native.Mathlib.Omega.{arith}
 use native.Mathlib.Nat.{mul-comm, mul-le-mul-right, mul-pos}
@@ -11,12 +12,14 @@ use lib.Pow.{pow-pos}
 use lib.Dec.{leb}
 use lib.IntN.{ℤ, pos, negsuc, negℤ, natAbs, _+ℤ_, _*ℤ_}
 use Rattle.algebra.specs.Order.{_≼_, _≺_}
+use Rattle.algebra.specs.Absolute.{abs}
+use Rattle.algebra.proofs.Reading.{by-ring}
 use Rattle.algebra.proofs.Linear.{reading, le, lt, lin-le, lin-lt, lin-eq, lin-absurd}
 use Rattle.algebra.proofs.Order.{_⊠_, ≼-refl, ≼-antisym, ≼-of-≡, ≺-step, ≼-or-≺}
 use Rattle.algebra.proofs.Natural.{of-le, to-eq}
 use Rattle.algebra.proofs.Absolute.{abs-mul}
 use Rattle.rounding.specs.Format.{Format, MAX, Form, Num}
-use Rattle.rounding.specs.Rounding.{negate, near}
+use Rattle.rounding.specs.Rounding.{nr, negate, signed, near}
 use Rattle.rounding.specs.Property.{IsNear}
 use Rattle.rounding.proofs.Sign.{some-injective, natAbs-neg, closer-above, closer-below}
 use Rattle.rounding.proofs.Closest.{nr-scale}
@@ -74,6 +77,12 @@ module _ (f : Format) (D : ℕ) (d : 0 < D) where
           let e : X ≡ Y = lin-eq (X ∷ Y ∷ v ∷ w ∷ pos D ∷ []) (le p ∷ le q ∷ le h ∷ []) (search reading depth 20) (omega arith) in
           ≼-of-≡ (some-injective (sym a ∙ ap (near f D) e ∙ b))
 
+-- a number as it stands is kept
+pub near-kept : {f : Format} {v : ℤ} → Num f v → near f 1 v ≡ some v
+near-kept {f} {v} n =
+    let g : v ≡ v *ℤ pos 1 = by-ring (v ∷ []) (search reading depth 20) tt in
+    ap (near f 1) g ∙ near-exact f 1 (omega arith) n
+
 -- ---- scaling: a common factor of X and D does not matter
 near-scale-pos : (f : Format) (c D N : ℕ) → 0 < c → 0 < D → near f (c * D) (pos (c * N)) ≡ near f D (pos N)
 unfolding near
@@ -91,3 +100,22 @@ near-mono₂ f D E d e X Y {v} {w} h a b =
     near-mono f (E * D) (mul-pos e d) {X = pos E *ℤ X} {Y = pos D *ℤ Y}
     (lin-le (X ∷ Y ∷ pos D ∷ pos E ∷ []) (le h ∷ []) (search reading depth 20) (omega arith))
     (near-scale f E D e d X ∙ a) (ap (λ n. near f n (pos D *ℤ Y)) (mul-comm E D) ∙ near-scale f D E d e Y ∙ b)
+
+-- ---- magnitudes: the nearest of |X| is |the nearest of X|
+signed-abs : (X : ℤ) (v : ℕ) → abs (signed X v) ≡ pos v
+signed-abs (pos n) v = refl
+signed-abs (negsuc n) v = ap pos (natAbs-neg (pos v))
+
+pub near-abs : (f : Format) (D : ℕ) (X : ℤ) → near f D (abs X) ≡ Option·map abs (near f D X)
+unfolding near
+near-abs f D X = go (leb v (MAX f))
+  where
+    v : ℕ
+    v = nr f D (natAbs X)
+
+    go : (t : Bool) → cond t (some (pos v)) none ≡ Option·map abs (cond t (some (signed X v)) none)
+    go true = ap some (sym (signed-abs X v))
+    go false = refl
+
+pub near-mono-abs : (f : Format) (D : ℕ) → 0 < D → (X : ℤ) {Y v w : ℤ} → abs X ≼ Y → near f D X ≡ some v → near f D Y ≡ some w → abs v ≼ w
+near-mono-abs f D d X h a b = near-mono f D d h (near-abs f D X ∙ ap (Option·map abs) a) b

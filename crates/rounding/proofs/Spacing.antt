@@ -1,12 +1,14 @@
--- Spacing: after the number v the next of larger magnitude is v + spacing f v. Assumes nothing.
-use mathlib.Core.Path.{_≡_, subst}
+-- Spacing: after the number v the next of larger magnitude is v + spacing f v; it grows with the magnitude, and is about 1 / 2 ^ prec of it.
+-- Assumes nothing.
+use mathlib.Core.Path.{_≡_, ap, subst}
 use mathlib.Core.Logic.{inl, inr, ⊎-elim}
 use Prim.Native.Nat.{ℕ, _+_, _*_, _^_, _≤_, _<_}
 use native.Mathlib.Omega.{arith}
-use native.Mathlib.Nat.{mul-le-mul-right, lt-of-mul-lt-mul-right}
+use native.Mathlib.Nat.{le-trans, mul-le-mul-right, lt-of-mul-lt-mul-left, lt-of-mul-lt-mul-right}
+use lib.Pow.{pow-mono}
 use lib.IntN.{ℤ, natAbs}
-use Rattle.rounding.specs.Format.{Format, Form, expo, spacing}
-use Rattle.rounding.proofs.Grid.{expo-hi, expo-lo, on-grid, form-of}
+use Rattle.rounding.specs.Format.{Format, half, Form, expo, spacing}
+use Rattle.rounding.proofs.Grid.{prec-half, pow-back, expo-hi, expo-lo, on-grid, form-of}
 
 -- by magnitudes: `spacing f v` is 2 ^ expo f (natAbs v)
 module _ (f : Format) where
@@ -36,3 +38,17 @@ module _ (f : Format) where
   pub spacing-next : (v : ℤ) → Form f (natAbs v)
       → Form f (natAbs v + spacing f v) × ((w : ℤ) → Form f (natAbs w) → natAbs v < natAbs w → natAbs v + spacing f v ≤ natAbs w)
   spacing-next v F = (next-form F, λ w G h. next-least F G h)
+
+  -- ---- it grows with the magnitude
+  pub expo-reaches : {j n : ℕ} → half f * 2 ^ j ≤ n → j ≤ expo f n
+  expo-reaches {j} {n} h = pow-back (lt-of-mul-lt-mul-left (half f) (omega (arith, h, expo-hi f n, ap (λ x. x * 2 ^ expo f n) (prec-half f))))
+
+  pub spacing-mono : (v w : ℤ) → natAbs v ≤ natAbs w → spacing f v ≤ spacing f w
+  spacing-mono v w h = pow-mono (⊎-elim (λ (e : expo f (natAbs v) ≡ 0). omega arith) (λ l. expo-reaches (le-trans l h)) (expo-lo f (natAbs v)))
+
+  -- ---- the magnitude is less than 2 ^ prec times the spacing, and from the least normal number on at least half of that
+  pub spacing-high : (v : ℤ) → natAbs v < 2 * half f * spacing f v
+  spacing-high v = omega (arith, expo-hi f (natAbs v), ap (λ x. x * spacing f v) (prec-half f))
+
+  pub spacing-low : (v : ℤ) → half f * spacing f v ≤ natAbs v + half f
+  spacing-low v = ⊎-elim (λ e. omega (arith, ap (λ j. half f * 2 ^ j) e)) (λ l. omega (arith, l)) (expo-lo f (natAbs v))

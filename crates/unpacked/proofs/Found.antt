@@ -1,15 +1,13 @@
--- What the code of `add_down`, `add_negative` and `add_near` found, with the summands put in order.
-use mathlib.Core.Path.{_≡_, refl, sym, ap, _∙_, subst}
+-- What the code of `add_down`, `add_negative`, `add_near` and `add_near_negative` found, with the summands put in order.
+use mathlib.Core.Path.{_≡_, refl, sym, subst}
 use mathlib.Core.Bool.{Bool, true, false}
-use Prim.Native.Nat.{_-_, _^_, _≤_, min}
+use Prim.Native.Nat.{_^_, _≤_}
 use lib.Dec.{ltb}
-use lib.IntN.{ℤ, pos, natAbs, _+ℤ_, _*ℤ_}
-use Rattle.rounding.specs.Format.{binary32}
-use Rattle.rounding.specs.Rounding.{down, near}
+use lib.IntN.{natAbs, _+ℤ_}
 use Rattle.unpacked.specs.declared.Number.{Number}
 use Rattle.unpacked.specs.declared.Aligned.{Aligned}
 use Rattle.unpacked.specs.Number.{worth, Below}
-use Rattle.unpacked.specs.Cuts.{IsFloor, Summands, SumDown, SumNear, choose, earlier, later, AlignedIs, CutDown, Filled, CutNegative, CutNear, Marked}
+use Rattle.unpacked.specs.Cuts.{Summands, DownOf, SumDown, NearOf, SumNear, choose, earlier, later, AlignedIs, CutDown, Filled, CutNegative, CutNear}
 use Rattle.unpacked.proofs.Ordering.{Ordered, ordered, sum-ordered}
 use Rattle.unpacked.proofs.Worths.{exp-low}
 use Rattle.unpacked.proofs.Adding.{w-short, sum-down}
@@ -30,7 +28,7 @@ module _ {x y : Number} (s : Summands x y) where
   same = sum-ordered x y u v refl refl
 
   turned : (r : Number) → SumDown u v r → SumDown x y r
-  turned r d = record { normal = d .normal; is = subst (λ t. IsFloor t (worth r)) same (d .is); downs = sym (ap (down binary32 1) same) ∙ d .downs; high = d .high }
+  turned r = subst (λ t. DownOf t r) same
 
   module _ (a : Aligned) (h : AlignedIs x y a) where
     pub aligned-form : (natAbs (a .w) ≤ 2 ^ 61) × (64 ≤ a .exp) × (a .exp ≤ 4000)
@@ -46,6 +44,12 @@ module _ {x y : Number} (s : Summands x y) where
         let o = in-order .both in
         turned r (sum-down u v (o .first) (o .second) (in-order .order) r (subst (λ t. CutDown t (u .exp) r) (h .sums) (subst (λ e. CutDown (a .w) e r) (h .exps) c)) (o .first-high))
 
+    pub near-sum-found : (r : Number) → CutNear (a .w) (a .exp) r → SumNear x y r
+    near-sum-found r c =
+        let o = in-order .both in
+        subst (λ t. NearOf t r) same
+        (sum-near u v (o .first) (o .second) (in-order .order) r (subst (λ t. CutNear t (u .exp) r) (h .sums) (subst (λ e. CutNear (a .w) e r) (h .exps) c)) (o .first-high))
+
     -- where neither is above zero
     module _ (bx : Below x) (by : Below y) where
       below : Below u × Below v
@@ -56,30 +60,12 @@ module _ {x y : Number} (s : Summands x y) where
           go true = (by, bx)
           go false = (bx, by)
 
-      pub negative-form : Filled (a .w)
+      pub negative-form : Filled (a .w) (a .exp)
       negative-form =
           let o = in-order .both in
-          subst Filled (sym (h .sums)) (filled u v (o .first) (o .second) (in-order .order) (below .0) (below .1))
+          subst (Filled (a .w)) (sym (h .exps)) (subst (λ t. Filled t (u .exp)) (sym (h .sums)) (filled u v (o .first) (o .second) (in-order .order) (below .0) (below .1)))
 
       pub negative-found : (r : Number) → CutNegative (a .w) (a .exp) r → SumDown x y r
       negative-found r c =
           let o = in-order .both in
           turned r (negative-sum u v (o .first) (o .second) (in-order .order) (below .0) (below .1) r (o .first-high) (subst (λ t. CutNegative t (u .exp) r) (h .sums) (subst (λ e. CutNegative (a .w) e r) (h .exps) c)))
-
--- the same of `add_near`
-pub near-sum-found : (x y u v r : Number) (w s : ℤ) → Summands x y → u ≡ earlier x y → v ≡ later x y
-    → Marked (v .sig *ℤ pos (2 ^ 36)) (2 ^ min (u .exp - v .exp) 61) s → w ≡ u .sig *ℤ pos (2 ^ 36) +ℤ s → CutNear w (u .exp) r → SumNear x y r
-near-sum-found x y u v r w s p eu ev m ew h = record {
-  normal = d .normal;
-  nears = sym (ap (near binary32 1) same) ∙ d .nears;
-  high = d .high;
-}
-  where
-    o : Ordered u v
-    o = ordered p u v eu ev
-
-    same : worth u +ℤ worth v ≡ worth x +ℤ worth y
-    same = sum-ordered x y u v eu ev
-
-    d : SumNear u v r
-    d = sum-near u v (o .both .first) (o .both .second) (o .order) s m r (subst (λ t. CutNear t (u .exp) r) ew h) (o .both .first-high)

@@ -1,10 +1,10 @@
 -- To nearest by one shift: half of the divisor less one is added before, and the last digit of the quotient.
-use mathlib.Core.Path.{_≡_, refl, sym, ap, _∙_}
+use mathlib.Core.Path.{_≡_, refl, sym, _∙_}
 use mathlib.Core.Bool.{Bool, true, false, not}
 use mathlib.Core.List.{[], _∷_}
 use Prim.Native.Nat.{ℕ, _+_, _*_, _%_, _^_, _≤_, _<_}
 use native.Mathlib.Omega.{arith}
-use native.Mathlib.Nat.{div-add-mod', div-lt-iff-lt-mul, lt-of-lt-of-le}
+use native.Mathlib.Nat.{div-lt-iff-lt-mul, lt-of-lt-of-le}
 use lib.Dec.{T, ltb, ltb→lt, nltb→le}
 use lib.IntN.{ℤ, pos, negsuc, natAbs, _+ℤ_, _*ℤ_}
 use lib.Signed.{shrZ}
@@ -14,7 +14,7 @@ use Rattle.algebra.proofs.Linear.{reading, le, lt, eq, lin-le, lin-lt}
 use Rattle.algebra.proofs.Natural.{of-le, of-lt}
 use Rattle.rounding.specs.Quotient.{rem, bit}
 use Rattle.rounding.proofs.Floor.{rem-is, rem-lt, near-floor}
-use Rattle.unpacked.specs.Cuts.{nearestOf, Marked}
+use Rattle.unpacked.specs.Cuts.{nearestOf}
 use Rattle.binary32.proofs.Rests.{shr-less}
 
 pub rem-two : (c : ℤ) → rem c 2 ≡ natAbs c % 2
@@ -54,19 +54,5 @@ pub shr-half : (t : ℤ) (m : ℕ) → 2 ≤ m → natAbs t ≤ 2 ^ 62 → natAb
 shr-half (pos n) m l h = omega (arith, div-lt-iff-lt-mul {x = n} {y = 2 ^ 61 + 1} (lt-of-lt-of-le (omega arith) l) .1 (omega arith))
 shr-half (negsuc n) m l h = omega (arith, div-lt-iff-lt-mul {x = n} {y = 2 ^ 61} (lt-of-lt-of-le (omega arith) l) .1 (omega arith))
 
-pub shr-back : (t : ℤ) (m : ℕ) → natAbs (shrZ t m) * m ≤ natAbs t + m
-shr-back (pos n) m = omega (arith, div-add-mod' n m)
-shr-back (negsuc n) m = omega (arith, div-add-mod' n m)
-
 pub double-few : (c : ℤ) → natAbs c ≤ 2 ^ 61 → natAbs (shrZ c 2 *ℤ pos 2) ≤ 2 ^ 62
 double-few c h = omega (arith, natAbs-mul (shrZ c 2) (pos 2), shr-less c 2)
-
--- ---- what the code found: a quotient q that is exact, or not
-pub marked-kept : (t q : ℤ) (m : ℕ) → q ≡ shrZ t m → q *ℤ pos m ≡ t → Marked t m q
-marked-kept t q m e h = record { kept = λ k. e; lost = λ n. absurd (n (ap (λ a. a *ℤ pos m) (sym e) ∙ h)) }
-
-pub marked-lost : (t q r : ℤ) (m : ℕ) → q ≡ shrZ t m → (q *ℤ pos m ≡ t → ⊥) → r ≡ shrZ q 2 *ℤ pos 2 +ℤ pos 1 → Marked t m r
-marked-lost t q r m e h i = record {
-  kept = λ k. absurd (h (ap (λ a. a *ℤ pos m) e ∙ k));
-  lost = λ n. i ∙ ap (λ a. shrZ a 2 *ℤ pos 2 +ℤ pos 1) e;
-}

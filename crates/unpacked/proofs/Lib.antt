@@ -5,9 +5,11 @@ pub mod Ranges
 pub mod Floors
 pub mod Leading
 pub mod Worths
+pub mod Quotients
 pub mod Cutting
 pub mod Packing
 pub mod Opposites
+pub mod Scaling
 pub mod Unpacking
 -- their sums, down and to nearest
 pub mod Ordering
@@ -15,11 +17,9 @@ pub mod FarShifts
 pub mod CutSums
 pub mod Adding
 pub mod Nearing
-pub mod Sticky
 pub mod Halves
 pub mod NearShifts
 pub mod NearCuts
-pub mod Marks
 pub mod NearSum
 pub mod Negatives
 pub mod Limits

@@ -28,10 +28,11 @@ use Rattle.unpacked.proofs.Worths.{exp-low, fits-below}
 use Rattle.unpacked.proofs.ExactProducts.{exact-worths}
 use Rattle.unpacked.proofs.Shortening.{cut-few, cut-long, cut-kind, over-low, over-high, over-exact, down-limited, kept-worth, kept-normal}
 use Rattle.unpacked.proofs.Limits.{limit-fits, limit-near-fits}
-use Rattle.unpacked.proofs.Nearing.{near-wide, nearest-few, nearest-long, signed-times, signed-abs}
+use Rattle.unpacked.proofs.Quotients.{nearest-few, nearest-long, signed-times, signed-abs}
+use Rattle.unpacked.proofs.Nearing.{near-wide}
 
 -- ---- of what two patterns hold
-held-number : (v : ℤ) (x : Number) → Holds (some v) x → IsNumber x × (worth x ≡ v)
+pub held-number : (v : ℤ) (x : Number) → Holds (some v) x → IsNumber x × (worth x ≡ v)
 held-number v x h = (record { normal = h .part .normal; within = subst (λ t. natAbs t ≤ MAX binary32) (sym (h .is .0)) (h .is .1) }, h .is .0)
 
 pub unpacked-number : (p : ℕ) (x : Number) → finite p ≡ true → Unpacked p x → IsNumber x × (worth x ≡ valueOf p)

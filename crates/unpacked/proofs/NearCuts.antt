@@ -1,15 +1,14 @@
 -- What `cut_near` computes of a value that stands for a sum: the sum rounded to nearest.
-use mathlib.Core.Path.{_≡_, refl, sym, ap, _∙_, subst}
+use mathlib.Core.Path.{_≡_, sym, ap, _∙_, subst}
 use mathlib.Core.Bool.{cond}
 use mathlib.Core.List.{[], _∷_}
 use mathlib.Core.Logic.{_⊎_, ⊎-elim}
 use mathlib.Core.Option.{none, some}
-use Prim.Native.Nat.{ℕ, zero, suc, _+_, _-_, _*_, _^_, _≤_, _<_}
-use native.Mathlib.Omega.{arith}
-use native.Mathlib.Nat.{le-trans, eq-zero-or-pos, zero-mul}
-use lib.Pow.{pow-pos, pow-add}
-use lib.IntN.{ℤ, pos, negsuc, natAbs, _*ℤ_}
-use lib.Signed.{mag}
+use Prim.Native.Nat.{ℕ, suc, _+_, _-_, _*_, _^_, _≤_, _<_}
+use native.Mathlib.Omega.{arith, by-contra}
+use native.Mathlib.Nat.{le-trans, eq-zero-or-pos, zero-mul, mul-le-mul}
+use lib.Pow.{pow-pos, pow-add, pow-mono}
+use lib.IntN.{ℤ, pos, natAbs, _*ℤ_}
 use lib.Ieee.Nearest.{closest}
 use borrow.Author.Tests.{le-leb}
 use Rattle.algebra.proofs.Absolute.{natAbs-mul}
@@ -20,14 +19,13 @@ use Rattle.algebra.proofs.Power.{pow-split}
 use Rattle.rounding.specs.Format.{binary32, MAX}
 use Rattle.rounding.specs.Rounding.{signed, near}
 use Rattle.rounding.proofs.NearestLaws.{near-exact}
-use Rattle.binary32.proofs.Ints.{natAbs-mag}
 use Rattle.unpacked.specs.declared.Number.{Number}
 use Rattle.unpacked.specs.Number.{worth}
-use Rattle.unpacked.specs.Cuts.{NearOf, limitedNear, room, nearestOf, CutNear}
+use Rattle.unpacked.specs.Cuts.{NearOf, limitedNear, nearestOf, CutNear}
 use Rattle.unpacked.proofs.Floors.{floor-self, less}
-use Rattle.unpacked.proofs.Leading.{Lead, lead-of, lead-far, wide-abs}
 use Rattle.unpacked.proofs.Worths.{worth-is, few-max}
-use Rattle.unpacked.proofs.Nearing.{nearest-multiple, nearest-few, nearest-long, near-wide, near-moved, signed-times, signed-abs}
+use Rattle.unpacked.proofs.Quotients.{nearest-multiple, nearest-few, nearest-long, signed-times, signed-abs}
+use Rattle.unpacked.proofs.Nearing.{near-wide, near-moved}
 use Rattle.unpacked.proofs.FarShifts.{le-or-lt, natAbs-zero, none-left}
 
 -- ---- a value of 24 digits is its own rounding
@@ -41,14 +39,6 @@ near-small X h =
 
     within : natAbs X ≤ MAX binary32
     within = le-trans h few-max
-
-wide-long : (w : ℤ) (z : ℕ) → 0 < natAbs w → Lead (mag w) z → 2 ^ 61 ≤ natAbs w * 2 ^ z
-wide-long (pos n) z p l = l .lower p
-wide-long (negsuc n) z p l = go n (l .lower) (l .lone)
-  where
-    go : (n : ℕ) → (0 < n → 2 ^ 61 ≤ n * 2 ^ z) → (n ≡ 0 → z ≡ 62) → 2 ^ 61 ≤ suc n * 2 ^ z
-    go zero a b = omega (arith, ap (λ x. 2 ^ x) (b refl))
-    go (suc n) a b = omega (arith, a (omega arith), pow-pos z)
 
 -- over plain numbers, where nothing is lost
 module _ (X w : ℤ) (E K Z M k : ℕ) (p : 0 < M) (e : E * 4 ≡ M * Z) (eK : K ≡ M * k) (h : w *ℤ pos E ≡ X *ℤ pos K *ℤ pos (2 ^ 36)) where
@@ -65,11 +55,11 @@ module _ (X w : ℤ) (E K Z M k : ℕ) (p : 0 < M) (e : E * 4 ≡ M * Z) (eK : K
       turn = lin-eq (X ∷ pos k ∷ pos M ∷ []) [] (search reading depth 20) (omega arith)
 
 -- ---- what the code of `cut_near` found, of w that stands for X, 36 places above it
-module _ (X w : ℤ) (be : ℕ) (short : natAbs w < 2 ^ 62) (r : Number) (h : CutNear w be r) (high : be ≤ 4000)
+module _ (X w : ℤ) (be : ℕ) (r : Number) (h : CutNear w be r) (high : be ≤ 4000)
     (stands : near binary32 (2 ^ 436) (w *ℤ pos (2 ^ be)) ≡ near binary32 1 X)
     (kind : (w *ℤ pos (2 ^ be) ≡ X *ℤ pos (2 ^ 400) *ℤ pos (2 ^ 36)) ⊎ ((2 ^ 58 < natAbs w) × (413 ≤ be))) where
   abbrev z : ℕ
-  z = room w
+  z = h .places
 
   abbrev wide : ℤ
   wide = w *ℤ pos (2 ^ z)
@@ -77,14 +67,11 @@ module _ (X w : ℤ) (be : ℕ) (short : natAbs w < 2 ^ 62) (r : Number) (h : Cu
   abbrev c : ℕ
   c = closest (natAbs wide) (2 ^ 38)
 
-  led : Lead (mag w) z
-  led = lead-of w short
-
   wide-is : natAbs wide ≡ natAbs w * 2 ^ z
   wide-is = natAbs-mul w (pos (2 ^ z))
 
   wide-few : natAbs wide ≤ 2 ^ 62
-  wide-few = subst (λ t. t ≤ 2 ^ 62) (sym wide-is) (wide-abs w z led)
+  wide-few = subst (λ t. t ≤ 2 ^ 62) (sym wide-is) (h .most)
 
   sig-abs : natAbs (r .sig) ≡ c
   sig-abs = ap natAbs (h .sigs) ∙ signed-abs wide c
@@ -104,7 +91,7 @@ module _ (X w : ℤ) (be : ℕ) (short : natAbs w < 2 ^ 62) (r : Number) (h : Cu
 
   module _ (p : 0 < natAbs w) where
     wide-large : 2 ^ 61 ≤ natAbs wide
-    wide-large = subst (λ t. 2 ^ 61 ≤ t) (sym wide-is) (wide-long w z p led)
+    wide-large = subst (λ t. 2 ^ 61 ≤ t) (sym wide-is) (h .least p)
 
     long : 2 ^ 23 ≤ natAbs (r .sig)
     long = subst (λ t. 2 ^ 23 ≤ t) (sym sig-abs) (nearest-long (natAbs wide) (2 ^ 38) (pow-pos 38) wide-large)
@@ -153,7 +140,10 @@ module _ (X w : ℤ) (be : ℕ) (short : natAbs w < 2 ^ 62) (r : Number) (h : Cu
                 ∙ nearest-multiple (X *ℤ pos k) (2 ^ 38) (pow-pos 38)
 
         far : (2 ^ 58 < natAbs w) × (413 ≤ be) → NearOf X r
-        far (f, g) = absurd (omega (arith, h .some p, lead-far led (omega (arith, natAbs-mag w))))
+        far (f, g) = absurd (omega (arith, h .some p, by-contra z 13 (λ (i : 13 < z). no (mul-le-mul f (pow-mono {i = 14} {j = z} i)))))
+          where
+            no : suc (2 ^ 58) * 2 ^ 14 ≤ natAbs w * 2 ^ z → ⊥
+            no i = omega (arith, h .most)
 
     some-near : NearOf X r
     some-near = ⊎-elim over under (le-or-lt 400 (r .exp))

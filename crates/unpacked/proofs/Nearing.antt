@@ -4,9 +4,9 @@ use mathlib.Core.Bool.{Bool, true, false, not, cond}
 use mathlib.Core.List.{[], _∷_}
 use mathlib.Core.Logic.{_⊎_, inl, inr, ⊎-elim}
 use mathlib.Core.Option.{Option, none, some}
-use Prim.Native.Nat.{ℕ, zero, suc, _+_, _-_, _*_, _/_, _%_, _^_, _≤_, _<_}
+use Prim.Native.Nat.{ℕ, suc, _+_, _-_, _*_, _^_, _≤_, _<_}
 use native.Mathlib.Omega.{arith}
-use native.Mathlib.Nat.{div-add-mod, mul-div-cancel, mul-pos, mul-one, zero-mul, eq-zero-or-pos, eq-or-lt-of-le, le-of-mul-le-mul-left, le-div-iff-mul-le, lt-of-not-le, le-of-eq, not-le-of-lt}
+use native.Mathlib.Nat.{mul-one, zero-mul, eq-zero-or-pos, eq-or-lt-of-le, lt-of-not-le, le-of-eq, not-le-of-lt}
 use lib.Pow.{pow-pos, pow-add}
 use lib.Dec.{T, leb, ltb, ltb→lt, nltb→le}
 use lib.IntN.{ℤ, pos, negsuc, negℤ, natAbs, _*ℤ_}
@@ -19,56 +19,14 @@ use Rattle.algebra.proofs.Reading.{by-ring}
 use Rattle.rounding.specs.Format.{binary32, MAX}
 use Rattle.rounding.specs.Rounding.{negate, signed, near}
 use Rattle.rounding.specs.Pattern.{val, limit}
-use Rattle.rounding.proofs.Closest.{closest-split}
 use Rattle.rounding.proofs.Nearest.{near-odd}
 use Rattle.rounding.proofs.NearestLaws.{near-scale, near-exact}
 use Rattle.rounding.proofs.Pattern.{val-pattern, val-max}
 use Rattle.rounding.proofs.Shift.{size-only}
-use Rattle.rounding.proofs.Sign.{natAbs-neg, neg-mul, num-zero}
+use Rattle.rounding.proofs.Sign.{natAbs-neg, num-zero}
 use Rattle.binary32.proofs.Shifted.{near-above}
 use Rattle.unpacked.specs.Cuts.{limitedNear, nearestOf}
-
--- ---- a multiple
-closest-multiple : (a m : ℕ) → 0 < m → closest (a * m) m ≡ a
-closest-multiple a m p = closest-split (a * m) m (λ h e. e ∙ quotient) (λ h e. absurd (no h))
-  where
-    quotient : a * m / m ≡ a
-    quotient = mul-div-cancel a p
-
-    rest : a * m % m ≡ 0
-    rest = omega (arith, div-add-mod (a * m) m, ap (λ t. t * m) quotient)
-
-    no : m < 2 * (a * m % m) + a * m / m % 2 → ⊥
-    no h = omega (arith, rest)
-
-signed-neg : (k v : ℕ) → 0 < k → signed (negℤ (pos k)) v ≡ negℤ (pos v)
-signed-neg (suc k) v h = refl
-signed-neg zero v h = absurd (no h)
-  where
-    no : 0 < 0 → ⊥
-    no h = omega arith
-
-pub nearest-multiple : (v : ℤ) (m : ℕ) → 0 < m → nearestOf (v *ℤ pos m) m ≡ v
-nearest-multiple (pos a) m p = ap pos (closest-multiple a m p)
-nearest-multiple (negsuc a) m p =
-    signed-neg (suc a * m) (closest (natAbs (negsuc a *ℤ pos m)) m) (mul-pos {m = suc a} {n = m} (omega arith) p)
-    ∙ ap (λ t. negℤ (pos (closest t m))) (natAbs-neg (pos (suc a * m))) ∙ ap (λ t. negℤ (pos t)) (closest-multiple (suc a) m p)
-
--- ---- 24 digits and the places of m, or 2 ^ 24 * m
-pub nearest-few : (n m : ℕ) → 0 < m → n ≤ 2 ^ 24 * m → closest n m ≤ 2 ^ 24
-nearest-few n m p h = closest-split n m (λ l e. subst (λ t. t ≤ 2 ^ 24) (sym e) low) (λ l e. subst (λ t. t ≤ 2 ^ 24) (sym e) (⊎-elim (λ g. absurd (no g l)) (λ g. omega arith) (eq-or-lt-of-le low)))
-  where
-    low : n / m ≤ 2 ^ 24
-    low = le-of-mul-le-mul-left {m = n / m} {n = 2 ^ 24} {k = m} (omega (arith, div-add-mod n m)) p
-
-    no : n / m ≡ 2 ^ 24 → m < 2 * (n % m) + n / m % 2 → ⊥
-    no g l = omega (arith, div-add-mod n m, ap (λ t. m * t) g)
-
-pub nearest-long : (n m : ℕ) → 0 < m → 2 ^ 23 * m ≤ n → 2 ^ 23 ≤ closest n m
-nearest-long n m p h = closest-split n m (λ l e. subst (λ t. 2 ^ 23 ≤ t) (sym e) low) (λ l e. omega (arith, low))
-  where
-    low : 2 ^ 23 ≤ n / m
-    low = le-div-iff-mul-le {x = 2 ^ 23} {y = n} p .1 h
+use Rattle.unpacked.proofs.Quotients.{closest-multiple, nearest-few, nearest-long}
 
 -- a pattern's number, or none
 abbrev at : ℕ → Option ℤ
@@ -148,7 +106,7 @@ module _ (k K be : ℕ) (e : k + be ≡ K) where
           near-above binary32 K be k 0 n p (omega arith) (omega arith) ∙ at-is 0 (closest n (2 ^ k)) (nearest-few n (2 ^ k) (pow-pos k) (omega arith)) (inl refl)
           ∙ ap (λ t. limitedNear (pos t)) (mul-one (closest n (2 ^ k)))
 
-negate-limited : (v : ℕ) → negate (limitedNear (pos v)) ≡ limitedNear (negℤ (pos v))
+pub negate-limited : (v : ℕ) → negate (limitedNear (pos v)) ≡ limitedNear (negℤ (pos v))
 negate-limited v = go (leb v (MAX binary32)) ∙ ap (λ n. cond (leb n (MAX binary32)) (some (negℤ (pos v))) none) (sym (natAbs-neg (pos v)))
   where
     go : (t : Bool) → negate (cond t (some (pos v)) none) ≡ cond t (some (negℤ (pos v))) none
@@ -166,14 +124,6 @@ near-wide k K t be j l u e = near-signed K t be (closest (natAbs t) (2 ^ k) * 2 
 
 pub near-narrow : (k K : ℕ) (t : ℤ) (be : ℕ) → natAbs t < 2 ^ 24 * 2 ^ k → k + be ≡ K → near binary32 (2 ^ K) (t *ℤ pos (2 ^ be)) ≡ limitedNear (nearestOf t (2 ^ k))
 near-narrow k K t be u e = near-signed K t be (closest (natAbs t) (2 ^ k)) (near-low k K be e (natAbs t) u)
-
-pub signed-times : (t : ℤ) (c u : ℕ) → signed t c *ℤ pos u ≡ signed t (c * u)
-signed-times (pos n) c u = refl
-signed-times (negsuc n) c u = neg-mul c u
-
-pub signed-abs : (t : ℤ) (c : ℕ) → natAbs (signed t c) ≡ c
-signed-abs (pos n) c = refl
-signed-abs (negsuc n) c = natAbs-neg (pos c)
 
 -- a common power of two
 pub near-moved : (w : ℤ) (be z K : ℕ) → near binary32 (2 ^ (z + K)) (w *ℤ pos (2 ^ z) *ℤ pos (2 ^ be)) ≡ near binary32 (2 ^ K) (w *ℤ pos (2 ^ be))

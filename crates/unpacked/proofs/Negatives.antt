@@ -4,7 +4,7 @@ use mathlib.Core.List.{[], _∷_}
 use mathlib.Core.Logic.{⊎-elim}
 use Prim.Native.Nat.{ℕ, suc, _+_, _-_, _*_, _^_, _≤_, _<_, min}
 use native.Mathlib.Omega.{arith, by-contra}
-use native.Mathlib.Nat.{eq-zero-or-pos, mul-le-mul, mul-pos, zero-div, zero-mul, pow-succ'}
+use native.Mathlib.Nat.{eq-zero-or-pos, mul-le-mul, mul-pos, zero-mul, pow-succ'}
 use lib.Pow.{pow-pos, pow-add, pow-mono}
 use lib.IntN.{ℤ, pos, negsuc, natAbs, _+ℤ_, _*ℤ_}
 use lib.Signed.{mag, shrZ}
@@ -21,7 +21,7 @@ use Rattle.unpacked.proofs.Worths.{shr-multiple, worth-abs, exp-some}
 use Rattle.unpacked.proofs.Packing.{worth-form}
 use Rattle.unpacked.proofs.FarShifts.{raised-abs, natAbs-zero, le-or-lt}
 use Rattle.unpacked.proofs.Leading.{Lead, lead-of}
-use Rattle.unpacked.proofs.Adding.{w-short, sum-down}
+use Rattle.unpacked.proofs.Adding.{w-short, q-none, sum-down}
 
 -- ---- whole numbers that are not above zero
 no-more : (n : ℕ) → pos n ≼ pos 0 → n ≡ 0
@@ -119,10 +119,6 @@ module _ (x y : Number) (nx : Normal x) (ny : Normal y) (o : y .exp ≤ x .exp) 
   w-abs : natAbs w ≡ natAbs (x .sig) * 2 ^ 36 + natAbs q
   w-abs = abs-sum (x .sig *ℤ pos (2 ^ 36)) q x-below q-below ∙ ap (λ t. t + natAbs q) (raised-abs (x .sig))
 
-  -- nothing to add
-  q-none : natAbs (y .sig) ≡ 0 → q ≡ pos 0
-  q-none e = ap (λ t. shrZ (t *ℤ pos (2 ^ 36)) (2 ^ min (x .exp - y .exp) 61)) (natAbs-zero (y .sig) e) ∙ ap pos (zero-div (2 ^ min (x .exp - y .exp) 61))
-
   -- a second one that is not zero has a first one that is not
   x-some : 0 < natAbs (y .sig) → 2 ^ 23 ≤ natAbs (x .sig)
   x-some p = nx .full (⊎-elim (λ e. absurd (no (nx .low e) (exp-some y ny p))) (λ l. l) (eq-zero-or-pos (natAbs (x .sig))))
@@ -130,11 +126,16 @@ module _ (x y : Number) (nx : Normal x) (ny : Normal y) (o : y .exp ≤ x .exp) 
       no : x .exp ≡ 64 → 376 ≤ y .exp → ⊥
       no e l = omega arith
 
-  pub filled : Filled w
-  filled = record { below = w-below; few = w-short x y nx ny o; full = λ h. ⊎-elim (alone h) (λ p. omega (arith, w-abs, x-some p)) (eq-zero-or-pos (natAbs (y .sig))) }
+  pub filled : Filled w (x .exp)
+  filled = record {
+    below = w-below;
+    few = w-short x y nx ny o;
+    full = λ h. ⊎-elim (alone h) (λ p. omega (arith, w-abs, x-some p)) (eq-zero-or-pos (natAbs (y .sig)));
+    low = λ n. nx .low (omega (arith, w-abs));
+  }
     where
       alone : 0 < natAbs w → natAbs (y .sig) ≡ 0 → 2 ^ 59 ≤ natAbs w
-      alone h e = omega (arith, w-abs, nx .full (omega (arith, w-abs, ap natAbs (q-none e))))
+      alone h e = omega (arith, w-abs, nx .full (omega (arith, w-abs, ap natAbs (q-none x y nx ny o e))))
 
   module _ (r : Number) (high : x .exp ≤ 4000) (c : CutNegative w (x .exp) r) where
     -- the first alone
@@ -142,10 +143,10 @@ module _ (x y : Number) (nx : Normal x) (ny : Normal y) (o : y .exp ≤ x .exp) 
     alone e = subst (λ t. DownOf t r) sum (subst (DownOf (worth x)) (sym same) (record { normal = nx; is = floor; downs = limits floor; high = omega arith }))
       where
         w-is : w ≡ x .sig *ℤ pos (2 ^ 36)
-        w-is = ap (λ t. x .sig *ℤ pos (2 ^ 36) +ℤ t) (q-none e) ∙ lin-eq (x .sig ∷ []) [] (search reading depth 20) (omega arith)
+        w-is = ap (λ t. x .sig *ℤ pos (2 ^ 36) +ℤ t) (q-none x y nx ny o e) ∙ lin-eq (x .sig ∷ []) [] (search reading depth 20) (omega arith)
 
         is : (r .sig ≡ shrZ w (2 ^ 36)) × (r .exp ≡ x .exp)
-        is = c .plain (omega (arith, w-abs, ap natAbs (q-none e), nx .few))
+        is = c .plain (omega (arith, w-abs, ap natAbs (q-none x y nx ny o e), nx .few))
 
         same : r ≡ x
         same = ap₂ (λ s n. record { sig = s; exp = n }) (is .0 ∙ ap (λ t. shrZ t (2 ^ 36)) w-is ∙ shr-multiple (x .sig) (2 ^ 36) (pow-pos 36)) (is .1)

@@ -2,37 +2,28 @@
 use mathlib.Core.Path.{_≡_, sym, ap, _∙_, subst}
 use mathlib.Core.Bool.{cond}
 use mathlib.Core.Option.{none, some}
-use Prim.Native.Nat.{ℕ, _+_, _-_, _*_, _/_, _%_, _^_, _≤_, _<_, min}
+use Prim.Native.Nat.{ℕ, _+_, _-_, _*_, _^_, _≤_, _<_, min}
 use native.Mathlib.Omega.{arith, min-cases}
-use native.Mathlib.Nat.{div-add-mod, div-eq-of-lt, le-trans}
+use native.Mathlib.Nat.{le-trans}
 use lib.Pow.{pow-pos, pow-mono}
 use lib.IntN.{ℤ, natAbs}
 use lib.Ieee.Nearest.{closest}
 use borrow.Author.Tests.{le-leb}
 use Rattle.rounding.specs.Format.{binary32, MAX}
 use Rattle.rounding.specs.Rounding.{near, signed}
-use Rattle.rounding.proofs.Closest.{closest-split}
 use Rattle.unpacked.specs.declared.Number.{Number}
 use Rattle.unpacked.specs.declared.Product.{Product}
 use Rattle.unpacked.specs.Number.{Holds}
 use Rattle.unpacked.specs.Cuts.{limitedNear, nearestOf}
 use Rattle.unpacked.specs.Exact.{Exact}
 use Rattle.unpacked.proofs.Multiplying.{near-exact-product}
-use Rattle.unpacked.proofs.Nearing.{near-narrow, nearest-few, signed-abs}
+use Rattle.unpacked.proofs.Quotients.{closest-about, nearest-few, signed-abs}
+use Rattle.unpacked.proofs.Nearing.{near-narrow}
 use Rattle.unpacked.proofs.Worths.{few-max}
 
 -- ---- a shift past all digits is as good as one by 61
 far-closest : (n m : ℕ) → n + n < m → closest n m ≡ 0
-far-closest n m h = closest-split n m (λ l e. e ∙ none) (λ l e. absurd (no l))
-  where
-    less : n < m
-    less = omega arith
-
-    none : n / m ≡ 0
-    none = div-eq-of-lt less
-
-    no : m < 2 * (n % m) + n / m % 2 → ⊥
-    no l = omega (arith, none, div-add-mod n m)
+far-closest n m h = closest-about n m 0 (omega arith) (omega arith)
 
 near-capped : (t : ℤ) (d : ℕ) → natAbs t ≤ 2 ^ 48 → nearestOf t (2 ^ min d 61) ≡ nearestOf t (2 ^ d)
 near-capped t d h = min-cases d 61 (nearestOf t (2 ^ min d 61) ≡ nearestOf t (2 ^ d))

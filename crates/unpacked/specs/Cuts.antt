@@ -105,11 +105,12 @@ pub record CutDown (w : ℤ) (exp : ℕ) (r : Number) : Type 0 where
   pub none : w ≡ pos 0 → r .exp ≡ 64
   pub some : 0 < natAbs w → r .exp + room w ≡ exp + 2
 
--- w is a sum with 36 guard bits of two summands that are not positive: zero, or from -2 ^ 61 to -2 ^ 59
-pub record Filled (w : ℤ) : Type 0 where
+-- w is a sum with 36 guard bits of two summands that are not positive: from -2 ^ 61 to -2 ^ 59, or zero, which has the exponent 64
+pub record Filled (w : ℤ) (exp : ℕ) : Type 0 where
   pub below : w ≼ pos 0
   pub few : natAbs w ≤ 2 ^ 61
   pub full : 0 < natAbs w → 2 ^ 59 ≤ natAbs w
+  pub low : natAbs w ≡ 0 → exp ≡ 64
 
 -- r is w * 2 ^ exp without its 36 guard bits, rounded down to 24 bits, for such a w: 36 bits are dropped, or 37 where the sum carried
 pub record CutNegative (w : ℤ) (exp : ℕ) (r : Number) : Type 0 where
@@ -120,16 +121,14 @@ pub record CutNegative (w : ℤ) (exp : ℕ) (r : Number) : Type 0 where
 abbrev pub nearestOf : ℤ → ℕ → ℤ
 nearestOf t m = signed t (closest (natAbs t) m)
 
--- as `CutDown`, rounded to nearest
+-- r is w * 2 ^ exp without its 36 guard bits, rounded to nearest to 24 bits: w is shifted up by `places` to 62 bits, or to 2 ^ 62, and 38 are dropped
 pub record CutNear (w : ℤ) (exp : ℕ) (r : Number) : Type 0 where
-  pub sigs : r .sig ≡ nearestOf (w *ℤ pos (2 ^ room w)) (2 ^ 38)
+  pub places : ℕ
+  pub most : natAbs w * 2 ^ places ≤ 2 ^ 62
+  pub least : 0 < natAbs w → 2 ^ 61 ≤ natAbs w * 2 ^ places
+  pub sigs : r .sig ≡ nearestOf (w *ℤ pos (2 ^ places)) (2 ^ 38)
   pub none : w ≡ pos 0 → r .exp ≡ 64
-  pub some : 0 < natAbs w → r .exp + room w ≡ exp + 2
-
--- r is t / m rounded down, with its last bit set where the remainder is not 0 (sticky bit)
-pub record Marked (t : ℤ) (m : ℕ) (r : ℤ) : Type 0 where
-  pub kept : shrZ t m *ℤ pos m ≡ t → r ≡ shrZ t m
-  pub lost : (shrZ t m *ℤ pos m ≡ t → ⊥) → r ≡ shrZ (shrZ t m) 2 *ℤ pos 2 +ℤ pos 1
+  pub some : 0 < natAbs w → r .exp + places ≡ exp + 2
 
 -- the pattern without sign of m * 2 ^ (exp - 400) units, where m has 24 bits; below the exponent 400 the number is subnormal
 unfoldable pub fieldsOf : ℕ → ℕ → ℕ

@@ -2,7 +2,7 @@
 -- Definitions only, for the contracts of private functions.
 use mathlib.Core.Path.{_≡_}
 use mathlib.Core.Option.{Option, none, some}
-use Prim.Native.Nat.{ℕ, _*_, _^_, _≤_, _<_}
+use Prim.Native.Nat.{ℕ, _+_, _*_, _^_, _≤_, _<_}
 use lib.IntN.{ℤ, pos, negsuc, negℤ, natAbs, _*ℤ_}
 use lib.Signed.{shrZ}
 use Rattle.algebra.specs.Absolute.{abs}
@@ -73,6 +73,18 @@ pub record Absolute (x r : Number) : Type 0 where
   pub normal : Normal r
   pub worths : worth r ≡ abs (worth x)
   pub same : r .exp ≡ x .exp
+
+-- r is -|x|
+pub record Negative (x r : Number) : Type 0 where
+  pub normal : Normal r
+  pub worths : worth r ≡ negℤ (abs (worth x))
+  pub same : r .exp ≡ x .exp
+
+-- r is x × 2 ^ n
+pub record Scaled (x : Number) (n : ℕ) (r : Number) : Type 0 where
+  pub normal : Normal r
+  pub worths : worth r ≡ worth x *ℤ pos (2 ^ n)
+  pub high : r .exp ≡ x .exp + n
 
 -- x is a number with the value m: a running sum that has not overflowed
 pub record Runs (m : Option ℤ) (x : Number) : Type 0 where

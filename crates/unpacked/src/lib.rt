@@ -16,6 +16,9 @@ pub const LARGEST_EXPONENT: u32 = BIAS + 253;
 // The exponent of none. A sum with none has an exponent near it, a product with none a larger one than any product of two numbers.
 pub const NONE_EXPONENT: u32 = 2000;
 
+// The significand of none, which makes it a negative value in normal form.
+pub const NONE_SIGNIFICAND: i64 = -0x80_0000;
+
 // A number, sig × 2^(exp - BIAS) units, with |sig| from 2^23 to 2^24, or zero; or none, which stands for an overflow or a pattern with exponent field 255.
 // None is a negative value far below all numbers, so that a sum with it is far below all numbers too.
 pub struct Number {
@@ -54,7 +57,7 @@ pub fn none() -> Number
     ensures { λ r. ⌜ r ≡ noNumber ⌝ }
 {
     Number {
-        sig: -0x80_0000,
+        sig: NONE_SIGNIFICAND,
         exp: NONE_EXPONENT,
     }
 }

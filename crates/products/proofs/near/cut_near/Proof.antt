@@ -1,6 +1,6 @@
 -- `products::near::cut_near` meets its contract: the shift up does not overflow (`wide-abs`), and the exponent does not go below 0.
-use mathlib.Core.Path.{_≡_, ap, subst, _∙_}
-use Prim.Native.Nat.{_+_, _-_, _*_, _^_, _<_}
+use mathlib.Core.Path.{_≡_, sym, ap, subst, _∙_}
+use Prim.Native.Nat.{_+_, _-_, _*_, _^_, _≤_}
 use native.Mathlib.Omega.{arith}
 use lib.Count.{leadingZeros}
 use lib.IntN.{ℤ, pos, _*ℤ_}
@@ -11,7 +11,7 @@ use mir.ValLaws.{toZ-ofZ}
 use Rattle.algebra.proofs.Absolute.{natAbs-mul}
 use Rattle.algebra.proofs.Machine.{mag-of-natAbs}
 use Rattle.binary32.proofs.Ints.{read}
-use Rattle.unpacked.specs.Cuts.{room, OrLow}
+use Rattle.unpacked.specs.Cuts.{OrLow}
 use Rattle.unpacked.proofs.Leading.{Lead, lead-of, wide-abs}
 use Rattle.unpacked.proofs.Cutting.{near-cut-found, room-is}
 use borrow.Author.Needs.{needs}
@@ -31,14 +31,11 @@ module _ (c : tie.After-digits) where
   found : c .digits .result ≡ mag w
   found = c .digits .ensures ∙ ap mag plain
 
-  few : c .digits .result < 2 ^ 62
-  few = omega (arith, found, mag-of-natAbs w {h = 2 ^ 62} (s .pre .0))
+  few : c .digits .result ≤ 2 ^ 61
+  few = omega (arith, found, mag-of-natAbs w {h = 2 ^ 61 + 1} (omega (arith, s .pre .0)))
 
-  zeros : leadingZeros 64 (c .digits .result * 4 + 3) ≡ room w
-  zeros = room-is w (c .digits .result) found
-
-  led : Lead (mag w) (room w)
-  led = lead-of w (s .pre .0)
+  led : Lead (mag w) (leadingZeros 64 (c .digits .result * 4 + 3))
+  led = subst (Lead (mag w)) (sym (room-is w (c .digits .result) found)) (lead-of w (omega (arith, s .pre .0)))
 
 digits-requires : tie.Need-digits-requires
 digits-requires c κs = search needs
@@ -50,7 +47,7 @@ add-z : tie.Need-add-z
 add-z c = record { fits = omega (arith, few c) }
 
 widened-requires : tie.Need-widened-requires
-widened-requires c κs = rw (plain c, zeros c) (led c .low, wide-abs (w c) (room (w c)) (led c))
+widened-requires c κs = rw (plain c) (led c .low, wide-abs (w c) (leadingZeros 64 (c .digits .result * 4 + 3)) (led c))
 
 wide-is : (c : tie.After-widened) → toZ w64 (ofZ w64 (c .widened .result)) ≡ w (c .before) *ℤ pos (2 ^ leadingZeros 64 (c .before .digits .result * 4 + 3))
 wide-is c = read (c .widened .result) (c .widened .ok) ∙ c .widened .ensures ∙ ap (λ (t : ℤ). t *ℤ pos (2 ^ leadingZeros 64 (c .before .digits .result * 4 + 3))) (plain (c .before))
@@ -58,13 +55,14 @@ wide-is c = read (c .widened .result) (c .widened .ok) ∙ c .widened .ensures �
 nearest-requires : tie.Need-nearest-requires
 nearest-requires c κs =
     let d = c .before in
-    rw (wide-is c, zeros d) (omega (arith, natAbs-mul (w d) (pos (2 ^ room (w d))), wide-abs (w d) (room (w d)) (led d)))
+    let z = leadingZeros 64 (d .digits .result * 4 + 3) in
+    rw (wide-is c) (omega (arith, natAbs-mul (w d) (pos (2 ^ z)), wide-abs (w d) z (led d)))
 
 add-or-low : tie.Need-add-or-low
 add-or-low c = search needs
 
 sub-or-low : tie.Need-sub-or-low
-sub-or-low c = let d = c .before .before in omega (arith, zeros d, led d .low, s d .pre .1)
+sub-or-low c = let d = c .before .before in omega (arith, led d .low, s d .pre .1)
 
 or-low-requires : tie.Need-or-low-requires
 or-low-requires c κs = search needs
@@ -75,7 +73,7 @@ returns c =
     let v = l .before in
     let d = v .before in
     near-cut-found (w d) (s d .args .exp) (leadingZeros 64 (d .digits .result * 4 + 3)) (toZ w64 (ofZ w64 (v .widened .result))) _ (c .or-low .result)
-    (zeros d) (led d .low) (s d .pre .1) (wide-is v) (read (l .nearest .result) (l .nearest .ok) ∙ l .nearest .ensures)
+    (led d) (s d .pre .1) (wide-is v) (read (l .nearest .result) (l .nearest .ok) ∙ l .nearest .ensures)
     (subst (λ (t : ℤ). OrLow t (s d .args .exp + 2 - leadingZeros 64 (d .digits .result * 4 + 3)) (c .or-low .result)) (plain d) (c .or-low .ensures))
 
 pub cut-near-spec : {M : Type 1} → statement M

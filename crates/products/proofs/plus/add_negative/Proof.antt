@@ -21,7 +21,7 @@ cut-negative-requires : tie.Need-cut-negative-requires
 cut-negative-requires c κs =
     let a = c .before in
     let p = a .before .pre in (
-      subst Filled (sym (plain a)) (negative-form (p .0) (a .align .result) (a .align .ensures) (p .1) (p .2)),
+      subst (λ (t : ℤ). Filled t (a .align .result .exp)) (sym (plain a)) (negative-form (p .0) (a .align .result) (a .align .ensures) (p .1) (p .2)),
       aligned-form (p .0) (a .align .result) (a .align .ensures) .2,
     )
 

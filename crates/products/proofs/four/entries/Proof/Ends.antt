@@ -6,6 +6,7 @@ use native.Mathlib.Omega.{arith}
 use lib.IntN.{negℤ}
 use lib.ListN.{getD}
 use borrow.Author.Needs.{needs}
+use Rattle.products.specs.Running.{Closes}
 use Rattle.products.specs.declared.sums.Place.the-variants.{At}
 use Rattle.rounding.specs.Rounding.{negate}
 use Rattle.binary32.specs.Number.{valueOf, held}
@@ -14,7 +15,6 @@ use Rattle.products.specs.Derived.{outerOf}
 use Rattle.products.specs.Written.{Written}
 use Rattle.matrices.proofs.Fronts.{filled-from}
 use Rattle.products.proofs.Writing.{written-at}
-use Rattle.products.proofs.Ending.{Closes}
 use Rattle.products.proofs.FourEntry.{b-mid, b-rad, MiddleSum, middle-numbers, middle-none, reaches, outers, outer-runs, outer-none, four-middle, four-outer, four-closes}
 use Rattle.products.proofs.four.entries.Tie as tie
 use Rattle.products.proofs.four.entries.Proof.Loops.{Inv-loop2, μ-loop2, Inv-loop, μ-loop, Inv-search, μ-search}

@@ -6,6 +6,7 @@ use native.Mathlib.Omega.{arith}
 use lib.IntN.{negℤ}
 use lib.ListN.{getD}
 use borrow.Author.Needs.{needs}
+use Rattle.products.specs.Running.{Closes}
 use Rattle.products.specs.declared.sums.Place.the-variants.{At}
 use Rattle.rounding.specs.Rounding.{negate}
 use Rattle.binary32.specs.Number.{valueOf, held}
@@ -15,7 +16,6 @@ use Rattle.products.specs.Written.{Written}
 use Rattle.matrices.proofs.Fronts.{filled-from}
 use Rattle.products.proofs.Writing.{written-at}
 use Rattle.products.proofs.CentredSteps.{all-numbers}
-use Rattle.products.proofs.Ending.{Closes}
 use Rattle.products.proofs.FourEntry.{b-mid, b-rad, MiddleSum, middle-numbers, middle-none, reaches, outers, outer-runs, outer-none}
 use Rattle.products.proofs.SevenEntry.{held-number, seven-middle, seven-outer, seven-parts, seven-closes}
 use Rattle.products.proofs.seven.entries.Tie as tie

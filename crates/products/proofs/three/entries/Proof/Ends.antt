@@ -9,9 +9,9 @@ use Rattle.rounding.specs.Rounding.{negate}
 use Rattle.enclosure.specs.Methods.{Range, three}
 use Rattle.binary32.specs.Number.{valueOf, held}
 use Rattle.unpacked.specs.Number.{worth, Runs}
+use Rattle.products.specs.Running.{Closes}
 use Rattle.products.specs.Derived.{outerOf}
 use Rattle.matrices.proofs.Fronts.{filled-more}
-use Rattle.products.proofs.Ending.{Closes}
 use Rattle.products.proofs.FourEntry.{b-mid, b-rad, entryBy, reaches, outers, outer-runs}
 use Rattle.unpacked.proofs.Opposites.{opposite-number}
 use Rattle.products.proofs.ThreeSteps.{first-numbers, tiny-number, three-closes}
