@@ -4,11 +4,13 @@ use mathlib.Core.List.{[], _∷_}
 use mathlib.Core.Option.{Option, some, Option·some-injective}
 use Prim.Native.Nat.{ℕ, _<_}
 use native.Mathlib.Omega.{arith}
-use lib.IntN.{ℤ, pos, _+ℤ_, _*ℤ_, _-ℤ_}
+use lib.IntN.{ℤ, pos, negℤ, _+ℤ_, _*ℤ_, _-ℤ_}
 use Rattle.algebra.specs.Order.{_≼_}
+use Rattle.algebra.specs.Absolute.{abs}
 use Rattle.algebra.specs.Sum.{Σ<}
 use Rattle.algebra.proofs.Linear.{reading, le, lin-le}
 use Rattle.algebra.proofs.Order.{≼-trans, ≼-of-≡, _⊠_, nonneg}
+use Rattle.algebra.proofs.Absolute.{≼-abs, neg-≼-abs}
 use Rattle.algebra.proofs.Sum.{Σ-add, Σ-mono}
 use Rattle.enclosure.specs.Arithmetic.{Arithmetic}
 use Rattle.enclosure.specs.Cell.{Cell, leastCorner, greatestCorner}
@@ -72,6 +74,18 @@ module _ (Q : ℕ) (s r C R : ℤ) where
 
   pub centre-and-radius-below : s *ℤ pos Q ≼ C → R ≼ r *ℤ pos Q → (s -ℤ r) *ℤ pos Q ≼ C -ℤ R
   centre-and-radius-below h k = lin-le (pos Q ∷ s ∷ r ∷ C ∷ R ∷ []) (le h ∷ le k ∷ []) (search reading depth 30) (omega arith)
+
+-- C is known but for an error of e, which the radius pays for
+module _ (Q : ℕ) (s r e C R : ℤ) (h : R +ℤ e ≼ r *ℤ pos Q) (k : abs (s *ℤ pos Q -ℤ C) ≼ e) where
+  pub paid-above : C +ℤ R ≼ (s +ℤ r) *ℤ pos Q
+  paid-above =
+      let d : negℤ (s *ℤ pos Q -ℤ C) ≼ e = ≼-trans (neg-≼-abs (s *ℤ pos Q -ℤ C)) k in
+      lin-le (pos Q ∷ s ∷ r ∷ e ∷ C ∷ R ∷ []) (le h ∷ le d ∷ []) (search reading depth 30) (omega arith)
+
+  pub paid-below : (s -ℤ r) *ℤ pos Q ≼ C -ℤ R
+  paid-below =
+      let d : s *ℤ pos Q -ℤ C ≼ e = ≼-trans (≼-abs (s *ℤ pos Q -ℤ C)) k in
+      lin-le (pos Q ∷ s ∷ r ∷ e ∷ C ∷ R ∷ []) (le h ∷ le d ∷ []) (search reading depth 30) (omega arith)
 
 -- ---- the corners of each pair lie between c l - r l and c l + r l
 module _ {A : Arithmetic} (L : Laws A) (k : ℕ) (a b : ℕ → Cell) (c r : ℕ → ℤ)

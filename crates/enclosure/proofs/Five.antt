@@ -11,7 +11,7 @@ use Rattle.algebra.specs.Sum.{Σ<}
 use Rattle.algebra.proofs.Reading.{by-ring}
 use Rattle.algebra.proofs.Linear.{reading, le, eq, lin-le}
 use Rattle.algebra.proofs.Order.{_⊠_, nonneg, ≼-trans}
-use Rattle.algebra.proofs.Absolute.{abs-mul, ≼-abs, neg-≼-abs}
+use Rattle.algebra.proofs.Absolute.{abs-mul, ≼-abs}
 use Rattle.algebra.proofs.Sum.{Σ-ext, Σ-add}
 use Rattle.enclosure.specs.Arithmetic.{Arithmetic}
 use Rattle.enclosure.specs.Cell.{Cell}
@@ -21,7 +21,7 @@ use Rattle.enclosure.proofs.Converted.{EachConverted}
 use Rattle.enclosure.proofs.Laws.{Laws, up-sum}
 use Rattle.enclosure.proofs.Terms.{mids, parts, reaches, reaches-above}
 use Rattle.enclosure.proofs.RoundedSum.{sum-above}
-use Rattle.enclosure.proofs.Covers.{Covers, ends-of, ends-cover}
+use Rattle.enclosure.proofs.Covers.{Covers, ends-of, ends-cover, paid-above, paid-below}
 use Rattle.enclosure.proofs.Seven.{pairRadius, least-above₇, greatest-below₇}
 use Rattle.enclosure.proofs.FiveError.{exactSize, Radius₅, radius₅-of, centre-near, size-near}
 
@@ -38,18 +38,6 @@ radius-pays Q z g t e d r Z S R h₁ h₂ h₃ h₄ h₅ f =
     let u : z -ℤ g +ℤ pos 2 *ℤ e ≼ r = lin-le (z ∷ g ∷ t ∷ e ∷ d ∷ r ∷ []) (le h₂ ∷ le h₃ ∷ le h₄ ∷ []) (search reading depth 30) (omega arith) in
     let w : g *ℤ pos Q -ℤ S ≼ e *ℤ pos Q = ≼-trans (≼-abs (g *ℤ pos Q -ℤ S)) h₅ in
     lin-le (pos Q ∷ z ∷ g ∷ e ∷ r ∷ Z ∷ S ∷ R ∷ []) (le h₁ ∷ le (u ⊠ nonneg Q) ∷ le w ∷ eq f ∷ []) (search reading depth 40 fits 9999) (omega arith)
-
--- c is the centre and r the radius as rounded, M and R the exact ones
-module _ (Q : ℕ) (c r e M R : ℤ) (h : R +ℤ e *ℤ pos Q ≼ r *ℤ pos Q) (k : abs (c *ℤ pos Q -ℤ M) ≼ e *ℤ pos Q) where
-  paid-above : M +ℤ R ≼ (c +ℤ r) *ℤ pos Q
-  paid-above =
-      let d : negℤ (c *ℤ pos Q -ℤ M) ≼ e *ℤ pos Q = ≼-trans (neg-≼-abs (c *ℤ pos Q -ℤ M)) k in
-      lin-le (pos Q ∷ c ∷ r ∷ e ∷ M ∷ R ∷ []) (le h ∷ le d ∷ []) (search reading depth 30) (omega arith)
-
-  paid-below : (c -ℤ r) *ℤ pos Q ≼ M -ℤ R
-  paid-below =
-      let d : c *ℤ pos Q -ℤ M ≼ e *ℤ pos Q = ≼-trans (≼-abs (c *ℤ pos Q -ℤ M)) k in
-      lin-le (pos Q ∷ c ∷ r ∷ e ∷ M ∷ R ∷ []) (le h ∷ le d ∷ []) (search reading depth 30) (omega arith)
 
 -- ---- of the cells
 pair-reaches : (a b : ℕ → Cell) (l : ℕ) → reaches a b l ≡ pairRadius a b l +ℤ (abs (mids a b l) +ℤ abs (parts a b l))
@@ -87,6 +75,6 @@ module _ {A : Arithmetic} (L : Laws A) (k : ℕ) (a b : ℕ → Cell) (few : k �
       let g : Σ< k (λ l. mids a b l +ℤ parts a b l) ≡ M = Σ-add k (mids a b) (parts a b) in
       ends-cover L k a b (λ l. mids a b l +ℤ parts a b l) (pairRadius a b) (least-above₇ k a b oka okb) (greatest-below₇ k a b oka okb) c
       (subst (λ z. (c .minus -ℤ c .rad) *ℤ pos units ≼ z -ℤ R) (sym g)
-      (paid-below units (c .minus) (c .rad) E M R (radius₅-above r) (centre-near L k a b few (c .minus-is) (r .error-is))))
+      (paid-below units (c .minus) (c .rad) (E *ℤ pos units) M R (radius₅-above r) (centre-near L k a b few (c .minus-is) (r .error-is))))
       (subst (λ z. z +ℤ R ≼ (c .plus +ℤ c .rad) *ℤ pos units) (sym g)
-      (paid-above units (c .plus) (c .rad) E M R (radius₅-above r) (centre-near L k a b few (c .plus-is) (r .error-is))))
+      (paid-above units (c .plus) (c .rad) (E *ℤ pos units) M R (radius₅-above r) (centre-near L k a b few (c .plus-is) (r .error-is))))

@@ -11,9 +11,8 @@ use Rattle.algebra.specs.Absolute.{abs}
 use Rattle.algebra.specs.Sum.{Σ<}
 use Rattle.algebra.proofs.Reading.{by-ring}
 use Rattle.algebra.proofs.Linear.{reading, le, lin-le}
-use Rattle.algebra.proofs.Order.{_⊠_, nonneg, cancel-le}
+use Rattle.algebra.proofs.Order.{≼-refl, cancel-le}
 use Rattle.algebra.proofs.Natural.{of-le, of-lt}
-use Rattle.algebra.proofs.Absolute.{≼-abs, neg-≼-abs}
 use Rattle.rounding.specs.Property.{off}
 use Rattle.enclosure.specs.Arithmetic.{Arithmetic}
 use Rattle.enclosure.specs.Cell.{Cell}
@@ -21,7 +20,7 @@ use Rattle.enclosure.specs.Methods.{Range, three, entry, radius₃, cent
 use Rattle.enclosure.proofs.Converted.{EachConverted}
 use Rattle.enclosure.proofs.Laws.{Laws}
 use Rattle.enclosure.proofs.Terms.{inner, outer, mids}
-use Rattle.enclosure.proofs.Covers.{Covers, ends-of, ends-cover}
+use Rattle.enclosure.proofs.Covers.{Covers, ends-of, ends-cover, paid-above, paid-below}
 use Rattle.enclosure.proofs.Four.{least-above₄, greatest-below₄}
 use Rattle.enclosure.proofs.Accumulate.{magnitudes, zero-approx, accumulate}
 use Rattle.enclosure.proofs.Traces.{near-trace}
@@ -34,26 +33,12 @@ centre-error P Q k Y E h few p =
     let b : 65 * k ≤ 128 * P = omega arith in
     le-of-mul-le-mul-left {k = 64} (omega (arith, mul-le-mul-right Y a, mul-le-mul-right (2 * P * Q) b, h)) (omega arith)
 
--- c is the centre and r the radius as rounded, M and R the exact ones
-module _ (P Q K Y E : ℕ) (c r M R : ℤ) (p : 0 < 2 * P) (e : 2 * P * E ≤ K * Y + 2 * P * (2 * P * Q))
-    (h : pos (K * Y) +ℤ pos (2 * P) *ℤ R +ℤ pos (2 * P * (2 * P * Q)) ≼ r *ℤ pos (2 * P * Q)) where
-  paid : pos (2 * P * E) ≼ pos (K * Y + 2 * P * (2 * P * Q))
-  paid = of-le e
-
-  paid-above : M -ℤ c *ℤ pos Q ≼ pos E → M +ℤ R ≼ (c +ℤ r) *ℤ pos Q
-  paid-above d =
-      cancel-le (of-lt p)
-      (lin-le (pos P ∷ pos Q ∷ pos K ∷ pos Y ∷ pos E ∷ c ∷ r ∷ M ∷ R ∷ []) (le paid ∷ le h ∷ le (nonneg (2 * P) ⊠ d) ∷ [])
-      (search reading depth 40 fits 9999) (omega arith))
-
-  paid-below : c *ℤ pos Q -ℤ M ≼ pos E → (c -ℤ r) *ℤ pos Q ≼ M -ℤ R
-  paid-below d =
-      cancel-le (of-lt p)
-      (lin-le (pos P ∷ pos Q ∷ pos K ∷ pos Y ∷ pos E ∷ c ∷ r ∷ M ∷ R ∷ []) (le paid ∷ le h ∷ le (nonneg (2 * P) ⊠ d) ∷ [])
-      (search reading depth 40 fits 9999) (omega arith))
-
-other-way : (Q : ℕ) (c M : ℤ) → M -ℤ c *ℤ pos Q ≼ abs (c *ℤ pos Q -ℤ M)
-other-way Q c M = lin-le (pos Q ∷ c ∷ M ∷ abs (c *ℤ pos Q -ℤ M) ∷ []) (le (neg-≼-abs (c *ℤ pos Q -ℤ M)) ∷ []) (search reading depth 30) (omega arith)
+-- r is the radius as rounded, R the exact one: it pays for the error too
+pays : (P Q K Y E : ℕ) (r R : ℤ) → 0 < 2 * P → 2 * P * E ≤ K * Y + 2 * P * (2 * P * Q)
+    → pos (K * Y) +ℤ pos (2 * P) *ℤ R +ℤ pos (2 * P * (2 * P * Q)) ≼ r *ℤ pos (2 * P * Q) → R +ℤ pos E ≼ r *ℤ pos Q
+pays P Q K Y E r R p e h =
+    let paid : pos (2 * P * E) ≼ pos (K * Y + 2 * P * (2 * P * Q)) = of-le e in
+    cancel-le (of-lt p) (lin-le (pos P ∷ pos Q ∷ pos K ∷ pos Y ∷ pos E ∷ r ∷ R ∷ []) (le paid ∷ le h ∷ []) (search reading depth 40 fits 9999) (omega arith))
 
 -- ---- of the cells
 module _ {A : Arithmetic} (L : Laws A) (k : ℕ) (a b : ℕ → Cell) (few : k ≤ 32) (fine : 8388608 ≤ L .P) where
@@ -78,5 +63,5 @@ module _ {A : Arithmetic} (L : Laws A) (k : ℕ) (a b : ℕ → Cell) (few : k �
       let r = radius₃-above L k a b oka (c .rad-is) in
       let p : 0 < 2 * P = omega (arith, fine) in
       ends-cover L k a b (mids a b) (λ l. inner a b l +ℤ outer a b l) (least-above₄ k a b oka okb) (greatest-below₄ k a b oka okb) c
-      (paid-below P units (k + 2) Y _ (c .minus) (c .rad) M R p (near-enough (c .minus-is)) r (≼-abs (c .minus *ℤ pos units -ℤ M)))
-      (paid-above P units (k + 2) Y _ (c .plus) (c .rad) M R p (near-enough (c .plus-is)) r (other-way units (c .plus) M))
+      (paid-below units (c .minus) (c .rad) _ M R (pays P units (k + 2) Y _ (c .rad) R p (near-enough (c .minus-is)) r) (≼-refl (abs (c .minus *ℤ pos units -ℤ M))))
+      (paid-above units (c .plus) (c .rad) _ M R (pays P units (k + 2) Y _ (c .rad) R p (near-enough (c .plus-is)) r) (≼-refl (abs (c .plus *ℤ pos units -ℤ M))))

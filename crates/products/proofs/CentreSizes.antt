@@ -2,17 +2,14 @@
 -- and a sum that was refused stays refused.
 use mathlib.Core.Path.{_≡_, refl, sym, ap, _∙_, subst}
 use mathlib.Core.Bool.{true, false}
-use mathlib.Core.List.{[], _∷_}
 use mathlib.Core.Logic.{_⊎_, inl, inr, ⊎-elim}
-use mathlib.Core.Option.{Option, none, some, bind, Option·map}
+use mathlib.Core.Option.{Option, none, some, Option·map}
 use Prim.Native.Nat.{ℕ, _+_, _^_, _≤_, _<_}
-use native.Mathlib.Omega.{arith}
 use lib.Dec.{ltb, lit<}
-use lib.IntN.{ℤ, pos, negℤ, _+ℤ_, _*ℤ_, negℤ-negℤ}
+use lib.IntN.{ℤ, pos, negℤ, _*ℤ_, negℤ-negℤ}
 use Rattle.algebra.specs.Absolute.{abs}
 use Rattle.algebra.specs.Order.{_≼_}
 use Rattle.algebra.proofs.Absolute.{abs-mul, abs-neg}
-use Rattle.algebra.proofs.Linear.{reading, le, lin-le}
 use Rattle.algebra.proofs.Order.{neg-mono}
 use Rattle.rounding.specs.Format.{binary32}
 use Rattle.rounding.specs.Rounding.{near, negate}
@@ -34,7 +31,7 @@ use Rattle.products.specs.CentreSize.{Pairs, number, pattern, centreFrom
 use Rattle.products.proofs.Carrying.{true-false, holds-runs, runs-holds, holds-none, negate-none, any-more, near-more, sum-stays}
 use Rattle.products.proofs.Or.{or-first, or-second, or-cases}
 use Rattle.products.proofs.Pairs.{none-worth}
-use Rattle.products.proofs.Radii.{NotBelow, NotAbove, abs-same, abs-above, negate-above, holds-below}
+use Rattle.products.proofs.Radii.{NotBelow, NotAbove, abs-same, abs-above, negate-above, holds-below, plus-under}
 use Rattle.products.proofs.Zeros.{near-same, near-mirrored-same, near-zero}
 
 -- ---- one product
@@ -64,15 +61,10 @@ near-under X h = subst NotAbove (sym turn) (negate-above (Option·map abs (near 
     turn : near binary32 1 X ≡ negate (Option·map abs (near binary32 1 X))
     turn = ap (near binary32 1) (sym (negℤ-negℤ X)) ∙ near-odd binary32 1 (lit< tt) (negℤ X) ∙ ap negate (ap (near binary32 1) (sym size) ∙ near-abs binary32 1 X)
 
-plus-under : (v : ℤ) (t : Option ℤ) → v ≼ pos 0 → NotAbove t → NotAbove (plusNear v t)
-unfolding bind
-plus-under v none h k = tt
-plus-under v (some u) h k = near-under (v +ℤ u) (lin-le (v ∷ u ∷ []) (le h ∷ le k ∷ []) (search reading depth 20) (omega arith))
-
 size-under : (s : Number) (x y : ℤ) (r : Number) → Below s → Holds (plusNear (worth s) (minusSize x y)) r → Below r
 size-under s x y r b h =
     let k : NotAbove (minusSize x y) = subst NotAbove (minus-size x y) (negate-above (Option·map abs (mul near x y)) (sizes-above (mul near x y))) in
-    holds-below _ r h (plus-under (worth s) (minusSize x y) b k)
+    holds-below _ r h (plus-under (near binary32 1) near-under (worth s) (minusSize x y) b k)
 
 module _ (p : Pairs) where
   -- ---- the start

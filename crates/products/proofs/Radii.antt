@@ -104,14 +104,15 @@ by-sizes u v a b r e f h = subst (λ m. Holds (negate m) r) (ap₂ (with₂ (mul
 pub term-below : (u v : ℕ) (r : Number) → Holds (negate (with₂ (mul up) (magnitudeOf u) (magnitudeOf v))) r → Below r
 term-below u v r h = holds-below _ r h (negate-above (with₂ (mul up) (magnitudeOf u) (magnitudeOf v)) (product-above u v))
 
-plus-under : (v : ℤ) (t : Option ℤ) → v ≼ pos 0 → NotAbove t → NotAbove (plusDown v t)
+-- a sum of two that are not above zero, where rounding does not lift it above
+pub plus-under : (add : ℤ → Option ℤ) → ((X : ℤ) → X ≼ pos 0 → NotAbove (add X)) → (v : ℤ) (t : Option ℤ) → v ≼ pos 0 → NotAbove t → NotAbove (bind t λ u. add (v +ℤ u))
 unfolding bind
-plus-under v none h k = tt
-plus-under v (some u) h k = down-under (v +ℤ u) (lin-le (v ∷ u ∷ []) (le h ∷ le k ∷ []) (search reading depth 20) (omega arith))
+plus-under add under v none h k = tt
+plus-under add under v (some u) h k = under (v +ℤ u) (lin-le (v ∷ u ∷ []) (le h ∷ le k ∷ []) (search reading depth 20) (omega arith))
 
 -- a radius with a number more that is not above zero
 pub plus-below : (x r : Number) (t : Option ℤ) → Below x → NotAbove t → Holds (plusDown (worth x) t) r → Below r
-plus-below x r t h k H = holds-below _ r H (plus-under (worth x) t h k)
+plus-below x r t h k H = holds-below _ r H (plus-under (down binary32 1) down-under (worth x) t h k)
 
 pub grown-below : (x : Number) (u v : ℕ) (r : Number) → Below x → Grown x u v r → Below r
 grown-below x u v r h G =
