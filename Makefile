@@ -1,7 +1,7 @@
 # Commands of the repository; `make help` lists them.
 .DEFAULT_GOAL := help
 .DELETE_ON_ERROR:
-.PHONY: help run test check bench widths install uninstall fmt clean
+.PHONY: help run test check bench before widths install uninstall fmt clean
 
 PREFIX ?= /usr/local
 archive := target/staticlib/libcoupling.a
@@ -29,6 +29,9 @@ check: ## prove what changed since the last check
 
 bench: $(archive) ## time operations, sheets, sheet jobs and trains beside their peers; ROUNDS=N sets the rounds
 	@$(MAKE) --no-print-directory -C bench $(if $(ROUNDS),ROUNDS=$(ROUNDS))
+
+before: $(archive) ## time products and sheet jobs beside those of an earlier archive, OLD=FILE
+	@$(MAKE) --no-print-directory -C bench before OLD=$(abspath $(OLD)) $(if $(ROUNDS),ROUNDS=$(ROUNDS))
 
 widths: $(archive) ## compare how wide the ranges of the five methods are, and cells that are converted and back
 	@$(MAKE) --no-print-directory -C bench widths

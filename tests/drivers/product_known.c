@@ -18,6 +18,16 @@ static const struct known {
     {"[0, 2] x [0, 2]", 1, 0, TWO, 0, TWO, 0, 0x40800000, 0, 0},
     {"[0, 2] x [0, 2]", 7, 0, TWO, 0, TWO, 0, 0x40800000, ONE, ONE},
     {"[1, 2] x [-1, 3]", 1, ONE, TWO, SIGN | ONE, 0x40400000, SIGN | TWO, 0x40C00000, 0, 0},
+    {"[2, 3] x [5, 7]", 1, TWO, 0x40400000, 0x40A00000, 0x40E00000, 0x41200000, 0x41A80000, 0, 0},
+    {"[2, 3] x [-5, 7]", 1, TWO, 0x40400000, 0xC0A00000, 0x40E00000, 0xC1700000, 0x41A80000, 0, 0},
+    {"[2, 3] x [-7, -5]", 1, TWO, 0x40400000, 0xC0E00000, 0xC0A00000, 0xC1A80000, 0xC1200000, 0, 0},
+    {"[-2, 3] x [5, 7]", 1, SIGN | TWO, 0x40400000, 0x40A00000, 0x40E00000, 0xC1600000, 0x41A80000, 0, 0},
+    {"[-2, 3] x [-5, 7]", 1, SIGN | TWO, 0x40400000, 0xC0A00000, 0x40E00000, 0xC1700000, 0x41A80000, 0, 0},
+    {"[-3, 2] x [-5, 7]", 1, 0xC0400000, TWO, 0xC0A00000, 0x40E00000, 0xC1A80000, 0x41700000, 0, 0},
+    {"[-2, 3] x [-7, -5]", 1, SIGN | TWO, 0x40400000, 0xC0E00000, 0xC0A00000, 0xC1A80000, 0x41600000, 0, 0},
+    {"[-3, -2] x [5, 7]", 1, 0xC0400000, SIGN | TWO, 0x40A00000, 0x40E00000, 0xC1A80000, 0xC1200000, 0, 0},
+    {"[-3, -2] x [-5, 7]", 1, 0xC0400000, SIGN | TWO, 0xC0A00000, 0x40E00000, 0xC1A80000, 0x41700000, 0, 0},
+    {"[-3, -2] x [-7, -5]", 1, 0xC0400000, SIGN | TWO, 0xC0E00000, 0xC0A00000, 0x41200000, 0x41A80000, 0, 0},
     {"[1, 2] x [-1, 3]", 7, ONE, TWO, SIGN | ONE, 0x40400000, SIGN | TWO, 0x40C00000, 0x3FC00000, 0x3F000000},
     {"[1, 2] x [-1, 3]", 3, ONE, TWO, SIGN | ONE, 0x40400000, 0xC0400004, 0x40C00002, 0x3FC00000, 0x3F000000},
     {"[1, 2] x [-1, 3]", 4, ONE, TWO, SIGN | ONE, 0x40400000, 0xC0400000, 0x40C00000, 0x3FC00000, 0x3F000000},
@@ -121,6 +131,6 @@ int check_known_products(void)
     for (int i = 0; i < 5; i++)
         check_largest(of_32[i][0], of_32[i][1], of_32[i][2]);
     if (differences == 0)
-        printf("%zu of one cell, 3 of a row by a column and 10 of size 32 or 33, as expected\n", KNOWN);
+        printf("%zu of one cell, %zu of a row by a column and 10 of size 32 or 33, as expected\n", KNOWN, known_sums);
     return differences;
 }

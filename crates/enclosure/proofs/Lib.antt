@@ -23,6 +23,7 @@ pub mod Farther
 pub mod Conversion
 -- enclosure, method by method
 pub mod Covers
+pub mod RunningSums
 pub mod Classical
 pub mod Four
 pub mod Seven

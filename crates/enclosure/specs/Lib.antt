@@ -5,6 +5,7 @@ pub mod Cell
 pub mod Conversion
 pub mod Optimal
 pub mod Methods
+pub mod RunningSums
 pub mod Fraction
 pub mod CentreError
 pub mod Demand

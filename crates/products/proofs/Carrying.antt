@@ -54,7 +54,7 @@ holds-none (some v) x h t = true-false (sym t ∙ le-ltb 653 (x .exp) (exp-high 
     number = record { normal = h .part .normal; within = subst (λ w. natAbs w ≤ MAX binary32) (sym (h .is .0)) (h .is .1) }
 
 -- the start of a sum
-zero-worth : worth zeroNumber ≡ pos 0
+pub zero-worth : worth zeroNumber ≡ pos 0
 unfolding worth
 zero-worth = refl
 

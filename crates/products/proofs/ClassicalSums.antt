@@ -1,113 +1,105 @@
--- The classical sums of the entry in row i and column j after l pairs, taken apart: they start at zero, a step adds a pair, a pair with a zero cell adds
--- nothing, and the entry is made of the sums after k pairs, or none where a step was refused.
+-- The running sums of an entry by method 1 from pair to pair (`SumsAfter`): they start at [0, 0], a step adds a pair, a pair with a cell [0, 0] adds nothing,
+-- after k pairs they hold the entry, and once a step is refused the entry is.
 use mathlib.Core.Path.{_≡_, refl, sym, ap, ap₂, _∙_, subst}
 use mathlib.Core.Bool.{true, false}
-use mathlib.Core.Logic.{_⊎_, inl, inr, ⊎-elim}
-use mathlib.Core.Option.{Option, none, some, bind}
+use mathlib.Core.Option.{none, some, bind}
 use Prim.Native.Nat.{ℕ, _+_, _*_, _<_}
-use lib.Dec.{ltb}
-use lib.IntN.{ℤ, pos, negℤ}
+use native.Mathlib.Numerals.{add-one}
+use native.Mathlib.Omega.{arith}
+use lib.Dec.{lit<}
+use lib.IntN.{ℤ, pos, negℤ, _+ℤ_, negℤ-negℤ}
 use Rattle.rounding.specs.Format.{binary32}
 use Rattle.rounding.specs.Rounding.{up, down, negate}
+use Rattle.rounding.proofs.DirectedLaws.{up-exact, down-exact}
+use Rattle.rounding.proofs.Sign.{num-neg}
 use Rattle.enclosure.specs.Arithmetic.{of}
-use Rattle.enclosure.specs.Methods.{Range, classical, leastTerm, greatestTerm, total, entry₁, entry}
-use Rattle.enclosure.specs.Sums.{sum}
-use Rattle.binary32.specs.Number.{valueOf}
-use Rattle.products.specs.declared.sums.Sums.{Sums}
+use Rattle.enclosure.specs.Cell.{Cell}
+use Rattle.enclosure.specs.Methods.{classical, leastTerm, greatestTerm}
+use Rattle.enclosure.specs.RunningSums.{addPair}
+use Rattle.enclosure.proofs.RunningSums.{sums-start, sums-more, sums-stay}
 use Rattle.unpacked.specs.Number.{worth, Holds}
-use Rattle.products.specs.declared.apart.Apart.{Apart}
-use Rattle.products.specs.Apart.{lowerNumber, upperNumber}
-use Rattle.unpacked.specs.Corners.{leastProduct, greatestProduct}
-use Rattle.products.specs.Running.{BothNumbers, Stepped, Sum, refusedSums, zeroSums}
-use Rattle.matrices.specs.Matrix.{Matrix, cellAt, lowerAt, upperAt}
+use Rattle.unpacked.proofs.CornerTerms.{ZeroTerms}
+use Rattle.unpacked.proofs.Packing.{num-of}
+use Rattle.matrices.specs.Matrix.{Matrix, cellAt}
 use Rattle.matrices.specs.Entries.{entryOf}
-use Rattle.products.proofs.Or.{or-first, or-second, or-cases}
-use Rattle.products.proofs.Carrying.{zero-runs, holds-runs, holds-none, sum-stays, mirrored-is, negate-none, down-more, up-more}
-use Rattle.products.proofs.Pairs.{Taken}
-use Rattle.unpacked.proofs.CornerTerms.{least-term, greatest-term, ZeroTerms}
-use Rattle.products.proofs.Zeros.{down-same, up-same}
+use Rattle.products.specs.declared.sums.Sums.{Sums}
+use Rattle.products.specs.Classical.{sumsTo, SumsAfter}
+use Rattle.products.specs.Running.{BothNumbers, HoldsRange, boundsOf, plusDown, refusedSums, zeroSums}
+use Rattle.products.proofs.Carrying.{true-false, mirror-plus, zero-worth, zero-runs}
+use Rattle.products.proofs.Holding.{holds-both}
+use Rattle.products.proofs.Zeros.{plus-zero}
 
-pub both-numbers : {low high : Option ℤ} (s : Sums) → Sum low high s → BothNumbers s
-both-numbers s S = record { lower = S .lower .number; opposed = S .upper .number }
+-- ---- one step: each sum with its term
+pub pair-holds : (s : Sums) (a b : Cell) (r : Sums) → Holds (plusDown (worth (s .lower)) (leastTerm (of binary32) a b)) (r .lower)
+    → Holds (plusDown (worth (s .opposed)) (negate (greatestTerm (of binary32) a b))) (r .opposed) → HoldsRange (addPair (of binary32) (boundsOf s) a b) r
+unfolding addPair
+pair-holds s a b r l o = holds-both _ _ r l (subst (λ m. Holds m (r .opposed)) (sym turned) o)
+  where
+    turned : negate (bind (greatestTerm (of binary32) a b) λ t. up binary32 1 (negℤ (worth (s .opposed)) +ℤ t)) ≡ plusDown (worth (s .opposed)) (negate (greatestTerm (of binary32) a b))
+    turned = mirror-plus (negℤ (worth (s .opposed))) (greatestTerm (of binary32) a b) ∙ ap (λ v. plusDown v (negate (greatestTerm (of binary32) a b))) (negℤ-negℤ (worth (s .opposed)))
 
--- two partial results that make a range
-abbrev both : Option ℤ → Option ℤ → Option Range
-both m n = bind m λ u. bind n λ v. some (record { lower = u; upper = v })
+-- ---- a pair whose terms are 0
+pair-zero : (s : Sums) (a b : Cell) → BothNumbers s → ZeroTerms a b → addPair (of binary32) (boundsOf s) a b ≡ some (boundsOf s)
+unfolding addPair bind
+pair-zero s a b N z =
+    ap₂ (λ m n. bind (bind m λ t. down binary32 1 (worth (s .lower) +ℤ t)) λ u. bind (bind n λ t. up binary32 1 (negℤ (worth (s .opposed)) +ℤ t)) λ v. some (record { lower = u; upper = v })) (z .least) (z .greatest)
+    ∙ ap₂ (λ m n. bind m λ u. bind n λ v. some (record { lower = u; upper = v })) lower upper
+  where
+    lower : down binary32 1 (worth (s .lower) +ℤ pos 0) ≡ some (worth (s .lower))
+    lower = ap (down binary32 1) (plus-zero (worth (s .lower))) ∙ down-exact binary32 1 (lit< tt) (num-of (s .lower) (N .lower))
 
+    upper : up binary32 1 (negℤ (worth (s .opposed)) +ℤ pos 0) ≡ some (negℤ (worth (s .opposed)))
+    upper = ap (up binary32 1) (plus-zero (negℤ (worth (s .opposed)))) ∙ up-exact binary32 1 (lit< tt) (num-neg (num-of (s .opposed) (N .opposed)))
+
+-- ---- from pair to pair
 module _ (k n : ℕ) (A B : Matrix) (i j : ℕ) where
-  -- the terms of pair l, and the sums of the first l pairs
-  abbrev least : ℕ → Option ℤ
-  least l = leastTerm (of binary32) (cellAt A (i * k + l)) (cellAt B (l * n + j))
+  -- the cells of pair l
+  abbrev a : ℕ → Cell
+  a l = cellAt A (i * k + l)
 
-  abbrev greatest : ℕ → Option ℤ
-  greatest l = greatestTerm (of binary32) (cellAt A (i * k + l)) (cellAt B (l * n + j))
+  abbrev b : ℕ → Cell
+  b l = cellAt B (l * n + j)
 
-  abbrev pub lowerTo : ℕ → Option ℤ
-  lowerTo l = sum (down binary32 1) least (pos 0) l
-
-  abbrev pub upperTo : ℕ → Option ℤ
-  upperTo l = sum (up binary32 1) greatest (pos 0) l
-
-  pub sum-start : (s : Sums) → s ≡ zeroSums → Sum (lowerTo 0) (upperTo 0) s
-  unfolding sum
-  sum-start s e = subst (Sum (lowerTo 0) (upperTo 0)) (sym e) (record { lower = zero-runs; upper = zero-runs })
-
-  -- pair l: its cell of A taken apart, the other one's bounds as patterns
-  module _ (l : ℕ) (s : Sums) (S : Sum (lowerTo l) (upperTo l) s) (a : Apart) (y z : ℕ) (t : Taken A (i * k + l) a)
-      (ey : y ≡ lowerAt B (l * n + j)) (ez : z ≡ upperAt B (l * n + j)) where
-    abbrev least-in : Option ℤ
-    least-in = leastProduct (worth (lowerNumber a)) (worth (upperNumber a)) (valueOf y) (valueOf z)
-
-    abbrev greatest-in : Option ℤ
-    greatest-in = greatestProduct (worth (lowerNumber a)) (worth (upperNumber a)) (valueOf y) (valueOf z)
-
-    least-is : least-in ≡ least l
-    unfolding cellAt
-    least-is = least-term (cellAt A (i * k + l)) (cellAt B (l * n + j)) (t .lower .1) (t .upper .1) (ap valueOf ey) (ap valueOf ez)
-
-    greatest-is : greatest-in ≡ greatest l
-    unfolding cellAt
-    greatest-is = greatest-term (cellAt A (i * k + l)) (cellAt B (l * n + j)) (t .lower .1) (t .upper .1) (ap valueOf ey) (ap valueOf ez)
-
-    module _ (r : Sums) (h : Stepped s a y z r) where
-      lower-holds : Holds (lowerTo (l + 1)) (r .lower)
-      lower-holds = down-more least (pos 0) l (s .lower) (r .lower) _ (S .lower) (sym least-is) (h .lower)
-
-      upper-holds : Holds (negate (upperTo (l + 1))) (r .opposed)
-      upper-holds = up-more greatest (pos 0) l (s .opposed) (r .opposed) _ (S .upper) (sym greatest-is) (h .opposed)
-
-      pub sum-step : refusedSums r ≡ false → Sum (lowerTo (l + 1)) (upperTo (l + 1)) r
-      sum-step t = record {
-        lower = holds-runs (lowerTo (l + 1)) (r .lower) lower-holds (or-first (ltb 653 (r .lower .exp)) (ltb 653 (r .opposed .exp)) t);
-        upper = holds-runs (negate (upperTo (l + 1))) (r .opposed) upper-holds (or-second (ltb 653 (r .lower .exp)) (ltb 653 (r .opposed .exp)) t);
-      }
-
-      sum-refused : refusedSums r ≡ true → (lowerTo (l + 1) ≡ none) ⊎ (upperTo (l + 1) ≡ none)
-      sum-refused t =
-          ⊎-elim (λ e. inl (holds-none (lowerTo (l + 1)) (r .lower) lower-holds e))
-          (λ e. inr (negate-none (upperTo (l + 1)) (holds-none (negate (upperTo (l + 1))) (r .opposed) upper-holds e)))
-          (or-cases (ltb 653 (r .lower .exp)) (ltb 653 (r .opposed .exp)) t)
-
-      -- a refused step refuses the entry
-      pub entry-refused : l < k → refusedSums r ≡ true → entryOf classical k n A B i j ≡ none
-      unfolding entryOf entry entry₁ total bind
-      entry-refused q t =
-          ⊎-elim (λ e. ap (λ m. both m (upperTo k)) (sum-stays (down binary32 1) least (pos 0) l k q e))
-          (λ e. ap (λ m. both (lowerTo k) m) (sum-stays (up binary32 1) greatest (pos 0) l k q e) ∙ dropped (lowerTo k))
-          (sum-refused t)
-        where
-          dropped : (m : Option ℤ) → both m none ≡ none
-          dropped none = refl
-          dropped (some v) = refl
-
-    -- a pair with a cell [0, 0]
-    pub sum-skip : ZeroTerms (worth (lowerNumber a)) (worth (upperNumber a)) (valueOf y) (valueOf z) → Sum (lowerTo (l + 1)) (upperTo (l + 1)) s
-    sum-skip h = record {
-      lower = down-same least (pos 0) l (sym least-is ∙ h .least) (s .lower) (S .lower);
-      upper = up-same greatest (pos 0) l (sym greatest-is ∙ h .greatest) (s .opposed) (S .upper);
-    }
+  pub after-none : (s : Sums) → s ≡ zeroSums → SumsAfter k n A B i j 0 s
+  unfolding sumsTo
+  after-none s e = subst (SumsAfter k n A B i j 0) (sym e) (record {
+    holds = record {
+      refused = λ t. true-false (sym t);
+      numbers = λ t. record { lower = zero-runs .number; opposed = zero-runs .number };
+      whole = λ t. sums-start (of binary32) a b ∙ ap (λ (v : ℤ). some (record { lower = v; upper = negℤ v })) (sym zero-worth);
+    };
+    going = refl;
+  })
 
   -- the whole entry
-  pub entry-whole : (s : Sums) → Sum (lowerTo k) (upperTo k) s → entryOf classical k n A B i j ≡ some (record { lower = worth (s .lower); upper = negℤ (worth (s .opposed)) })
-  unfolding entryOf entry entry₁ total bind
-  entry-whole s S = ap₂ both (S .lower .is) (mirrored-is (upperTo k) (s .opposed) (S .upper))
+  pub after-all : (l : ℕ) (s : Sums) → l ≡ k → SumsAfter k n A B i j l s → HoldsRange (entryOf classical k n A B i j) s
+  unfolding sumsTo entryOf
+  after-all l s e S = subst (λ m. HoldsRange (sumsTo k n A B i j m) s) e (S .holds)
+
+  module _ (l : ℕ) (s : Sums) (S : SumsAfter k n A B i j l s) where
+    next : sumsTo k n A B i j (l + 1) ≡ addPair (of binary32) (boundsOf s) (a l) (b l)
+    unfolding sumsTo bind
+    next =
+        ap (sumsTo k n A B i j) (add-one l) ∙ sums-more (of binary32) a b l
+        ∙ ap (λ m. bind m λ r. addPair (of binary32) r (a l) (b l)) (S .holds .whole (S .going))
+
+    -- a pair with a cell [0, 0]
+    pub after-zero : ZeroTerms (a l) (b l) → SumsAfter k n A B i j (l + 1) s
+    after-zero z =
+        let N = S .holds .numbers (S .going) in
+        let is = next ∙ pair-zero s (a l) (b l) N z in
+        record { holds = record { refused = λ t. true-false (sym t ∙ S .going); numbers = λ _. N; whole = λ _. is }; going = S .going }
+
+    -- a step
+    module _ (r : Sums) (h : HoldsRange (addPair (of binary32) (boundsOf s) (a l) (b l)) r) where
+      -- it holds the sums over one pair more, or the refusal that either gives
+      pub after-step : HoldsRange (sumsTo k n A B i j (l + 1)) r
+      after-step = subst (λ m. HoldsRange m r) (sym next) h
+
+      pub after-more : refusedSums r ≡ false → SumsAfter k n A B i j (l + 1) r
+      after-more t = record { holds = after-step; going = t }
+
+      -- which refuses the entry
+      pub entry-refused : l < k → refusedSums r ≡ true → entryOf classical k n A B i j ≡ none
+      unfolding sumsTo entryOf
+      entry-refused m t = sums-stay (of binary32) a b (l + 1) k (omega arith) (after-step .refused t)

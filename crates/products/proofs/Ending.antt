@@ -1,31 +1,30 @@
 -- The end of an entry of methods 3, 4, 5 and 7: centre less radius, centre and radius. It is none where one of them or of its two ends is none,
 -- and has both ends otherwise. And which entry stands at a place, and what is read for it.
-use mathlib.Core.Path.{_≡_, refl, sym, ap, ap₂, _∙_}
-use mathlib.Core.Bool.{true, false}
+use mathlib.Core.Path.{_≡_, refl, sym, ap, ap₂, _∙_, subst}
 use mathlib.Core.List.{List, [], _∷_}
-use mathlib.Core.Logic.{_⊎_, inl, inr}
+use mathlib.Core.Logic.{inl, inr}
 use mathlib.Core.Option.{Option, none, some, bind, Option·none-ne-some}
 use Prim.Native.Nat.{ℕ, _+_, _*_, _≤_, _<_}
 use native.Mathlib.Omega.{arith}
-use lib.Dec.{ltb}
 use lib.IntN.{ℤ, negℤ, _+ℤ_, _-ℤ_}
 use lib.ListN.{length, getD}
 use Rattle.algebra.proofs.Linear.{reading, lin-eq}
 use Rattle.rounding.specs.Format.{binary32}
 use Rattle.rounding.specs.Rounding.{up, down, negate}
 use Rattle.enclosure.specs.Arithmetic.{of}
-use Rattle.enclosure.specs.Methods.{Range, ends}
+use Rattle.enclosure.specs.Methods.{Method, ends, entry}
+use Rattle.enclosure.proofs.RunningSums.{both}
 use Rattle.unpacked.specs.declared.Number.{Number}
 use Rattle.products.specs.declared.sums.Sums.{Sums}
 use Rattle.unpacked.specs.Number.{worth, Runs}
-use Rattle.products.specs.Running.{Ended, BothNumbers, refusedSums, Closes}
+use Rattle.products.specs.Running.{Ended, HoldsRange}
 use Rattle.products.specs.Centred.{OneNone}
-use Rattle.products.specs.MidRad.{Sized}
+use Rattle.products.specs.MidRad.{Sized, midRadAt, entryFrom}
 use Rattle.products.specs.Derived.{MidRad}
 use Rattle.refusals.proofs.SizeLaws.{small}
-use Rattle.matrices.proofs.Places.{below}
-use Rattle.products.proofs.Carrying.{holds-runs, holds-none, mirrored-is, negate-none}
-use Rattle.products.proofs.Or.{or-first, or-second, or-cases}
+use Rattle.matrices.proofs.Places.{below, position-row, position-column}
+use Rattle.products.proofs.Carrying.{mirrored-is}
+use Rattle.products.proofs.Holding.{holds-both}
 
 -- ---- where a centre or the radius is none
 pub ends-none : (R L H : Option ℤ) → OneNone L H R → ends (of binary32) R L H ≡ none
@@ -51,44 +50,21 @@ module _ (R L H : Option ℤ) (l o r : Number) (e : Sums) (a : Runs L l) (b : Ru
   abbrev high : Option ℤ
   high = up binary32 1 (negℤ (worth o +ℤ worth r))
 
-  abbrev both : Option ℤ → Option ℤ → Option Range
-  both m n = bind m λ x. bind n λ y. some (record { lower = x; upper = y })
-
   are : ends (of binary32) R L H ≡ both low high
   unfolding ends bind
   are =
       ap₂ (λ t s. ends (of binary32) t s H) (mirrored-is R r c) (a .is) ∙ ap (λ t. ends (of binary32) (some (negℤ (worth r))) (some (worth l)) t) (mirrored-is H o b)
       ∙ ap₂ both (ap (down binary32 1) (sub-neg (worth l) (worth r))) (ap (up binary32 1) (neg-add (worth o) (worth r)))
 
-  pub end-none : refusedSums e ≡ true → ends (of binary32) R L H ≡ none
-  unfolding bind down
-  end-none t = are ∙ go (or-cases (ltb 653 (e .lower .exp)) (ltb 653 (e .opposed .exp)) t)
-    where
-      last : (m : Option ℤ) → both m none ≡ none
-      last none = refl
-      last (some x) = refl
+  pub ends-hold : HoldsRange (ends (of binary32) R L H) e
+  unfolding down
+  ends-hold = subst (λ m. HoldsRange m e) (sym are) (holds-both low high e (E .lower) (E .opposed))
 
-      go : (ltb 653 (e .lower .exp) ≡ true) ⊎ (ltb 653 (e .opposed .exp) ≡ true) → both low high ≡ none
-      go (inl q) = ap (λ m. both m high) (holds-none low (e .lower) (E .lower) q)
-      go (inr q) = ap (both low) (negate-none high (holds-none (negate high) (e .opposed) (E .opposed) q)) ∙ last low
-
-  module _ (t : refusedSums e ≡ false) where
-    lower-runs : Runs low (e .lower)
-    lower-runs = holds-runs low (e .lower) (E .lower) (or-first (ltb 653 (e .lower .exp)) (ltb 653 (e .opposed .exp)) t)
-
-    upper-runs : Runs (negate high) (e .opposed)
-    unfolding down
-    upper-runs = holds-runs (negate high) (e .opposed) (E .opposed) (or-second (ltb 653 (e .lower .exp)) (ltb 653 (e .opposed .exp)) t)
-
-    pub end-numbers : BothNumbers e
-    end-numbers = record { lower = lower-runs .number; opposed = upper-runs .number }
-
-    pub end-is : ends (of binary32) R L H ≡ some (record { lower = worth (e .lower); upper = negℤ (worth (e .opposed)) })
-    unfolding bind
-    end-is = are ∙ ap₂ both (lower-runs .is) (mirrored-is high (e .opposed) upper-runs)
-
-pub closes : (R L H : Option ℤ) (l o r : Number) (e : Sums) → Runs L l → Runs (negate H) o → Runs (negate R) r → Ended l o r e → Closes (ends (of binary32) R L H) e
-closes R L H l o r e a b c E = record { refused = end-none R L H l o r e a b c E; numbers = end-numbers R L H l o r e a b c E; whole = end-is R L H l o r e a b c E }
+-- ---- the entry at the place of row i and column j, c by rows
+module _ (method : Method) (k n i j c : ℕ) (e : c ≡ i * n + j) (h : j < n) where
+  pub position-entry-from : (ma ra mb rb : List ℕ) → entryFrom method k n ma ra mb rb c ≡ entry (of binary32) method k (λ l. midRadAt ma ra (i * k + l)) (λ l. midRadAt mb rb (l * n + j))
+  unfolding entryFrom
+  position-entry-from ma ra mb rb = ap₂ (λ r t. entry (of binary32) method k (λ l. midRadAt ma ra (r * k + l)) (λ l. midRadAt mb rb (l * n + t))) (position-row i j n c e h) (position-column i j n c e h)
 
 -- ---- what is read in row i and column j at pair l: places within the lists, below 1024, and midpoints and radii there
 pub record Places (k n i j l : ℕ) (ma ra mb rb : List ℕ) (size : ℕ) : Type 0 where

@@ -24,14 +24,13 @@ use Rattle.products.specs.Continued.{Line, Reaches, grownBy}
 use Rattle.products.specs.Derived.{Derived, outerOf, partOf}
 use Rattle.products.specs.MidRad.{Sized}
 use Rattle.products.specs.Row.{RowReaches, RowUnpacked}
-use Rattle.products.specs.Running.{Closes}
+use Rattle.products.specs.Running.{HoldsRange}
 use Rattle.products.proofs.CentreSizes.{finite-number}
-use Rattle.products.proofs.Ending.{places}
+use Rattle.products.proofs.Ending.{places, position-entry-from}
 use Rattle.products.proofs.EntryExt.{bind-each}
 use Rattle.products.proofs.FourEntry.{Spot, Read, entryBy, a-mid, a-rad, b-mid, b-rad, left, right, line, reaches}
 use Rattle.products.proofs.MidRadSteps.{largest-is}
 use Rattle.products.proofs.SevenEntry.{Made, held-number}
-use Rattle.products.proofs.Writing.{position-entry-from}
 
 -- a pattern that holds v has the value v
 held-value : (q : ℕ) (v : ℤ) → held q ≡ some v → valueOf q ≡ v
@@ -152,8 +151,8 @@ module _ (p : Spot) (q : Lists) where
         ∙ by-size (p .k) _ _
 
     -- ---- the entry, at position c by rows
-    pub five-closes : (c : ℕ) → c ≡ p .i * p .n + p .j → (e : Sums) → Closes (rangeOf mids parts outers) e → Closes (entryBy p five c) e
+    pub five-holds : (c : ℕ) → c ≡ p .i * p .n + p .j → (e : Sums) → HoldsRange (rangeOf mids parts outers) e → HoldsRange (entryBy p five c) e
     unfolding rangeOf entry
-    five-closes c at e =
-        subst (λ m. Closes m e)
+    five-holds c at e =
+        subst (λ m. HoldsRange m e)
         (ap₂ (λ r s. ends (of binary32) r s s) radius-is centre-is ∙ sym (position-entry-from five (p .k) (p .n) (p .i) (p .j) c at (P .column) (p .ma) (p .ra) (p .mb) (p .rb)))

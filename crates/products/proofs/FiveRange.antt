@@ -6,21 +6,16 @@ use mathlib.Core.Option.{Option, none, bind}
 use lib.IntN.{ℤ, pos, negℤ}
 use lib.Dec.{ltb}
 use Rattle.rounding.specs.Rounding.{negate}
-use Rattle.enclosure.specs.Methods.{Range}
 use Rattle.unpacked.specs.declared.Number.{Number}
 use Rattle.unpacked.specs.Number.{worth, Holds, Runs, Opposite}
 use Rattle.products.specs.declared.sums.Sums.{Sums}
 use Rattle.products.specs.declared.«centre_size».CentreSize.{CentreSize}
 use Rattle.products.specs.Continued.{Line}
 use Rattle.products.specs.CentreSize.{Pairs, centreFrom, sizeFrom, SizedSum, SizedNone, radiusFor, centreOver, sizeOver, rangeOf}
-use Rattle.products.specs.Running.{Ended, refusedSums, Closes}
-use Rattle.products.proofs.Carrying.{true-false, bind-some, bind-none, holds-runs, holds-none, negate-none, mirrored-is}
-use Rattle.products.proofs.Ending.{ends-none, closes}
+use Rattle.products.specs.Running.{Ended, HoldsRange}
+use Rattle.products.proofs.Carrying.{bind-some, bind-none, holds-runs, holds-none, negate-none, mirrored-is}
+use Rattle.products.proofs.Ending.{ends-none, ends-hold}
 use Rattle.products.proofs.NearestSteps.{opposite-runs}
-
--- an entry that is none, and bounds that are refused
-pub closes-none : {m : Option Range} (e : Sums) → m ≡ none → refusedSums e ≡ true → Closes m e
-closes-none e h t = record { refused = λ _. h; numbers = λ f. true-false (sym t ∙ f); whole = λ f. true-false (sym t ∙ f) }
 
 -- p are the pairs of midpoints, q those of parts, and w those of |m| + r; the sums start from zero
 module _ (p q : Pairs) (w : Line) (z : CentreSize) (zc : worth (z .centre) ≡ pos 0) (zs : worth (z .size) ≡ pos 0) where
@@ -66,8 +61,8 @@ module _ (p q : Pairs) (w : Line) (z : CentreSize) (zc : worth (z .centre) ≡ p
         pub radius-runs : ltb 653 (r .exp) ≡ false → Runs (negate radius) r
         radius-runs e = subst (λ m. Runs (negate m) r) (sym radius-is) (holds-runs _ r R e)
 
-        pub range-closes : (o : Number) (e : Sums) → ltb 653 (r .exp) ≡ false → Opposite (t .centre) o → Ended (t .centre) o r e → Closes (rangeOf p q w) e
+        pub range-holds : (o : Number) (e : Sums) → ltb 653 (r .exp) ≡ false → Opposite (t .centre) o → Ended (t .centre) o r e → HoldsRange (rangeOf p q w) e
         unfolding rangeOf
-        range-closes o e f O E =
+        range-holds o e f O E =
             let c : Runs (centreOver p q) (t .centre) = subst (λ m. Runs m (t .centre)) (sym centre-is) (T .centre) in
-            closes radius (centreOver p q) (centreOver p q) (t .centre) o r e c (opposite-runs (centreOver p q) (t .centre) o c O) (radius-runs f) E
+            ends-hold radius (centreOver p q) (centreOver p q) (t .centre) o r e c (opposite-runs (centreOver p q) (t .centre) o c O) (radius-runs f) E

@@ -24,18 +24,17 @@ use Rattle.unpacked.specs.declared.Number.{Number}
 use Rattle.products.specs.declared.centred.Centred.{Centred}
 use Rattle.products.specs.declared.sums.Sums.{Sums}
 use Rattle.unpacked.specs.Number.{worth, Below, Holds, Runs}
-use Rattle.products.specs.Running.{Ended, Closes}
+use Rattle.products.specs.Running.{Ended, HoldsRange}
 use Rattle.products.specs.Centred.{growth, zeroCentred, AllNumbers, Added, refusedCentred, CentredSum, OneNone}
 use Rattle.products.specs.Continued.{Line, Reaches, grownBy, Continued}
 use Rattle.products.specs.Derived.{outerOf}
 use Rattle.products.specs.MidRad.{midRadAt, entryFrom}
-use Rattle.products.proofs.Writing.{position-entry-from}
 use Rattle.products.proofs.Carrying.{holds-runs, holds-none, zero-below, mirrored-is, negate-none}
 use Rattle.products.proofs.Radii.{grown-below}
 use Rattle.products.proofs.MidRadSteps.{mid-is, inner-is, outer-is}
 use Rattle.products.proofs.CentredSteps.{CentredHolds, all-numbers, centred-runs, centred-none, centred-more, centred-none-yet, one-stays}
 use Rattle.products.proofs.Zeros.{centred-same, is-zero, down-zero, up-zero, mid-zero, inner-zero}
-use Rattle.products.proofs.Ending.{ends-none, closes, Places}
+use Rattle.products.proofs.Ending.{ends-none, ends-hold, Places, position-entry-from}
 
 -- an entry's row i and column j, and the midpoints and radii of A (k columns) and of B (n columns)
 pub record Spot : Type 0 where
@@ -181,9 +180,9 @@ module _ (p : Spot) where
     pub four-outer : (s : Centred) → MiddleSum (p .k) s → outers (negℤ (worth (s .radius))) (p .k) ≡ none → entryBy four c ≡ none
     four-outer s S e = is ∙ ends-none radius (middles down (p .k)) (middles up (p .k)) (inr (inr (radius-is s S (λ v. outers v (p .k)) ∙ e)))
 
-    pub four-closes : (s : Centred) (x : Number) (e : Sums) → MiddleSum (p .k) s → Runs (negate (outers (negℤ (worth (s .radius))) (p .k))) x → Ended (s .lower) (s .opposed) x e → Closes (entryBy four c) e
+    pub four-holds : (s : Centred) (x : Number) (e : Sums) → MiddleSum (p .k) s → Runs (negate (outers (negℤ (worth (s .radius))) (p .k))) x → Ended (s .lower) (s .opposed) x e → HoldsRange (entryBy four c) e
     unfolding MiddleSum
-    four-closes s x e S R E =
-        subst (λ m. Closes m e) (sym is)
-        (closes radius (middles down (p .k)) (middles up (p .k)) (s .lower) (s .opposed) x e (S .0 .lower) (S .0 .upper)
+    four-holds s x e S R E =
+        subst (λ m. HoldsRange m e) (sym is)
+        (ends-hold radius (middles down (p .k)) (middles up (p .k)) (s .lower) (s .opposed) x e (S .0 .lower) (S .0 .upper)
         (subst (λ m. Runs (negate m) x) (sym (radius-is s S (λ v. outers v (p .k)))) R) E)

@@ -1,8 +1,9 @@
--- what is in the result's cells
-pub mod Writing
--- sums that go on from pair to pair
+-- sums that go on from pair to pair, the ranges that they hold, entries written by rows
 pub mod Or
 pub mod Carrying
+pub mod Holding
+pub mod Rows
+pub mod EntryExt
 -- the sums of method 1
 pub mod Pairs
 pub mod Zeros
@@ -11,7 +12,6 @@ pub mod ClassicalSums
 pub mod Derivations
 pub mod Raised
 pub mod Converts
-pub mod EntryExt
 pub mod Chosen
 pub mod MidRads
 -- the sums of methods 3, 4 and 7

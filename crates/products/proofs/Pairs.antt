@@ -1,5 +1,5 @@
--- The two cells of a pair: their bounds are numbers, and the test for a cell that is [0, 0].
-use mathlib.Core.Path.{_≡_, ap, _∙_}
+-- The two cells of a pair by method 1: their bounds are numbers, a step on them, and the tests for a cell that is [0, 0].
+use mathlib.Core.Path.{_≡_, sym, ap, ap₂, _∙_, subst}
 use mathlib.Core.Bool.{false}
 use mathlib.Core.Logic.{⊎-elim}
 use Prim.Native.Nat.{ℕ, _+_, _^_, _≤_, _<_}
@@ -8,25 +8,33 @@ use native.Mathlib.Nat.{eq-zero-or-pos, zero-mul}
 use lib.Dec.{ltb}
 use lib.IntN.{pos, natAbs, _*ℤ_}
 use borrow.Author.Tests.{ltb-false}
+use Rattle.rounding.specs.Format.{binary32}
+use Rattle.enclosure.specs.Arithmetic.{of}
+use Rattle.enclosure.specs.Cell.{Cell}
+use Rattle.enclosure.specs.Conversion.{cellOf}
+use Rattle.enclosure.specs.Methods.{Range}
+use Rattle.enclosure.specs.RunningSums.{addPair}
 use Rattle.binary32.specs.Number.{valueOf}
 use Rattle.binary32.specs.Order.{magnitudeOf}
 use Rattle.binary32.proofs.Held.{finite-is, finites-first, finites-second}
 use Rattle.intervals.proofs.Faults.{fine-tells}
 use Rattle.unpacked.specs.declared.Number.{Number}
-use Rattle.products.specs.declared.apart.Apart.{Apart}
 use Rattle.unpacked.specs.Number.{worth, IsNumber}
-use Rattle.products.specs.Apart.{IsApart, lowerNumber, upperNumber}
-use Rattle.products.specs.Apart.{Cells}
-use Rattle.matrices.specs.Matrix.{Matrix, AllFine, lowerAt, upperAt}
 use Rattle.unpacked.proofs.Worths.{worth-is, exp-some, exp-low}
 use Rattle.unpacked.proofs.FarShifts.{natAbs-zero}
 use Rattle.unpacked.proofs.Multiplying.{unpacked-number}
-use Rattle.unpacked.proofs.CornerSteps.{Worth}
+use Rattle.unpacked.proofs.CornerTerms.{ZeroTerms, zero-value, zero-first, zero-second}
+use Rattle.matrices.specs.Matrix.{Matrix, AllFine, cellAt, lowerAt, upperAt}
+use Rattle.products.specs.declared.apart.Apart.{Apart}
+use Rattle.products.specs.declared.sums.Sums.{Sums}
+use Rattle.products.specs.Apart.{IsApart, Cells, lowerNumber, upperNumber}
+use Rattle.products.specs.Classical.{leftCell, rightCell}
+use Rattle.products.specs.Running.{HoldsRange}
 
 -- the cell at position p of A, taken apart
 pub record Taken (A : Matrix) (p : ℕ) (a : Apart) : Type 0 where
-  pub lower : Worth (valueOf (lowerAt A p)) (lowerNumber a)
-  pub upper : Worth (valueOf (upperAt A p)) (upperNumber a)
+  pub lower : IsNumber (lowerNumber a) × (worth (lowerNumber a) ≡ valueOf (lowerAt A p))
+  pub upper : IsNumber (upperNumber a) × (worth (upperNumber a) ≡ valueOf (upperAt A p))
 
 pub fine-taken : (A : Matrix) (m p : ℕ) (a : Apart) → AllFine A m → p < m → IsApart (lowerAt A p) (upperAt A p) a → Taken A p a
 fine-taken A m p a f h i =
@@ -36,21 +44,25 @@ fine-taken A m p a f h i =
       upper = unpacked-number (upperAt A p) (upperNumber a) (finites-second (lowerAt A p) (upperAt A p) x) (i .upper);
     }
 
+-- it and the cell at position q of B
 pub fine-cells : (A B : Matrix) (m p q : ℕ) (a : Apart) → Taken A p a → AllFine B m → q < m → Cells a (lowerAt B q) (upperAt B q)
 fine-cells A B m p q a t g k =
-    let y = fine-tells (lowerAt B q) (upperAt B q) (g q k) .both in
+    let o = fine-tells (lowerAt B q) (upperAt B q) (g q k) in
     record {
       a-lower = t .lower .0;
       a-upper = t .upper .0;
-      b-lower = finite-is (lowerAt B q) (finites-first (lowerAt B q) (upperAt B q) y);
-      b-upper = finite-is (upperAt B q) (finites-second (lowerAt B q) (upperAt B q) y);
+      b-lower = finite-is (lowerAt B q) (finites-first (lowerAt B q) (upperAt B q) (o .both));
+      b-upper = finite-is (upperAt B q) (finites-second (lowerAt B q) (upperAt B q) (o .both));
+      b-order = o .order;
     }
 
--- ---- a cell that is [0, 0]: in patterns, and taken apart
-pub zero-cell : (lo hi : ℕ) → ltb 0 (magnitudeOf lo + magnitudeOf hi) ≡ false → (magnitudeOf lo ≡ 0) × (magnitudeOf hi ≡ 0)
-zero-cell lo hi t =
-    let e = ltb-false 0 (magnitudeOf lo + magnitudeOf hi) t in
-    (omega arith, omega arith)
+-- a step that adds the two adds the cells of the matrices
+pub step-cells : (A B : Matrix) (p q : ℕ) (a : Apart) → Taken A p a → (s : Range) (r : Sums)
+    → HoldsRange (addPair (of binary32) s (leftCell a) (rightCell (lowerAt B q) (upperAt B q))) r → HoldsRange (addPair (of binary32) s (cellAt A p) (cellAt B q)) r
+unfolding cellAt
+step-cells A B p q a t s r = subst (λ c. HoldsRange (addPair (of binary32) s c (cellAt B q)) r) (ap₂ (cellOf (of binary32)) (t .lower .1) (t .upper .1))
+
+-- ---- a cell that is [0, 0], by the test of its exponents or of its patterns: its terms are 0
 
 -- zero alone has the exponent 64
 pub none-worth : (x : Number) → IsNumber x → x .exp ≤ 64 → worth x ≡ pos 0
@@ -62,10 +74,16 @@ none-worth x n h = worth-is x (pos 0) (ap (λ z. z *ℤ pos (2 ^ (x .exp))) (nat
     none : natAbs (x .sig) ≡ 0
     none = ⊎-elim (λ e. e) (λ p. absurd (no (exp-some x (n .normal) p))) (eq-zero-or-pos (natAbs (x .sig)))
 
-pub zero-apart : (a : Apart) → IsNumber (lowerNumber a) → IsNumber (upperNumber a) → ltb 128 (lowerNumber a .exp + upperNumber a .exp) ≡ false
-    → (worth (lowerNumber a) ≡ pos 0) × (worth (upperNumber a) ≡ pos 0)
-zero-apart a n m t =
-    let e = ltb-false 128 (lowerNumber a .exp + upperNumber a .exp) t in
-    let k = exp-low (lowerNumber a) (n .normal) in
-    let l = exp-low (upperNumber a) (m .normal) in
-    (none-worth (lowerNumber a) n (omega arith), none-worth (upperNumber a) m (omega arith))
+pub apart-zero : (A : Matrix) (p : ℕ) (a : Apart) (b : Cell) → Taken A p a → ltb 128 (lowerNumber a .exp + upperNumber a .exp) ≡ false → ZeroTerms (cellAt A p) b
+unfolding cellAt
+apart-zero A p a b t f =
+    let e = ltb-false 128 (lowerNumber a .exp + upperNumber a .exp) f in
+    let k = exp-low (lowerNumber a) (t .lower .0 .normal) in
+    let l = exp-low (upperNumber a) (t .upper .0 .normal) in
+    zero-first (sym (t .lower .1) ∙ none-worth (lowerNumber a) (t .lower .0) (omega arith)) (sym (t .upper .1) ∙ none-worth (upperNumber a) (t .upper .0) (omega arith))
+
+pub patterns-zero : (B : Matrix) (q : ℕ) (a : Cell) → ltb 0 (magnitudeOf (lowerAt B q) + magnitudeOf (upperAt B q)) ≡ false → ZeroTerms a (cellAt B q)
+unfolding cellAt
+patterns-zero B q a f =
+    let e = ltb-false 0 (magnitudeOf (lowerAt B q) + magnitudeOf (upperAt B q)) f in
+    zero-second (zero-value (lowerAt B q) (omega arith)) (zero-value (upperAt B q) (omega arith))

@@ -20,14 +20,13 @@ use Rattle.unpacked.specs.declared.Number.{Number}
 use Rattle.products.specs.declared.centred.Centred.{Centred}
 use Rattle.products.specs.declared.sums.Sums.{Sums}
 use Rattle.unpacked.specs.Number.{worth, Runs}
-use Rattle.products.specs.Running.{Ended, Closes}
+use Rattle.products.specs.Running.{Ended, HoldsRange}
 use Rattle.products.specs.Centred.{OneNone}
 use Rattle.products.specs.Continued.{centreBy, shrunkBy, PartsSum, PartsNone}
 use Rattle.products.specs.Derived.{partOf}
-use Rattle.products.proofs.Writing.{position-entry-from}
 use Rattle.products.proofs.Carrying.{bind-some, bind-none, mirrored-is, negate²}
 use Rattle.products.proofs.MidRadSteps.{part-is, shared-is}
-use Rattle.products.proofs.Ending.{ends-none, closes}
+use Rattle.products.proofs.Ending.{ends-none, ends-hold, position-entry-from}
 use Rattle.products.proofs.FourEntry.{Spot, entryBy, a-mid, a-rad, b-mid, b-rad, left, right, line, middles, inners, outers, MiddleSum, MiddleNone}
 
 module _ (p : Spot) where
@@ -110,10 +109,10 @@ module _ (p : Spot) where
             go (inr (inl e)) = inr (inl (high-is s S ∙ parts-are up _ ∙ e))
             go (inr (inr e)) = inr (inr (radius-is s S y R ∙ shareds-are _ ∙ e))
 
-        pub seven-closes : (t : Centred) (e : Sums) → PartsSum (line p pa pb) from (p .k) t → Ended (t .lower) (t .opposed) (t .radius) e → Closes (entryBy p seven c) e
-        seven-closes t e Q E =
-            subst (λ m. Closes m e) (sym is)
-            (closes radius (centred down) (centred up) (t .lower) (t .opposed) (t .radius) e
+        pub seven-holds : (t : Centred) (e : Sums) → PartsSum (line p pa pb) from (p .k) t → Ended (t .lower) (t .opposed) (t .radius) e → HoldsRange (entryBy p seven c) e
+        seven-holds t e Q E =
+            subst (λ m. HoldsRange m e) (sym is)
+            (ends-hold radius (centred down) (centred up) (t .lower) (t .opposed) (t .radius) e
             (subst (λ m. Runs m (t .lower)) (sym (low-is s S ∙ parts-are down _)) (Q .lower))
             (subst (λ m. Runs (negate m) (t .opposed)) (sym (high-is s S ∙ parts-are up _)) (Q .upper))
             (subst (λ m. Runs (negate m) (t .radius)) (sym (radius-is s S y R ∙ shareds-are _)) (Q .radius))

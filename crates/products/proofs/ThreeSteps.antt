@@ -18,17 +18,16 @@ use Rattle.unpacked.specs.declared.Number.{Number}
 use Rattle.products.specs.declared.nearest.Nearest.{Nearest}
 use Rattle.products.specs.declared.sums.Sums.{Sums}
 use Rattle.unpacked.specs.Number.{worth, IsNumber, Below, Holds, Runs, Opposite, minusTiny}
-use Rattle.products.specs.Running.{plusDown, Ended, Closes}
+use Rattle.products.specs.Running.{plusDown, Ended, HoldsRange}
 use Rattle.products.specs.Centred.{zeroNearest, NearNumbers, NearAdded, refusedNearest, NearestSum, addsOf, OneNone}
 use Rattle.products.specs.Derived.{raisedOf, factorOf}
-use Rattle.products.proofs.Writing.{position-entry-from}
 use Rattle.products.proofs.Carrying.{holds-runs, holds-none, zero-runs, zero-below, mirrored-is, negate-none, any-more, up-more, sum-stays}
 use Rattle.products.proofs.Radii.{plus-below, grown-below}
 use Rattle.unpacked.proofs.CornerTerms.{zero-value}
 use Rattle.products.proofs.Zeros.{near-same, up-same, adds-not, near-zero, mid-zero, raised-zero}
 use Rattle.products.proofs.MidRadSteps.{mid-is, raised-is}
 use Rattle.products.proofs.NearestSteps.{NearestHolds, near-runs, near-none, opposite-runs, tiny, tiny-holds, tinied, tiny-more}
-use Rattle.products.proofs.Ending.{ends-none, closes}
+use Rattle.products.proofs.Ending.{ends-none, ends-hold, position-entry-from}
 use Rattle.products.proofs.FourEntry.{Spot, a-mid, a-rad, b-mid, b-rad, left, right, Read, entryBy, middles, outers}
 
 nested : (m : Option ℤ) (g : ℤ → Option ℤ) → bind m (λ s. bind (up binary32 1 (s +ℤ pos tiny)) g) ≡ bind (tinied m) g
@@ -159,9 +158,9 @@ module _ (p : Spot) where
     pub three-outer : (y : Number) → TinySum y → outers p (negℤ (worth y)) (p .k) ≡ none → entryBy p three c ≡ none
     three-outer y S e = is ∙ ends-none radius middle middle (inr (inr (radius-is y S ∙ e)))
 
-    pub three-closes : (s : Nearest) (y o x : Number) (e : Sums) → FirstSum (p .k) s → TinySum y → Opposite (s .centre) o → Runs (negate (outers p (negℤ (worth y)) (p .k))) x → Ended (s .centre) o x e
-        → Closes (entryBy p three c) e
+    pub three-holds : (s : Nearest) (y o x : Number) (e : Sums) → FirstSum (p .k) s → TinySum y → Opposite (s .centre) o → Runs (negate (outers p (negℤ (worth y)) (p .k))) x → Ended (s .centre) o x e
+        → HoldsRange (entryBy p three c) e
     unfolding FirstSum
-    three-closes s y o x e F S O R E =
-        subst (λ m. Closes m e) (sym is)
-        (closes radius middle middle (s .centre) o x e (F .centre) (opposite-runs middle (s .centre) o (F .centre) O) (subst (λ m. Runs (negate m) x) (sym (radius-is y S)) R) E)
+    three-holds s y o x e F S O R E =
+        subst (λ m. HoldsRange m e) (sym is)
+        (ends-hold radius middle middle (s .centre) o x e (F .centre) (opposite-runs middle (s .centre) o (F .centre) O) (subst (λ m. Runs (negate m) x) (sym (radius-is y S)) R) E)

@@ -35,7 +35,7 @@ use Rattle.unpacked.proofs.CornerTerms.{zero-value, zero-left}
 use Rattle.unpacked.proofs.Patterns.{held-is}
 
 -- ---- a sum with zero more is itself
-plus-zero : (v : ℤ) → v +ℤ pos 0 ≡ v *ℤ pos 1
+pub plus-zero : (v : ℤ) → v +ℤ pos 0 ≡ v *ℤ pos 1
 plus-zero v = lin-eq (v ∷ []) [] (search reading depth 20) (omega arith)
 
 module _ (f : ℕ → Option ℤ) (s : ℤ) (l : ℕ) (e : f l ≡ some (pos 0)) (x : Number) where
@@ -47,7 +47,7 @@ module _ (f : ℕ → Option ℤ) (s : ℤ) (l : ℕ) (e : f l ≡ some (pos 0))
     number = R .number;
   }
 
-  pub down-same : Runs (sum (down binary32 1) f s l) x → Runs (sum (down binary32 1) f s (l + 1)) x
+  down-same : Runs (sum (down binary32 1) f s l) x → Runs (sum (down binary32 1) f s (l + 1)) x
   down-same = any-same (down binary32 1) (λ v n. down-exact binary32 1 (lit< tt) n)
 
   pub near-same : Runs (sum (near binary32 1) f s l) x → Runs (sum (near binary32 1) f s (l + 1)) x

@@ -2,7 +2,8 @@
 use Prim.Native.Nat.{ℕ}
 use lib.IntN.{pos}
 use Rattle.unpacked.specs.declared.Number.{Number}
-use Rattle.binary32.specs.Number.{Finite}
+use Rattle.algebra.specs.Order.{_≼_}
+use Rattle.binary32.specs.Number.{valueOf, Finite}
 use Rattle.products.specs.declared.apart.Apart.{Apart}
 use Rattle.unpacked.specs.Number.{Unpacked, IsNumber}
 
@@ -22,9 +23,10 @@ pub record IsApart (lo hi : ℕ) (a : Apart) : Type 0 where
 abbrev pub zeroApart : Apart
 zeroApart = record { «lower_sig» = pos 0; «upper_sig» = pos 0; «lower_exp» = 0; «upper_exp» = 0 }
 
--- the bounds of the unpacked cell a and of the cell [bl, bu], given by patterns, are finite
+-- the bounds of the unpacked cell a and of the cell [bl, bu], given by patterns, are finite, and those of [bl, bu] are in order
 pub record Cells (a : Apart) (bl bu : ℕ) : Type 0 where
   pub a-lower : IsNumber (lowerNumber a)
   pub a-upper : IsNumber (upperNumber a)
   pub b-lower : Finite bl
   pub b-upper : Finite bu
+  pub b-order : valueOf bl ≼ valueOf bu

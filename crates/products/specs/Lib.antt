@@ -1,5 +1,6 @@
 pub mod Apart
 pub mod Running
+pub mod Classical
 pub mod Centred
 pub mod Continued
 pub mod Row

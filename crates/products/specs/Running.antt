@@ -1,21 +1,16 @@
--- The running sums of one entry by method 1. Definitions only, for the contracts of private functions
+-- The running sums of one entry, and the range that they hold. Definitions only, for the contracts of private functions
 -- (01: "One entry's running sum is a value that takes a pair of cells and comes back").
 use mathlib.Core.Path.{_≡_}
 use mathlib.Core.Bool.{Bool, true, false, cond}
 use mathlib.Core.Option.{Option, none, some, bind}
-use Prim.Native.Nat.{ℕ}
 use lib.Dec.{ltb}
 use lib.IntN.{ℤ, negℤ, _+ℤ_}
 use Rattle.rounding.specs.Format.{binary32}
-use Rattle.rounding.specs.Rounding.{down, negate}
+use Rattle.rounding.specs.Rounding.{down}
 use Rattle.enclosure.specs.Methods.{Range}
-use Rattle.binary32.specs.Number.{valueOf}
 use Rattle.unpacked.specs.declared.Number.{Number}
-use Rattle.products.specs.declared.apart.Apart.{Apart}
 use Rattle.products.specs.declared.sums.Sums.{Sums}
-use Rattle.unpacked.specs.Number.{worth, IsNumber, Holds, Runs, zeroNumber}
-use Rattle.products.specs.Apart.{lowerNumber, upperNumber}
-use Rattle.unpacked.specs.Corners.{leastProduct, greatestProduct}
+use Rattle.unpacked.specs.Number.{worth, IsNumber, Holds, zeroNumber}
 
 -- v + t, rounded down; none where t is none
 abbrev pub plusDown : ℤ → Option ℤ → Option ℤ
@@ -29,10 +24,9 @@ pub record BothNumbers (s : Sums) : Type 0 where
   pub lower : IsNumber (s .lower)
   pub opposed : IsNumber (s .opposed)
 
--- r is s after one step: the least corner product of a and [bl, bu] is added to the lower sum, the negated greatest to the negated upper sum
-pub record Stepped (s : Sums) (a : Apart) (bl bu : ℕ) (r : Sums) : Type 0 where
-  pub lower : Holds (plusDown (worth (s .lower)) (leastProduct (worth (lowerNumber a)) (worth (upperNumber a)) (valueOf bl) (valueOf bu))) (r .lower)
-  pub opposed : Holds (plusDown (worth (s .opposed)) (negate (greatestProduct (worth (lowerNumber a)) (worth (upperNumber a)) (valueOf bl) (valueOf bu)))) (r .opposed)
+-- the two sums as a range
+abbrev pub boundsOf : Sums → Range
+boundsOf s = record { lower = worth (s .lower); upper = negℤ (worth (s .opposed)) }
 
 -- r has the bounds of an entry: `low` is the lower centre, `high` the negated upper centre, `radius` the negated radius
 pub record Ended (low high radius : Number) (r : Sums) : Type 0 where
@@ -43,13 +37,8 @@ pub record Ended (low high radius : Number) (r : Sums) : Type 0 where
 abbrev pub refusedSums : Sums → Bool
 refusedSums s = cond (ltb 653 (s .lower .exp)) true (ltb 653 (s .opposed .exp))
 
--- s has the bounds of this entry, or it is refused where the entry is none
-pub record Closes (entry : Option Range) (s : Sums) : Type 0 where
-  pub refused : refusedSums s ≡ true → entry ≡ none
+-- s has this range, or it is refused where there is none
+pub record HoldsRange (m : Option Range) (s : Sums) : Type 0 where
+  pub refused : refusedSums s ≡ true → m ≡ none
   pub numbers : refusedSums s ≡ false → BothNumbers s
-  pub whole : refusedSums s ≡ false → entry ≡ some (record { lower = worth (s .lower); upper = negℤ (worth (s .opposed)) })
-
--- s has the lower sum `low` and the negated upper sum `up`, both numbers
-pub record Sum (low up : Option ℤ) (s : Sums) : Type 0 where
-  pub lower : Runs low (s .lower)
-  pub upper : Runs (negate up) (s .opposed)
+  pub whole : refusedSums s ≡ false → m ≡ some (boundsOf s)

@@ -1,4 +1,5 @@
-// Method 1, classical: each row of A is unpacked once, each entry is two running sums over its k pairs, and the first overflow ends all loops.
+// Method 1, classical: one pass along a row of A and a column of B carries both sums of an entry. Each row of A is unpacked once for all its entries,
+// and the first overflow ends all loops.
 ghost use lib.ListN.{length};
 ghost use mathlib.Core.Path.{_≡_};
 ghost use Prim.Native.Nat.{_+_};
@@ -45,6 +46,7 @@ pub fn entries(
             row[l] = Apart::new(al[c], au[c]);
         }
         for j in 0..n {
+            // After l pairs s holds the lower and the upper sum over them: `SumsAfter` in specs/Classical.
             let mut s = Sums::new();
             for l in 0..k {
                 let a = row[l];

@@ -1,9 +1,9 @@
 // The corner products of two cells (each bound of one times each bound of the other), exact, and the least and the greatest of them. Called by sums.rt.
 ghost use mathlib.Core.Path.{_≡_};
-ghost use lib.IntN.{natAbs};
+ghost use lib.IntN.{natAbs, _*ℤ_};
 ghost use Prim.Native.Nat.{_^_, _≤_};
-ghost use Rattle.unpacked.specs.Exact.{Factors};
-ghost use Rattle.unpacked.specs.Corners.{CornerIs, rankOf, lesserOf, greaterOf};
+ghost use Rattle.unpacked.specs.Number.{worth, IsNumber};
+ghost use Rattle.unpacked.specs.Corners.{CornerAt, bySign, rankOf, lesserOf, greaterOf};
 use crate::times::times;
 use unpacked::Corner;
 use unpacked::Number;
@@ -21,14 +21,26 @@ fn rank(sig: i64, exp: u32) -> i64
 }
 
 // x × y, with its rank.
-pub fn corner_of(x: Number, y: Number) -> Corner
-    requires { ⌜ Factors x y ⌝ }
-    ensures { λ r. ⌜ CornerIs x y r ⌝ }
+fn corner_of(x: Number, y: Number) -> Corner
+    requires { ⌜ IsNumber x × IsNumber y ⌝ }
+    ensures { λ r. ⌜ CornerAt (worth x *ℤ worth y) r ⌝ }
 {
     let p = times(x, y);
     Corner {
         product: p,
         rank: rank(p.sig, p.exp),
+    }
+}
+
+// x × y, or x × z where x is negative: the lesser of the two where y is not above z, and the greater where z is not above y.
+pub fn corner_by_sign(x: Number, y: Number, z: Number) -> Corner
+    requires { ⌜ IsNumber x × IsNumber y × IsNumber z ⌝ }
+    ensures { λ r. ⌜ CornerAt (worth x *ℤ bySign (worth x) (worth y) (worth z)) r ⌝ }
+{
+    if x.sig < 0 {
+        corner_of(x, z)
+    } else {
+        corner_of(x, y)
     }
 }
 

@@ -12,7 +12,7 @@ ghost use Rattle.products.specs.CentreSize.{Paired, radiusFor, rangeOf};
 ghost use Rattle.products.specs.Continued.{Reaches};
 ghost use Rattle.products.specs.Derived.{Derived, outerOf, partOf};
 ghost use Rattle.products.specs.MidRad.{Sized, entryFrom};
-ghost use Rattle.products.specs.Running.{refusedSums, Closes};
+ghost use Rattle.products.specs.Running.{refusedSums, HoldsRange};
 ghost use Rattle.products.specs.Written.{Written};
 use crate::centre_size::sum_pairs;
 use crate::error::twice_error;
@@ -65,7 +65,7 @@ fn entry(
     requires { ⌜ (k ≤ 32) × Paired (record { k = k; n = n; j = j; row = now xs; column = now mb })
         × Paired (record { k = k; n = n; j = j; row = now ps; column = now pb })
         × Reaches (record { k = k; n = n; i = i; j = j; row = now wa; column = now wb }) ⌝ }
-    ensures { λ r. ⌜ Closes (rangeOf (record { k = k; n = n; j = j; row = now (xs .entry); column = now (mb .entry) })
+    ensures { λ r. ⌜ HoldsRange (rangeOf (record { k = k; n = n; j = j; row = now (xs .entry); column = now (mb .entry) })
         (record { k = k; n = n; j = j; row = now (ps .entry); column = now (pb .entry) })
         (record { k = k; n = n; i = i; j = j; row = now (wa .entry); column = now (wb .entry) })) r ⌝ }
 {

@@ -50,9 +50,10 @@ pub fn rounded_down(p: Product) -> Number
     ensures { λ r. ⌜ RoundedDown p r ⌝ }
 {
     if is_usual(p.exp) {
-        return shortened(p);
+        shortened(p)
+    } else {
+        rare_down(p)
     }
-    rare_down(p)
 }
 
 // -q, where q is p rounded up; none where a factor is none or p is above all numbers. It is computed as -p rounded down.

@@ -1,12 +1,16 @@
 // The running sums of one entry by method 1: a value that a step takes, with a pair of cells, and returns. Its last step, `ends`, serves all methods.
 ghost use mathlib.Core.Path.{_≡_};
 ghost use lib.IntN.{negℤ};
+ghost use Rattle.rounding.specs.Format.{binary32};
+ghost use Rattle.enclosure.specs.Arithmetic.{of};
+ghost use Rattle.enclosure.specs.RunningSums.{addPair};
 ghost use Rattle.binary32.specs.Number.{patternOf};
 ghost use Rattle.unpacked.specs.Number.{worth, IsNumber};
 ghost use Rattle.products.specs.Apart.{Cells};
-ghost use Rattle.products.specs.Running.{BothNumbers, Stepped, Ended, refusedSums, zeroSums};
+ghost use Rattle.products.specs.Classical.{leftCell, rightCell};
+ghost use Rattle.products.specs.Running.{BothNumbers, HoldsRange, Ended, boundsOf, refusedSums, zeroSums};
 use crate::apart::Apart;
-use crate::corners::corner_of;
+use crate::corners::corner_by_sign;
 use crate::corners::greater;
 use crate::corners::lesser;
 use crate::number::opposite;
@@ -42,21 +46,18 @@ impl Sums {
         }
     }
 
-    // Adds the least of the four corner products of a and [bl, bu] to the lower sum, all rounded down, and the greatest to the upper sum, all rounded up.
+    // Adds a pair of cells, a of A and [bl, bu] of B: the least of their four corner products to the lower sum, all rounded down, and the greatest to the
+    // upper sum, all rounded up.
     pub fn step(self, a: Apart, bl: u32, bu: u32) -> Sums
         requires { ⌜ BothNumbers self × Cells a bl bu ⌝ }
-        ensures { λ r. ⌜ Stepped self a bl bu r ⌝ }
+        ensures { λ r. ⌜ HoldsRange (addPair (of binary32) (boundsOf self) (leftCell a) (rightCell bl bu)) r ⌝ }
     {
         let w = a.lower();
         let x = a.upper();
         let y = unpack(bl);
         let z = unpack(bu);
-        let p = corner_of(w, y);
-        let q = corner_of(w, z);
-        let r = corner_of(x, y);
-        let t = corner_of(x, z);
-        let low = lesser(lesser(p, q), lesser(r, t)).product;
-        let high = greater(greater(p, q), greater(r, t)).product;
+        let low = lesser(corner_by_sign(w, y, z), corner_by_sign(x, y, z)).product;
+        let high = greater(corner_by_sign(w, z, y), corner_by_sign(x, z, y)).product;
         Sums {
             lower: plus_down(self.lower, rounded_down(low)),
             opposed: plus_down(self.opposed, rounded_up(high)),

@@ -21,7 +21,7 @@ use Rattle.rounding.proofs.Sign.{neg-le, of-neg-le, pos-le-neg, neg-le-pos}
 use Rattle.unpacked.specs.declared.Product.{Product}
 use Rattle.unpacked.specs.declared.Corner.{Corner}
 use Rattle.unpacked.specs.Exact.{Exact}
-use Rattle.unpacked.specs.Corners.{rankOf, lesserOf, greaterOf}
+use Rattle.unpacked.specs.Corners.{CornerAt, rankOf, lesserOf, greaterOf}
 
 -- ---- magnitudes
 
@@ -119,11 +119,6 @@ rank-order {Y = Y} {p = p} {q = q} x y h =
 abbrev rank-of : Corner → ℤ
 rank-of r = rankOf (r .product .sig) (r .product .exp)
 
--- the exact product r is X, at its rank
-pub record At (X : ℤ) (r : Corner) : Type 0 where
-  pub exact : Exact X (r .product)
-  pub rank : r .rank ≡ rankOf (r .product .sig) (r .product .exp)
-
 pub min-left : {a b : ℤ} → a ≼ b → a ≡ minℤ a b
 min-left {a} {b} h = ≼-antisym (≼-min (≼-refl a) h) (min-≼-l a b)
 
@@ -136,7 +131,7 @@ max-left {a} {b} h = ≼-antisym (≼-max-l a b) (max-≼ (≼-refl a) h)
 pub max-right : {a b : ℤ} → a ≼ b → b ≡ maxℤ a b
 max-right {a} {b} h = ≼-antisym (≼-max-r a b) (max-≼ h (≼-refl b))
 
-module _ {X Y : ℤ} {x y : Corner} (p : At X x) (q : At Y y) where
+module _ {X Y : ℤ} {x y : Corner} (p : CornerAt X x) (q : CornerAt Y y) where
   first : T (leZ (x .rank) (y .rank)) → X ≼ Y
   first t = rank-order (p .exact) (q .exact) (subst (λ z. z ≼ rank-of y) (p .rank) (subst (λ z. x .rank ≼ z) (q .rank) (leZ-yes t)))
 
@@ -146,18 +141,18 @@ module _ {X Y : ℤ} {x y : Corner} (p : At X x) (q : At Y y) where
       (subst (λ z. z ≼ rank-of x) (q .rank) (subst (λ z. y .rank ≼ z) (p .rank)
       (⊎-elim (λ h. absurd (T-not (leZ (x .rank) (y .rank)) t (h .le))) ≼-of-≺ (≼-or-≺ (x .rank) (y .rank)))))
 
-  pub lesser-at : At (minℤ X Y) (lesserOf x y)
+  pub lesser-at : CornerAt (minℤ X Y) (lesserOf x y)
   unfolding lesserOf
   lesser-at = go (leZ (x .rank) (y .rank)) first second
     where
-      go : (t : Bool) → (T t → X ≼ Y) → (T (not t) → Y ≼ X) → At (minℤ X Y) (cond t x y)
-      go true f g = subst (λ z. At z x) (min-left (f tt)) p
-      go false f g = subst (λ z. At z y) (min-right (g tt)) q
+      go : (t : Bool) → (T t → X ≼ Y) → (T (not t) → Y ≼ X) → CornerAt (minℤ X Y) (cond t x y)
+      go true f g = subst (λ z. CornerAt z x) (min-left (f tt)) p
+      go false f g = subst (λ z. CornerAt z y) (min-right (g tt)) q
 
-  pub greater-at : At (maxℤ X Y) (greaterOf x y)
+  pub greater-at : CornerAt (maxℤ X Y) (greaterOf x y)
   unfolding greaterOf
   greater-at = go (leZ (x .rank) (y .rank)) first second
     where
-      go : (t : Bool) → (T t → X ≼ Y) → (T (not t) → Y ≼ X) → At (maxℤ X Y) (cond t y x)
-      go true f g = subst (λ z. At z y) (max-right (f tt)) q
-      go false f g = subst (λ z. At z x) (max-left (g tt)) p
+      go : (t : Bool) → (T t → X ≼ Y) → (T (not t) → Y ≼ X) → CornerAt (maxℤ X Y) (cond t y x)
+      go true f g = subst (λ z. CornerAt z y) (max-right (f tt)) q
+      go false f g = subst (λ z. CornerAt z x) (max-left (g tt)) p

@@ -18,7 +18,9 @@ use Rattle.rounding.specs.Property.{DownTo}
 use Rattle.rounding.proofs.Sign.{num-ge}
 use Rattle.rounding.proofs.Directed.{down-to}
 use Rattle.rounding.proofs.DirectedLaws.{down-mono}
-use Rattle.unpacked.specs.Corners.{all₄, leastProduct, greatestProduct, corner₄}
+use Rattle.enclosure.specs.Arithmetic.{of}
+use Rattle.enclosure.specs.Cell.{Cell, leastCorner, greatestCorner}
+use Rattle.enclosure.specs.Methods.{leastTerm, greatestTerm}
 use Rattle.unpacked.proofs.CornerOrder.{min-left, min-right, max-left, max-right}
 
 -- ---- the lesser of two partial results, none being the least of all
@@ -43,6 +45,10 @@ both-right none none h = refl
 both-right none (some v) h = absurd h
 both-right (some u) none h = refl
 both-right (some u) (some v) h = ap some (sym (min-right h))
+
+-- f of four partial results, none where one of them is none
+abbrev pub all₄ : (ℤ → ℤ → ℤ → ℤ → ℤ) → Option ℤ → Option ℤ → Option ℤ → Option ℤ → Option ℤ
+all₄ f w x y z = bind w λ p. bind x λ q. bind y λ r. bind z λ s. some (f p q r s)
 
 both-four : (w x y z : Option ℤ) → both (both w x) (both y z) ≡ all₄ least₄ w x y z
 unfolding bind
@@ -107,12 +113,12 @@ greatest-up f D d W X Y Z =
     ∙ least-down f D d (negℤ W) (negℤ X) (negℤ Y) (negℤ Z)
     ∙ ap (down f D) (sym (neg-greatest W X Y Z))
 
--- ---- of corner products
-module _ (al au bl bu : ℤ) where
-  pub least-product : leastProduct al au bl bu ≡ down binary32 (2 ^ 149) (corner₄ least₄ al au bl bu)
-  unfolding leastProduct
-  least-product = least-down binary32 (2 ^ 149) (pow-pos 149) (al *ℤ bl) (al *ℤ bu) (au *ℤ bl) (au *ℤ bu)
+-- ---- the terms of the classical method
+module _ (a b : Cell) where
+  pub least-term : leastTerm (of binary32) a b ≡ down binary32 (2 ^ 149) (leastCorner a b)
+  unfolding leastTerm leastCorner
+  least-term = least-down binary32 (2 ^ 149) (pow-pos 149) (a .low *ℤ b .low) (a .low *ℤ b .high) (a .high *ℤ b .low) (a .high *ℤ b .high)
 
-  pub greatest-product : negate (greatestProduct al au bl bu) ≡ down binary32 (2 ^ 149) (negℤ (corner₄ greatest₄ al au bl bu))
-  unfolding greatestProduct
-  greatest-product = greatest-up binary32 (2 ^ 149) (pow-pos 149) (al *ℤ bl) (al *ℤ bu) (au *ℤ bl) (au *ℤ bu)
+  pub greatest-term : negate (greatestTerm (of binary32) a b) ≡ down binary32 (2 ^ 149) (negℤ (greatestCorner a b))
+  unfolding greatestTerm greatestCorner
+  greatest-term = greatest-up binary32 (2 ^ 149) (pow-pos 149) (a .low *ℤ b .low) (a .low *ℤ b .high) (a .high *ℤ b .low) (a .high *ℤ b .high)

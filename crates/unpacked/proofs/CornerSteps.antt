@@ -1,50 +1,85 @@
--- The corners of two cells: of their four exact products the one of the least rank is the least, and the one of the greatest rank the greatest,
--- and these two alone are rounded.
-use mathlib.Core.Path.{_≡_, sym, ap₂, _∙_, subst}
-use Prim.Native.Nat.{_^_}
-use lib.IntN.{ℤ, _*ℤ_}
-use Rattle.algebra.specs.Extremes.{least₄, greatest₄}
+-- The corners of two cells. A number times a cell's bounds: the sign of the number tells which product is the lesser. Of these for the two bounds of the
+-- other cell, the one of the lesser rank is the least of all four, and likewise the greatest, and these two alone are rounded.
+use mathlib.Core.Path.{_≡_, refl, sym, _∙_, subst}
+use mathlib.Core.Bool.{Bool, true, false, cond}
+use mathlib.Core.List.{[], _∷_}
+use Prim.Native.Nat.{suc, _^_}
+use native.Mathlib.Nat.{not-suc-le-zero}
+use native.Mathlib.Omega.{arith}
+use lib.Dec.{T}
+use borrow.Author.Tests.{ltb-true}
+use lib.IntN.{ℤ, pos, negsuc, _*ℤ_}
+use lib.Signed.{ltZ}
+use Rattle.algebra.specs.Order.{_≼_}
+use Rattle.algebra.specs.Extremes.{minℤ, maxℤ}
+use Rattle.algebra.proofs.Linear.{reading, le, lin-le}
+use Rattle.algebra.proofs.Order.{nonneg, _⊠_}
 use Rattle.rounding.specs.Format.{binary32}
 use Rattle.rounding.specs.Rounding.{negate}
+use Rattle.rounding.proofs.Sign.{neg-le-pos}
+use Rattle.enclosure.specs.Arithmetic.{of}
+use Rattle.enclosure.specs.Cell.{Cell, leastCorner, greatestCorner}
+use Rattle.enclosure.specs.Methods.{leastTerm, greatestTerm}
 use Rattle.unpacked.specs.declared.Number.{Number}
 use Rattle.unpacked.specs.declared.Product.{Product}
 use Rattle.unpacked.specs.declared.Corner.{Corner}
 use Rattle.unpacked.specs.Number.{worth, IsNumber, Holds}
-use Rattle.unpacked.specs.Exact.{Exact, Factors, RoundedDown, RoundedUp}
-use Rattle.unpacked.specs.Corners.{CornerIs, corner₄, leastProduct, greatestProduct, lesserOf, greaterOf}
-use Rattle.unpacked.proofs.ExactProducts.{exact-worths}
-use Rattle.unpacked.proofs.Limits.{number-part}
-use Rattle.unpacked.proofs.CornerRounding.{mirror, least-product, greatest-product}
-use Rattle.unpacked.proofs.CornerOrder.{At, lesser-at, greater-at}
+use Rattle.unpacked.specs.Exact.{Exact, RoundedDown, RoundedUp}
+use Rattle.unpacked.specs.Corners.{CornerAt, bySign, lesserOf, greaterOf}
+use Rattle.unpacked.proofs.Packing.{same-sign}
+use Rattle.unpacked.proofs.CornerRounding.{mirror, least-term, greatest-term}
+use Rattle.unpacked.proofs.CornerOrder.{min-left, min-right, max-left, max-right, lesser-at, greater-at}
 
--- x is a number and worth v
-abbrev pub Worth : ℤ → Number → Type 0
-Worth v x = IsNumber x × (worth x ≡ v)
+-- ---- u times the bounds v and w of a cell
+falls : (u v w : ℤ) → ltZ u (pos 0) ≡ true → v ≼ w → u *ℤ w ≼ u *ℤ v
+falls (pos n) v w t h = absurd (not-suc-le-zero (ltb-true n 0 t))
+falls (negsuc n) v w t h = lin-le (negsuc n ∷ v ∷ w ∷ []) (le (neg-le-pos (suc n) 0 ⊠ h) ∷ []) (search reading depth 20) (omega arith)
 
-pub corner-factors : {u v : ℤ} {x y : Number} → Worth u x → Worth v y → Factors x y
-corner-factors h k = record { first = number-part (h .0); second = number-part (k .0) }
+rises : (u v w : ℤ) → ltZ u (pos 0) ≡ false → v ≼ w → u *ℤ v ≼ u *ℤ w
+rises (pos n) v w t h = lin-le (pos n ∷ v ∷ w ∷ []) (le (nonneg n ⊠ h) ∷ []) (search reading depth 20) (omega arith)
+rises (negsuc n) v w t h = absurd (subst T t tt)
 
-pub corner-at : {u v : ℤ} {x y : Number} {r : Corner} → Worth u x → Worth v y → CornerIs x y r → At (u *ℤ v) r
-corner-at {x = x} {y = y} {r = r} h k c =
-    record {
-      exact = subst (λ z. Exact z (r .product)) (ap₂ _*ℤ_ (h .1) (k .1)) (exact-worths x y (r .product) (h .0) (k .0) (c .product));
-      rank = c .rank;
-    }
+module _ (u v w : ℤ) (h : v ≼ w) where
+  lesser-by-sign : u *ℤ bySign u v w ≡ minℤ (u *ℤ v) (u *ℤ w)
+  lesser-by-sign = go (ltZ u (pos 0)) refl
+    where
+      go : (t : Bool) → ltZ u (pos 0) ≡ t → u *ℤ cond t w v ≡ minℤ (u *ℤ v) (u *ℤ w)
+      go true e = min-right (falls u v w e h)
+      go false e = min-left (rises u v w e h)
 
-module _ (al au bl bu : ℤ) where
-  -- the corners p, q, r, t, and the comparisons of the code
-  module _ {p q r t : Corner} (hp : At (al *ℤ bl) p) (hq : At (al *ℤ bu) q) (hr : At (au *ℤ bl) r) (ht : At (au *ℤ bu) t) {u v m : Corner} where
-    pub least-of : u ≡ lesserOf p q → v ≡ lesserOf r t → m ≡ lesserOf u v → Exact (corner₄ least₄ al au bl bu) (m .product)
-    least-of eu ev em = subst (At (corner₄ least₄ al au bl bu)) (sym (em ∙ ap₂ lesserOf eu ev)) (lesser-at (lesser-at hp hq) (lesser-at hr ht)) .exact
+  greater-by-sign : u *ℤ bySign u w v ≡ maxℤ (u *ℤ v) (u *ℤ w)
+  greater-by-sign = go (ltZ u (pos 0)) refl
+    where
+      go : (t : Bool) → ltZ u (pos 0) ≡ t → u *ℤ cond t v w ≡ maxℤ (u *ℤ v) (u *ℤ w)
+      go true e = max-left (falls u v w e h)
+      go false e = max-right (rises u v w e h)
 
-    pub greatest-of : u ≡ greaterOf p q → v ≡ greaterOf r t → m ≡ greaterOf u v → Exact (corner₄ greatest₄ al au bl bu) (m .product)
-    greatest-of eu ev em = subst (At (corner₄ greatest₄ al au bl bu)) (sym (em ∙ ap₂ greaterOf eu ev)) (greater-at (greater-at hp hq) (greater-at hr ht)) .exact
+-- the sign of a number is that of its significand
+pub by-sign : {x : Number} {r : Corner} (v w : ℤ) → IsNumber x → (t : Bool) → ltZ (x .sig) (pos 0) ≡ t → CornerAt (worth x *ℤ cond t w v) r → CornerAt (worth x *ℤ bySign (worth x) v w) r
+by-sign {x} {r} v w n t e = subst (λ s. CornerAt (worth x *ℤ cond s w v) r) (sym e ∙ same-sign x (n .normal))
+
+-- ---- the four corners of two cells
+module _ (a b : Cell) where
+  -- of the two that the bounds of a give by their signs, p and q
+  module _ {p q m : Corner} (h : b .low ≼ b .high) where
+    pub least-of : CornerAt (a .low *ℤ bySign (a .low) (b .low) (b .high)) p → CornerAt (a .high *ℤ bySign (a .high) (b .low) (b .high)) q → m ≡ lesserOf p q
+        → Exact (leastCorner a b) (m .product)
+    unfolding leastCorner
+    least-of i k e =
+        subst (CornerAt (leastCorner a b)) (sym e)
+        (lesser-at (subst (λ t. CornerAt t p) (lesser-by-sign (a .low) _ _ h) i) (subst (λ t. CornerAt t q) (lesser-by-sign (a .high) _ _ h) k)) .exact
+
+    pub greatest-of : CornerAt (a .low *ℤ bySign (a .low) (b .high) (b .low)) p → CornerAt (a .high *ℤ bySign (a .high) (b .high) (b .low)) q → m ≡ greaterOf p q
+        → Exact (greatestCorner a b) (m .product)
+    unfolding greatestCorner
+    greatest-of i k e =
+        subst (CornerAt (greatestCorner a b)) (sym e)
+        (greater-at (subst (λ t. CornerAt t p) (greater-by-sign (a .low) _ _ h) i) (subst (λ t. CornerAt t q) (greater-by-sign (a .high) _ _ h) k)) .exact
 
   -- what they are rounded to
   module _ {p : Product} {r : Number} where
-    pub least-rounded : Exact (corner₄ least₄ al au bl bu) p → RoundedDown p r → Holds (leastProduct al au bl bu) r
-    least-rounded i d = subst (λ m. Holds m r) (sym (least-product al au bl bu)) (d .number (corner₄ least₄ al au bl bu) i)
+    pub least-rounded : Exact (leastCorner a b) p → RoundedDown p r → Holds (leastTerm (of binary32) a b) r
+    least-rounded i d = subst (λ m. Holds m r) (sym (least-term a b)) (d .number (leastCorner a b) i)
 
-    pub greatest-rounded : Exact (corner₄ greatest₄ al au bl bu) p → RoundedUp p r → Holds (negate (greatestProduct al au bl bu)) r
-    greatest-rounded i d =
-        subst (λ m. Holds m r) (mirror binary32 (2 ^ 149) (corner₄ greatest₄ al au bl bu) ∙ sym (greatest-product al au bl bu)) (d .number (corner₄ greatest₄ al au bl bu) i)
+    pub greatest-rounded : Exact (greatestCorner a b) p → RoundedUp p r → Holds (negate (greatestTerm (of binary32) a b)) r
+    greatest-rounded i d = subst (λ m. Holds m r) (mirror binary32 (2 ^ 149) (greatestCorner a b) ∙ sym (greatest-term a b)) (d .number (greatestCorner a b) i)

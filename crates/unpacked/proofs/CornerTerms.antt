@@ -1,4 +1,4 @@
--- Corner products are the terms of the classical method, and 0 where both bounds of a cell are zeros.
+-- The terms of the classical method are 0 where both bounds of a cell are zeros.
 use mathlib.Core.Path.{_≡_, refl, ap, ap₂, _∙_}
 use mathlib.Core.Bool.{Bool, true, false}
 use mathlib.Core.List.{[], _∷_}
@@ -20,21 +20,7 @@ use Rattle.binary32.specs.Order.{magnitudeOf}
 use Rattle.enclosure.specs.Arithmetic.{of}
 use Rattle.enclosure.specs.Cell.{Cell}
 use Rattle.enclosure.specs.Methods.{leastTerm, greatestTerm}
-use Rattle.unpacked.specs.Corners.{all₄, leastProduct, greatestProduct}
-
-module _ {al au bl bu : ℤ} (a b : Cell) (la : al ≡ a .low) (ua : au ≡ a .high) (lb : bl ≡ b .low) (ub : bu ≡ b .high) where
-  same : (f : ℤ → ℤ → ℤ → ℤ → Option ℤ) → f al au bl bu ≡ f (a .low) (a .high) (b .low) (b .high)
-  same f = ap₂ (λ u v. f u v bl bu) la ua ∙ ap₂ (λ w x. f (a .low) (a .high) w x) lb ub
-
-  pub least-term : leastProduct al au bl bu ≡ leastTerm (of binary32) a b
-  unfolding leastTerm leastProduct
-  least-term = same leastProduct
-
-  pub greatest-term : greatestProduct al au bl bu ≡ greatestTerm (of binary32) a b
-  unfolding greatestTerm greatestProduct
-  greatest-term = same greatestProduct
-
--- ---- a cell of zeros
+use Rattle.unpacked.proofs.CornerRounding.{all₄}
 
 pub zero-value : (p : ℕ) → magnitudeOf p ≡ 0 → valueOf p ≡ pos 0
 unfolding valueOf val
@@ -50,10 +36,10 @@ zero-left y e = ap (λ z. z *ℤ y) e ∙ by-ring (y ∷ []) (search reading dep
 zero-right : (x : ℤ) {y : ℤ} → y ≡ pos 0 → x *ℤ y ≡ pos 0
 zero-right x e = ap (λ z. x *ℤ z) e ∙ by-ring (x ∷ []) (search reading depth 20) tt
 
--- both corner products are 0
-pub record ZeroTerms (al au bl bu : ℤ) : Type 0 where
-  pub least : leastProduct al au bl bu ≡ some (pos 0)
-  pub greatest : greatestProduct al au bl bu ≡ some (pos 0)
+-- both terms are 0
+pub record ZeroTerms (a b : Cell) : Type 0 where
+  pub least : leastTerm (of binary32) a b ≡ some (pos 0)
+  pub greatest : greatestTerm (of binary32) a b ≡ some (pos 0)
 
 all-zero : (f : ℤ → ℤ → ℤ → ℤ → ℤ) (way : ℤ → Option ℤ) → f (pos 0) (pos 0) (pos 0) (pos 0) ≡ pos 0 → way (pos 0) ≡ some (pos 0)
     → (p q r s : ℤ) → p ≡ pos 0 → q ≡ pos 0 → r ≡ pos 0 → s ≡ pos 0 → all₄ f (way p) (way q) (way r) (way s) ≡ some (pos 0)
@@ -63,17 +49,17 @@ all-zero f way ef ew p q r s ep eq er es =
     ∙ ap₂ (λ x y. all₄ f (some (pos 0)) (some (pos 0)) x y) (ap way er ∙ ew) (ap way es ∙ ew)
     ∙ ap some ef
 
-module _ {al au bl bu : ℤ} where
-  zero-terms : al *ℤ bl ≡ pos 0 → al *ℤ bu ≡ pos 0 → au *ℤ bl ≡ pos 0 → au *ℤ bu ≡ pos 0 → ZeroTerms al au bl bu
-  unfolding minℤ maxℤ leastProduct greatestProduct
+module _ {a b : Cell} where
+  zero-terms : a .low *ℤ b .low ≡ pos 0 → a .low *ℤ b .high ≡ pos 0 → a .high *ℤ b .low ≡ pos 0 → a .high *ℤ b .high ≡ pos 0 → ZeroTerms a b
+  unfolding minℤ maxℤ leastTerm greatestTerm
   zero-terms ep eq er es =
       record {
         least = all-zero least₄ (down binary32 (2 ^ 149)) refl (down-exact binary32 (2 ^ 149) (pow-pos 149) (num-zero binary32)) _ _ _ _ ep eq er es;
         greatest = all-zero greatest₄ (up binary32 (2 ^ 149)) refl (up-exact binary32 (2 ^ 149) (pow-pos 149) (num-zero binary32)) _ _ _ _ ep eq er es;
       }
 
-  pub zero-first : al ≡ pos 0 → au ≡ pos 0 → ZeroTerms al au bl bu
-  zero-first u v = zero-terms (zero-left bl u) (zero-left bu u) (zero-left bl v) (zero-left bu v)
+  pub zero-first : a .low ≡ pos 0 → a .high ≡ pos 0 → ZeroTerms a b
+  zero-first u v = zero-terms (zero-left (b .low) u) (zero-left (b .high) u) (zero-left (b .low) v) (zero-left (b .high) v)
 
-  pub zero-second : bl ≡ pos 0 → bu ≡ pos 0 → ZeroTerms al au bl bu
-  zero-second u v = zero-terms (zero-right al u) (zero-right al v) (zero-right au u) (zero-right au v)
+  pub zero-second : b .low ≡ pos 0 → b .high ≡ pos 0 → ZeroTerms a b
+  zero-second u v = zero-terms (zero-right (a .low) u) (zero-right (a .low) v) (zero-right (a .high) u) (zero-right (a .high) v)

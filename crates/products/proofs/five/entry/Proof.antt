@@ -11,7 +11,8 @@ use Rattle.products.specs.CentreSize.{Pairs, SizedSum}
 use Rattle.products.specs.Continued.{Line}
 use Rattle.products.proofs.Carrying.{zero-runs, zero-below, holds-runs}
 use Rattle.products.proofs.CentreSizes.{sized-numbers}
-use Rattle.products.proofs.FiveRange.{closes-none, first-none, second-none, radius-none, range-closes}
+use Rattle.products.proofs.Holding.{holds-refused}
+use Rattle.products.proofs.FiveRange.{first-none, second-none, radius-none, range-holds}
 use Rattle.products.proofs.five.entry.Statement.{statement}
 use Rattle.products.proofs.five.entry.Tie as tie
 
@@ -65,7 +66,7 @@ returns : tie.Need-returns
 returns c =
     let s = c .before .before .before in
     let o = s .before in
-    closes-none (c .refused-entry .result) (first-none (p o) (q o) (w o) (z o) (zero-centre o) (zero-size o) (s .sum-pairs .ensures .refused (sym (c .before .before .refused .ensures) ∙ c .before .if1 .taken))) (c .refused-entry .ensures)
+    holds-refused (c .refused-entry .result) (first-none (p o) (q o) (w o) (z o) (zero-centre o) (zero-size o) (s .sum-pairs .ensures .refused (sym (c .before .before .refused .ensures) ∙ c .before .if1 .taken))) (c .refused-entry .ensures)
 
 -- the sums over midpoints
 mids : (c : tie.Else1) → SizedSum (p (c .before .before .before)) (z (c .before .before .before)) (p (c .before .before .before) .k) (c .before .before .sum-pairs .result)
@@ -87,7 +88,7 @@ returns-2 c =
     let t = c .before .before .before in
     let e = t .before in
     let o = e .before .before .before in
-    closes-none (c .refused-entry2 .result)
+    holds-refused (c .refused-entry2 .result)
     (second-none (p o) (q o) (w o) (z o) (zero-centre o) (zero-size o) (e .before .before .sum-pairs .result) (mids e) (t .sum-pairs2 .ensures .refused (sym (c .before .before .refused2 .ensures) ∙ c .before .if2 .taken)))
     (c .refused-entry2 .ensures)
 
@@ -119,7 +120,7 @@ returns-3 c =
     let t = u .before .before in
     let e = t .before in
     let o = e .before .before .before in
-    closes-none (c .refused-entry3 .result)
+    holds-refused (c .refused-entry3 .result)
     (radius-none (p o) (q o) (w o) (z o) (zero-centre o) (zero-size o) (e .before .before .sum-pairs .result) (mids e) (t .sum-pairs2 .result) (parts u) (r .radius .result) (r .radius .ensures)
     (sym (c .before .before .is-none .ensures) ∙ c .before .if3 .taken))
     (c .refused-entry3 .ensures)
@@ -142,7 +143,7 @@ returns-4 c =
     let t = u .before .before in
     let e = t .before in
     let o = e .before .before .before in
-    range-closes (p o) (q o) (w o) (z o) (zero-centre o) (zero-size o) (e .before .before .sum-pairs .result) (mids e) (t .sum-pairs2 .result) (parts u) (r .radius .result) (r .radius .ensures)
+    range-holds (p o) (q o) (w o) (z o) (zero-centre o) (zero-size o) (e .before .before .sum-pairs .result) (mids e) (t .sum-pairs2 .result) (parts u) (r .radius .result) (r .radius .ensures)
     (c .before .opposite .result) (c .ends .result) (sym (f .before .is-none .ensures) ∙ f .if3 .left) (c .before .opposite .ensures) (c .ends .ensures)
 
 pub entry-spec : {M : Type 1} → statement M

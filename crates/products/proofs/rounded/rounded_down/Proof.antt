@@ -42,4 +42,4 @@ returns-2 c = search needs
 
 pub rounded-down-spec : {M : Type 1} → statement M
 rounded-down-spec =
-    tie.close (tie.spec is-usual-requires shortened-requires returns rare-down-requires returns-2)
+    tie.close (tie.spec is-usual-requires shortened-requires rare-down-requires returns returns-2)

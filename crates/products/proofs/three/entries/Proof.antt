@@ -1,39 +1,67 @@
 -- `products::three::entries` meets its contract. The loop over pairs keeps the entry's sums so far, the outer ones the entries written and
 -- that none of them was refused. A refused sum leaves all loops with the place of its entry.
 mod Loops
-mod Reads
 mod Turns
 mod Ends
-mod Outs
-use mathlib.Core.Path.{_≡_, refl, sym}
-use Prim.Native.Nat.{_+_, _*_}
-use native.Mathlib.Nat.{suc-mul, zero-mul}
-use native.Mathlib.Numerals.{add-one}
+use mathlib.Core.Path.{_≡_, sym, ap, _∙_}
+use Prim.Native.Nat.{ℕ, _*_}
+use native.Mathlib.Nat.{zero-mul}
 use native.Mathlib.Omega.{arith}
 use borrow.Author.Needs.{needs}
-use Rattle.matrices.proofs.Fronts.{filled-none, filled-from}
-use Rattle.products.proofs.Writing.{stop-none}
+use Rattle.products.proofs.Rows.{to-start, to-again, to-still, to-from, to-more, to-all, next-row}
 use Rattle.products.proofs.three.entries.Statement.{statement}
 use Rattle.products.proofs.three.entries.Tie as tie
 use Rattle.products.proofs.three.entries.Proof.Loops.{Inv-loop2, μ-loop2, Inv-loop, μ-loop, Inv-search, μ-search}
-use Rattle.products.proofs.three.entries.Proof.Reads.{mul-b, add-b, mul-x, add-x, mul-x-2, shared-slice-read-x, mul-v, shared-slice-read-v, mul-step, shared-slice-read-step}
+use Rattle.products.proofs.three.entries.Proof.Loops.{In1, Head, begin, start, E, place-out}
+use Rattle.products.proofs.three.entries.Proof.Turns.{mul-b, add-b, mul-x, add-x, mul-x-2, shared-slice-read-x, mul-v, shared-slice-read-v, mul-step, shared-slice-read-step}
 use Rattle.products.proofs.three.entries.Proof.Turns.{loop2-holds, adds-requires, step-requires, refused-requires, add-l, loop2-less, loop2-again, minus-tiny-requires}
 use Rattle.products.proofs.three.entries.Proof.Turns.{plus-negative-requires, is-none-requires}
-use Rattle.products.proofs.three.entries.Proof.Ends.{outer-requires, is-none-requires-2, opposite-requires, ends-requires, refused-requires-2, lower-requires, mul-lo, slice-write-lo, upper-requires, mul-up}
-use Rattle.products.proofs.three.entries.Proof.Ends.{slice-write-up, add-at, add-j, loop-less, loop-again}
-use Rattle.products.proofs.three.entries.Proof.Outs.{same-length, same-length-2, returns, same-length-3, same-length-4, returns-2, same-length-5, same-length-6, returns-3}
-use Rattle.products.proofs.three.entries.Proof.Outs.{same-length-7, same-length-8, returns-4, same-length-9, same-length-10, returns-5}
+use Rattle.products.proofs.three.entries.Proof.Ends.{outer-requires, is-none-requires-2, opposite-requires, entry-holds, ends-requires, refused-requires-2, lower-requires, upper-requires, same-length-3, same-length-4, returns-2}
+use Rattle.products.proofs.three.entries.Proof.Ends.{same-length-5, same-length-6, returns-3, same-length-7, same-length-8, returns-4, same-length-9, same-length-10, returns-5}
 
 search-holds : tie.Need-search-holds Inv-loop2 μ-loop2 Inv-loop μ-loop Inv-search μ-search
-search-holds c = (omega arith, sym (zero-mul _), refl, stop-none _, filled-none _ _, filled-none _ _)
+search-holds c = (omega arith, sym (zero-mul _), to-start _ _ _)
 
 loop-holds : tie.Need-loop-holds Inv-loop2 μ-loop2 Inv-loop μ-loop Inv-search μ-search
-loop-holds c =
-    let inv = c .before .search .inv in
-    (omega arith, omega arith, inv .2, inv .3, record { long = refl; head = inv .4 .head; rest = refl }, record { long = refl; head = inv .5 .head; rest = refl })
+loop-holds c = (omega arith, omega arith, to-again _ (c .before .search .inv .2))
 
 new-requires : tie.Need-new-requires Inv-loop2 μ-loop2 Inv-loop μ-loop Inv-search μ-search
 new-requires c κs = search needs
+
+mul-lo : tie.Need-mul-lo Inv-loop2 μ-loop2 Inv-loop μ-loop Inv-search μ-search
+mul-lo c = omega (arith, place-out (c .before .before .before .before .before .before .before .before .before .before .before .before .before .before .before))
+
+slice-write-lo : tie.Need-slice-write-lo Inv-loop2 μ-loop2 Inv-loop μ-loop Inv-search μ-search
+slice-write-lo c = place-out (c .before .before .before .before .before .before .before .before .before .before .before .before .before .before .before) .1
+
+mul-up : tie.Need-mul-up Inv-loop2 μ-loop2 Inv-loop μ-loop Inv-search μ-search
+mul-up c = omega (arith, place-out (c .before .before .before .before .before .before .before .before .before .before .before .before .before .before .before .before))
+
+slice-write-up : tie.Need-slice-write-up Inv-loop2 μ-loop2 Inv-loop μ-loop Inv-search μ-search
+slice-write-up c = place-out (c .before .before .before .before .before .before .before .before .before .before .before .before .before .before .before .before) .2
+
+add-at : tie.Need-add-at Inv-loop2 μ-loop2 Inv-loop μ-loop Inv-search μ-search
+add-at c = omega (arith, place-out (c .before .before .before .before .before .before .before .before .before .before .before .before .before .before .before .before))
+
+add-j : tie.Need-add-j Inv-loop2 μ-loop2 Inv-loop μ-loop Inv-search μ-search
+add-j c =
+    let h : In1 = c .before .before .before .before .before .before .before .before .before .before .before .before .before .before .before .before in
+    omega (arith, place-out h, h .before .loop .inv .1)
+
+loop-less : tie.Need-loop-less Inv-loop2 μ-loop2 Inv-loop μ-loop Inv-search μ-search
+loop-less c = omega (arith, (c .before .before .before .before .before .before .before .before .before .before .before .before .before .before .before .before) .loop-test .taken)
+
+loop-again : tie.Need-loop-again Inv-loop2 μ-loop2 Inv-loop μ-loop Inv-search μ-search
+loop-again c =
+    let h : In1 = c .before .before .before .before .before .before .before .before .before .before .before .before .before .before .before .before in
+    let d = c .before .before in
+    let o = place-out h in
+    let w = to-still (E (start h)) (h .before .loop .inv .2) (c .before .before .before .before .before .before .before .before .before .before .before .before .before .before .loop2 .inv .1) in (
+      omega arith,
+      omega arith,
+      to-more (E (start h)) w (d .before .before .ends .result) _ _ (entry-holds (d .before .before))
+          (sym (d .before .refused2 .ensures) ∙ d .if5 .left) (o .1) (o .2) (c .before .lower .ensures) (c .upper .ensures),
+    )
 
 add-i : tie.Need-add-i Inv-loop2 μ-loop2 Inv-loop μ-loop Inv-search μ-search
 add-i c = omega arith
@@ -43,11 +71,22 @@ search-less c = omega arith
 
 search-again : tie.Need-search-again Inv-loop2 μ-loop2 Inv-loop μ-loop Inv-search μ-search
 search-again c =
-    let s = c .before .before .before .search in
-    let d = c .before .before .before .before .before .before .before .before .before .before .before .before .args in
-    let next : (s .i + 1) * d .n ≡ s .i * d .n + d .n = rw add-one (suc-mul (s .i) (d .n)) in
-    let h = c .before .loop .inv in
-    (omega arith, omega arith, h .2, h .3, filled-from (s .at) _ _ _ _ _ (omega arith) (s .inv .4) (h .4), filled-from (s .at) _ _ _ _ _ (omega arith) (s .inv .5) (h .5))
+    let s : Head = c .before .before .before in
+    let h = c .before .loop in
+    (omega arith, next-row (s .search .i) (begin s .args .n) (h .at) (omega arith), to-from (E (begin s)) (s .search .inv .2) (omega arith) (h .inv .2))
+
+same-length : tie.Need-same-length Inv-loop2 μ-loop2 Inv-loop μ-loop Inv-search μ-search
+same-length c = search needs
+
+same-length-2 : tie.Need-same-length-2 Inv-loop2 μ-loop2 Inv-loop μ-loop Inv-search μ-search
+same-length-2 c = search needs
+
+returns : tie.Need-returns Inv-loop2 μ-loop2 Inv-loop μ-loop Inv-search μ-search
+returns c =
+    let s : Head = c .before in
+    let a = begin s .args in
+    let all : s .search .i ≡ a .m = omega arith in
+    to-all (E (begin s)) (s .search .inv .2) (a .m) (a .n) (s .search .inv .1 ∙ ap (λ (t : ℕ). t * a .n) all)
 
 pub entries-spec : {M : Type 1} → statement M
 entries-spec =

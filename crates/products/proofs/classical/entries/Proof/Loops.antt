@@ -1,26 +1,23 @@
 -- The loops of `products::classical::entries`: their invariants, what a turn reads and writes, and which entry it works at.
-use mathlib.Core.Path.{_≡_, _∙_}
-use mathlib.Core.Option.{Option, some}
+use mathlib.Core.Path.{_≡_, sym, _∙_, subst}
+use mathlib.Core.Option.{Option, none}
 use Prim.Native.Nat.{ℕ, _+_, _-_, _*_, _≤_, _<_}
 use native.Mathlib.Nat.{mul-le-mul}
 use native.Mathlib.Omega.{arith}
-use lib.IntN.{negℤ}
 use lib.ListN.{length, getD}
 use Rattle.enclosure.specs.Methods.{Range, classical}
-use Rattle.products.specs.declared.sums.Sums.{Sums}
-use Rattle.products.specs.declared.sums.Place.the-variants.{Nowhere}
-use Rattle.products.specs.declared.apart.Apart.{Apart}
-use Rattle.unpacked.specs.Number.{worth}
-use Rattle.products.specs.Apart.{IsApart, zeroApart}
 use Rattle.matrices.specs.Matrix.{Matrix, lowerAt, upperAt}
-use Rattle.products.specs.Apart.{Cells}
-use Rattle.products.specs.Running.{Sum}
-use Rattle.matrices.specs.Entries.{entryAt, stopOf}
-use Rattle.matrices.proofs.Fronts.{Filled}
+use Rattle.matrices.specs.Entries.{entryOf, entryAt}
 use Rattle.matrices.proofs.Places.{below, position-entry}
-use Rattle.products.proofs.Writing.{lowersOf, uppersOf}
-use Rattle.products.proofs.ClassicalSums.{lowerTo, upperTo, entry-whole}
+use Rattle.products.specs.declared.apart.Apart.{Apart}
+use Rattle.products.specs.declared.sums.Place.the-variants.{Nowhere, At}
+use Rattle.products.specs.Apart.{IsApart, Cells, zeroApart}
+use Rattle.products.specs.Classical.{SumsAfter}
+use Rattle.products.specs.Running.{HoldsRange}
+use Rattle.products.specs.Written.{Written}
+use Rattle.products.proofs.ClassicalSums.{after-all}
 use Rattle.products.proofs.Pairs.{Taken, fine-taken, fine-cells}
+use Rattle.products.proofs.Rows.{WrittenTo, to-from, to-none, to-long, to-place}
 use Rattle.products.proofs.classical.entries.Tie as tie
 
 -- a row is taken apart
@@ -31,12 +28,10 @@ Inv-loop m k n al au bl bu lo up row₀ place at i l₀ row l =
 abbrev pub μ-loop : tie.MeasureT-loop
 μ-loop m k n al au bl bu lo up row₀ place at i l₀ row l = k - l
 
--- the pairs of an entry
+-- after l pairs the running value holds the lower and the upper sum over them
 abbrev pub Inv-loop3 : tie.InvT-loop3
 Inv-loop3 m k n al au bl bu lo up row place₀ at i j s₀ l₀ place s l =
-    let A : Matrix = record { lowers = al; uppers = au } in
-    let B : Matrix = record { lowers = bl; uppers = bu } in
-    (l ≤ k) × (place ≡ Nowhere) × Sum (lowerTo k n A B i j l) (upperTo k n A B i j l) s
+    (l ≤ k) × (place ≡ Nowhere) × SumsAfter k n (record { lowers = al; uppers = au }) (record { lowers = bl; uppers = bu }) i j l s
 
 abbrev pub μ-loop3 : tie.MeasureT-loop3
 μ-loop3 m k n al au bl bu lo up row place₀ at i j s₀ l₀ place s l = k - l
@@ -44,16 +39,15 @@ abbrev pub μ-loop3 : tie.MeasureT-loop3
 -- the entries of a row, and the rows
 abbrev pub Inv-loop2 : tie.InvT-loop2
 Inv-loop2 m k n al au bl bu lo₀ up₀ row place₀ at₀ i j₀ lo up place at j =
-    let E : ℕ → Option Range = entryAt classical k n (record { lowers = al; uppers = au }) (record { lowers = bl; uppers = bu }) in
-    (j ≤ n) × (at ≡ at₀ + j) × (place ≡ Nowhere) × (stopOf E at ≡ at) × Filled at (lowersOf E) lo₀ lo × Filled at (uppersOf E) up₀ up
+    (j ≤ n) × (at ≡ at₀ + j) × WrittenTo (entryAt classical k n (record { lowers = al; uppers = au }) (record { lowers = bl; uppers = bu })) at lo₀ up₀ lo up place
 
 abbrev pub μ-loop2 : tie.MeasureT-loop2
 μ-loop2 m k n al au bl bu lo₀ up₀ row place₀ at₀ i j₀ lo up place at j = n - j
 
 abbrev pub Inv-search : tie.InvT-search
 Inv-search m k n al au bl bu lo₀ up₀ row₀ place₀ at₀ i₀ lo up row place at i =
-    let E : ℕ → Option Range = entryAt classical k n (record { lowers = al; uppers = au }) (record { lowers = bl; uppers = bu }) in
-    (i ≤ m) × (at ≡ i * n) × (place ≡ Nowhere) × (stopOf E at ≡ at) × Filled at (lowersOf E) lo₀ lo × Filled at (uppersOf E) up₀ up × (length row ≡ 32)
+    (i ≤ m) × (at ≡ i * n) × WrittenTo (entryAt classical k n (record { lowers = al; uppers = au }) (record { lowers = bl; uppers = bu })) at lo₀ up₀ lo up place
+    × (length row ≡ 32)
 
 abbrev pub μ-search : tie.MeasureT-search
 μ-search m k n al au bl bu lo₀ up₀ row₀ place₀ at₀ i₀ lo up row place at i = m - i
@@ -103,7 +97,7 @@ apart-positions c =
     let a = below (s .search .i) (M s) (c .before .loop .l) (K s) (omega arith) (omega arith) in
     (a, omega arith, omega arith, omega (arith, c .loop-test .taken, Begin s .pre .inner))
 
--- a turn of the innermost loop: the outer loop's head, the row, the column and the pair
+-- a turn of the loop over pairs: the outer loop's head, the column, the places of its cells in A and B, and its cell of A
 abbrev pub head : In3 → Head
 head c = c .before .before .before .before .before .before .before .before
 
@@ -131,7 +125,7 @@ places c =
     let b = below (c .before .loop3 .l) (K s) (column c) (N s) (omega arith) (omega arith) in
     (a, b, omega arith, omega arith, omega (arith, b, mul-le-mul (Begin s .pre .inner) (Begin s .pre .columns)))
 
--- its cell of A, and that the four bounds there are numbers
+-- the four bounds there are numbers
 pub taken : (c : In3) → Taken (A (head c)) (p c) (cell c)
 taken c =
     let s : Head = head c in
@@ -143,38 +137,54 @@ cells c =
     let s : Head = head c in
     fine-cells (A s) (B s) (K s * N s) (p c) (q c) (cell c) (taken c) (Begin s .pre .b-fine) (places c .1)
 
--- the sums after its pair
-abbrev pub Next : In3 → Sums → Type 0
-Next c s =
-    let h : Head = head c in
-    let i : ℕ = h .search .i in
-    let l : ℕ = c .before .loop3 .l in
-    Sum (lowerTo (K h) (N h) (A h) (B h) i (column c) (l + 1)) (upperTo (K h) (N h) (A h) (B h) i (column c) (l + 1)) s
+-- a turn of the loop over columns: the outer loop's head, and the place that it writes
+abbrev pub entry-head : In2 → Head
+entry-head h = h .before .before .before .before .before
 
--- the place that a turn writes is below the entries' number, and so within both results
-abbrev pub row-head : In2 → Head
-row-head c = c .before .before .before .before .before
+here : (h : In2) → h .before .loop2 .at ≡ entry-head h .search .i * N (entry-head h) + h .before .loop2 .j
+here h = omega arith
 
-pub place-out : (c : In2) →
-    let s : Head = row-head c in
-    (c .before .loop2 .at < M s * N s) × (c .before .loop2 .at < length (c .before .loop2 .lo)) × (c .before .loop2 .at < length (c .before .loop2 .up))
-    × (length (c .before .loop2 .lo) ≡ length (s .search .lo)) × (length (c .before .loop2 .up) ≡ length (s .search .up)) × (c .before .loop2 .at < 32 * 32)
-place-out c =
-    let s : Head = row-head c in
-    let h = below (s .search .i) (M s) (c .before .loop2 .j) (N s) (omega arith) (omega arith) in
-    let e = c .before .loop2 .inv .4 .long ∙ s .search .inv .4 .long in
-    let f = c .before .loop2 .inv .5 .long ∙ s .search .inv .5 .long in
-    let m = mul-le-mul (Begin s .pre .rows) (Begin s .pre .columns) in
-    (omega arith, omega arith, omega arith, c .before .loop2 .inv .4 .long, c .before .loop2 .inv .5 .long, omega arith)
+-- what is written before it, which leaves the results as long as they were
+kept : (h : In2) →
+    let s : Head = entry-head h in
+    let o = h .before .loop2 in
+    WrittenTo (E s) (o .at) (Begin s .args .lo .now) (Begin s .args .up .now) (o .lo) (o .up) (o .place)
+kept h = to-from (E (entry-head h)) (entry-head h .search .inv .2) (omega arith) (h .before .loop2 .inv .2)
 
--- after the innermost loop the sums are the whole entry
-pub whole-entry : (c : tie.After-loop3 Inv-loop μ-loop Inv-loop3 μ-loop3 Inv-loop2 μ-loop2 Inv-search μ-search) →
+pub long : (h : In2) →
+    let a = Begin (entry-head h) .args in
+    (length (h .before .loop2 .lo) ≡ length (a .lo .now)) × (length (h .before .loop2 .up) ≡ length (a .up .now))
+long h = to-long (E (entry-head h)) (kept h)
+
+-- its place is within both results
+pub place-out : (h : In2) →
+    let o = h .before .loop2 in
+    (o .at < 1024) × (o .at < length (o .lo)) × (o .at < length (o .up))
+place-out h =
+    let s : Head = entry-head h in
+    let z = Begin s .pre in
+    to-place (E s) (kept h) (M s) (N s) (s .search .i) (h .before .loop2 .j) (z .rows) (z .columns) (z .lowers) (z .uppers) (here h) (omega arith) (h .loop2-test .taken)
+
+-- after the loop over pairs the sums are the whole entry
+pub entry-holds : (c : tie.After-loop3 Inv-loop μ-loop Inv-loop3 μ-loop3 Inv-loop2 μ-loop2 Inv-search μ-search) →
     let h : In2 = c .before .before .before in
-    let t = c .before .loop3 .s in
-    E (row-head h) (h .before .loop2 .at) ≡ some (record { lower = worth (t .lower); upper = negℤ (worth (t .opposed)) })
-whole-entry c =
+    HoldsRange (E (entry-head h) (h .before .loop2 .at)) (c .before .loop3 .s)
+entry-holds c =
     let h : In2 = c .before .before .before in
-    let s : Head = row-head h in
-    let all : c .before .loop3 .l ≡ K s = omega arith in
-    position-entry classical (K s) (N s) (s .search .i) (h .before .loop2 .j) (h .before .loop2 .at) (omega arith) (h .loop2-test .taken) (A s) (B s)
-    ∙ entry-whole (K s) (N s) (A s) (B s) (s .search .i) (h .before .loop2 .j) (c .before .loop3 .s) (rw all at (c .before .loop3 .inv .2))
+    let s : Head = entry-head h in
+    let o = h .before .loop2 in
+    let g = c .before .loop3 in
+    subst (λ m. HoldsRange m (g .s)) (sym (position-entry classical (K s) (N s) (s .search .i) (o .j) (o .at) (here h) (h .loop2-test .taken) (A s) (B s)))
+    (after-all (K s) (N s) (A s) (B s) (s .search .i) (o .j) (g .l) (g .s) (omega arith) (g .inv .2))
+
+-- an entry that is none leaves all loops with its place
+pub leaves : (h : In2) →
+    let s : Head = entry-head h in
+    let o = h .before .loop2 in
+    entryOf classical (K s) (N s) (A s) (B s) (s .search .i) (o .j) ≡ none
+    → Written (E s) (M s) (N s) (Begin s .args .lo .now) (Begin s .args .up .now) (At (s .search .i) (o .j)) (o .lo) (o .up)
+leaves h e =
+    let s : Head = entry-head h in
+    let o = h .before .loop2 in
+    to-none (E s) (kept h) (M s) (N s) (s .search .i) (o .j) (here h) (omega arith) (h .loop2-test .taken)
+    (position-entry classical (K s) (N s) (s .search .i) (o .j) (o .at) (here h) (h .loop2-test .taken) (A s) (B s) ∙ e)

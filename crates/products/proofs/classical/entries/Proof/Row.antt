@@ -11,7 +11,7 @@ use Rattle.products.proofs.classical.entries.Tie as tie
 use Rattle.products.proofs.classical.entries.Proof.Loops.{Inv-loop, μ-loop, Inv-loop3, μ-loop3, Inv-loop2, μ-loop2, Inv-search, μ-search, Head, K, A, apart-positions}
 
 pub loop-holds : tie.Need-loop-holds Inv-loop μ-loop Inv-loop3 μ-loop3 Inv-loop2 μ-loop2 Inv-search μ-search
-loop-holds c = (omega arith, c .before .search .inv .6, λ b h. absurd (omega arith))
+loop-holds c = (omega arith, c .before .search .inv .3, λ b h. absurd (omega arith))
 
 pub mul-c : tie.Need-mul-c Inv-loop μ-loop Inv-loop3 μ-loop3 Inv-loop2 μ-loop2 Inv-search μ-search
 mul-c c = omega (arith, apart-positions c)

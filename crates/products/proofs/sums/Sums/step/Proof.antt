@@ -1,18 +1,23 @@
--- `products::sums::Sums::step` meets its contract: the least and the greatest corner, each added to its sum.
-use mathlib.Core.Path.{refl, sym, subst}
-use lib.IntN.{ℤ}
+-- `products::sums::Sums::step` meets its contract: the least and the greatest corner product, each rounded and added to its sum.
+use mathlib.Core.Path.{_≡_, sym, ap₂, subst}
 use borrow.Author.Needs.{needs}
-use Rattle.algebra.specs.Extremes.{least₄, greatest₄}
+use Rattle.algebra.specs.Order.{_≼_}
+use Rattle.rounding.specs.Format.{binary32}
 use Rattle.rounding.specs.Rounding.{negate}
+use Rattle.enclosure.specs.Arithmetic.{of}
+use Rattle.enclosure.specs.Cell.{Cell, leastCorner, greatestCorner}
+use Rattle.enclosure.specs.Conversion.{cellOf}
+use Rattle.enclosure.specs.Methods.{leastTerm, greatestTerm}
 use Rattle.binary32.specs.Number.{valueOf}
 use Rattle.binary32.proofs.Held.{is-finite}
-use Rattle.unpacked.specs.Number.{worth, Holds}
-use Rattle.products.specs.Apart.{lowerNumber, upperNumber}
-use Rattle.unpacked.specs.Corners.{corner₄, leastProduct, greatestProduct}
+use Rattle.unpacked.specs.declared.Number.{Number}
+use Rattle.unpacked.specs.Number.{worth, IsNumber, Holds}
 use Rattle.unpacked.specs.Exact.{Exact}
 use Rattle.unpacked.proofs.Multiplying.{unpacked-number}
-use Rattle.unpacked.proofs.CornerSteps.{Worth, corner-factors, corner-at, least-of, greatest-of, least-rounded, greatest-rounded}
+use Rattle.unpacked.proofs.CornerSteps.{least-of, greatest-of, least-rounded, greatest-rounded}
 use Rattle.unpacked.proofs.RoundedProducts.{exact-formed}
+use Rattle.products.specs.Classical.{leftCell, rightCell}
+use Rattle.products.proofs.ClassicalSums.{pair-holds}
 use Rattle.products.proofs.sums.Sums.step.Statement.{statement}
 use Rattle.products.proofs.sums.Sums.step.Tie as tie
 
@@ -28,108 +33,113 @@ unpack-requires c κs = search needs
 unpack-requires-2 : tie.Need-unpack-requires-2
 unpack-requires-2 c κs = search needs
 
--- the four bounds
+-- the bounds of both cells
 module _ (c : tie.After-unpack2) where
   abbrev start : tie.Start
   start = c .before .before .before .before
 
-  abbrev al : ℤ
-  al = worth (lowerNumber (start .args .a))
+  abbrev w : Number
+  w = c .before .before .before .lower .result
 
-  abbrev au : ℤ
-  au = worth (upperNumber (start .args .a))
+  abbrev x : Number
+  x = c .before .before .upper .result
 
-  abbrev bl : ℤ
-  bl = valueOf (start .args .bl)
+  abbrev y : Number
+  y = c .before .unpack .result
 
-  abbrev bu : ℤ
-  bu = valueOf (start .args .bu)
+  abbrev z : Number
+  z = c .unpack2 .result
 
-  a-lower : Worth al (c .before .before .before .lower .result)
-  a-lower = subst (Worth al) (sym (c .before .before .before .lower .ensures)) (start .pre .1 .a-lower, refl)
+  y-is : IsNumber y × (worth y ≡ valueOf (start .args .bl))
+  y-is = unpacked-number (start .args .bl) y (is-finite (start .args .bl) (start .pre .1 .b-lower)) (c .before .unpack .ensures)
 
-  a-upper : Worth au (c .before .before .upper .result)
-  a-upper = subst (Worth au) (sym (c .before .before .upper .ensures)) (start .pre .1 .a-upper, refl)
+  z-is : IsNumber z × (worth z ≡ valueOf (start .args .bu))
+  z-is = unpacked-number (start .args .bu) z (is-finite (start .args .bu) (start .pre .1 .b-upper)) (c .unpack2 .ensures)
 
-  b-lower : Worth bl (c .before .unpack .result)
-  b-lower = unpacked-number (start .args .bl) (c .before .unpack .result) (is-finite (start .args .bl) (start .pre .1 .b-lower)) (c .before .unpack .ensures)
+  w-number : IsNumber w
+  w-number = subst IsNumber (sym (c .before .before .before .lower .ensures)) (start .pre .1 .a-lower)
 
-  b-upper : Worth bu (c .unpack2 .result)
-  b-upper = unpacked-number (start .args .bu) (c .unpack2 .result) (is-finite (start .args .bu) (start .pre .1 .b-upper)) (c .unpack2 .ensures)
+  x-number : IsNumber x
+  x-number = subst IsNumber (sym (c .before .before .upper .ensures)) (start .pre .1 .a-upper)
 
-corner-of-requires : tie.Need-corner-of-requires
-corner-of-requires c κs = corner-factors (a-lower c) (b-lower c)
+  -- the cells of these numbers
+  abbrev wx : Cell
+  wx = cellOf (of binary32) (worth w) (worth x)
 
-corner-of-requires-2 : tie.Need-corner-of-requires-2
-corner-of-requires-2 c κs = let u = c .before in corner-factors (a-lower u) (b-upper u)
+  abbrev yz : Cell
+  yz = cellOf (of binary32) (worth y) (worth z)
 
-corner-of-requires-3 : tie.Need-corner-of-requires-3
-corner-of-requires-3 c κs = let u = c .before .before in corner-factors (a-upper u) (b-lower u)
+  -- are those of the pair
+  abbrev a : Cell
+  a = leftCell (start .args .a)
 
-corner-of-requires-4 : tie.Need-corner-of-requires-4
-corner-of-requires-4 c κs = let u = c .before .before .before in corner-factors (a-upper u) (b-upper u)
+  abbrev b : Cell
+  b = rightCell (start .args .bl) (start .args .bu)
+
+  a-is : wx ≡ a
+  a-is = ap₂ (λ (u v : Number). cellOf (of binary32) (worth u) (worth v)) (c .before .before .before .lower .ensures) (c .before .before .upper .ensures)
+
+  b-is : yz ≡ b
+  b-is = ap₂ (cellOf (of binary32)) (y-is .1) (z-is .1)
+
+  -- B's bounds are in order
+  order : worth y ≼ worth z
+  order = subst (λ t. t ≼ worth z) (sym (y-is .1)) (subst (λ t. valueOf (start .args .bl) ≼ t) (sym (z-is .1)) (start .pre .1 .b-order))
+
+corner-by-sign-requires : tie.Need-corner-by-sign-requires
+corner-by-sign-requires c κs = (w-number c, y-is c .0, z-is c .0)
+
+corner-by-sign-requires-2 : tie.Need-corner-by-sign-requires-2
+corner-by-sign-requires-2 c κs = let u = c .before in (x-number u, y-is u .0, z-is u .0)
 
 lesser-requires : tie.Need-lesser-requires
 lesser-requires c κs = search needs
 
-lesser-requires-2 : tie.Need-lesser-requires-2
-lesser-requires-2 c κs = search needs
+corner-by-sign-requires-3 : tie.Need-corner-by-sign-requires-3
+corner-by-sign-requires-3 c κs = let u = c .before .before .before .before in (w-number u, z-is u .0, y-is u .0)
 
-lesser-requires-3 : tie.Need-lesser-requires-3
-lesser-requires-3 c κs = search needs
+corner-by-sign-requires-4 : tie.Need-corner-by-sign-requires-4
+corner-by-sign-requires-4 c κs = let u = c .before .before .before .before .before in (x-number u, z-is u .0, y-is u .0)
 
 greater-requires : tie.Need-greater-requires
 greater-requires c κs = search needs
 
-greater-requires-2 : tie.Need-greater-requires-2
-greater-requires-2 c κs = search needs
-
-greater-requires-3 : tie.Need-greater-requires-3
-greater-requires-3 c κs = search needs
-
--- the extremes of the four exact products
-module _ (c : tie.After-lesser3) where
+-- the least and the greatest of the four exact products
+module _ (c : tie.After-lesser) where
   abbrev u : tie.After-unpack2
-  u = c .before .before .before .before .before .before .before
+  u = c .before .before .before
 
-  least : Exact (corner₄ least₄ (al u) (au u) (bl u) (bu u)) (c .lesser3 .result .product)
-  least =
-      let k = c .before .before .before in
-      least-of (al u) (au u) (bl u) (bu u)
-      (corner-at (a-lower u) (b-lower u) (k .before .before .before .corner-of .ensures)) (corner-at (a-lower u) (b-upper u) (k .before .before .corner-of2 .ensures))
-      (corner-at (a-upper u) (b-lower u) (k .before .corner-of3 .ensures)) (corner-at (a-upper u) (b-upper u) (k .corner-of4 .ensures))
-      (c .before .before .lesser .ensures) (c .before .lesser2 .ensures) (c .lesser3 .ensures)
+  least : Exact (leastCorner (wx u) (yz u)) (c .lesser .result .product)
+  least = least-of (wx u) (yz u) (order u) (c .before .before .corner-by-sign .ensures) (c .before .corner-by-sign2 .ensures) (c .lesser .ensures)
 
-module _ (c : tie.After-greater3) where
-  abbrev low : tie.After-lesser3
+module _ (c : tie.After-greater) where
+  abbrev low : tie.After-lesser
   low = c .before .before .before .before
 
-  greatest : Exact (corner₄ greatest₄ (al (u low)) (au (u low)) (bl (u low)) (bu (u low))) (c .greater3 .result .product)
-  greatest =
-      let v = u low in
-      let k = low .before .before .before in
-      greatest-of (al v) (au v) (bl v) (bu v)
-      (corner-at (a-lower v) (b-lower v) (k .before .before .before .corner-of .ensures)) (corner-at (a-lower v) (b-upper v) (k .before .before .corner-of2 .ensures))
-      (corner-at (a-upper v) (b-lower v) (k .before .corner-of3 .ensures)) (corner-at (a-upper v) (b-upper v) (k .corner-of4 .ensures))
-      (c .before .before .greater .ensures) (c .before .greater2 .ensures) (c .greater3 .ensures)
+  greatest : Exact (greatestCorner (wx (u low)) (yz (u low))) (c .greater .result .product)
+  greatest = greatest-of (wx (u low)) (yz (u low)) (order (u low)) (c .before .before .corner-by-sign3 .ensures) (c .before .corner-by-sign4 .ensures) (c .greater .ensures)
 
--- the sums' terms
+-- the terms of the sums
 module _ (c : tie.After-rounded-down) where
-  abbrev both : tie.After-greater3
-  both = c .before .before
+  abbrev high : tie.After-greater
+  high = c .before .before
 
   abbrev v : tie.After-unpack2
-  v = u (low both)
+  v = u (low high)
 
-  lower-term : Holds (leastProduct (al v) (au v) (bl v) (bu v)) (c .rounded-down .result)
-  lower-term = least-rounded (al v) (au v) (bl v) (bu v) (least (low both)) (c .rounded-down .ensures)
+  lower-term : Holds (leastTerm (of binary32) (a v) (b v)) (c .rounded-down .result)
+  lower-term =
+      subst (λ m. Holds m (c .rounded-down .result)) (ap₂ (leastTerm (of binary32)) (a-is v) (b-is v))
+      (least-rounded (wx v) (yz v) (least (low high)) (c .rounded-down .ensures))
 
 module _ (c : tie.After-rounded-up) where
   abbrev down : tie.After-rounded-down
   down = c .before .before
 
-  upper-term : Holds (negate (greatestProduct (al (v down)) (au (v down)) (bl (v down)) (bu (v down)))) (c .rounded-up .result)
-  upper-term = greatest-rounded (al (v down)) (au (v down)) (bl (v down)) (bu (v down)) (greatest (both down)) (c .rounded-up .ensures)
+  upper-term : Holds (negate (greatestTerm (of binary32) (a (v down)) (b (v down)))) (c .rounded-up .result)
+  upper-term =
+      subst (λ m. Holds (negate m) (c .rounded-up .result)) (ap₂ (greatestTerm (of binary32)) (a-is (v down)) (b-is (v down)))
+      (greatest-rounded (wx (v down)) (yz (v down)) (greatest (high down)) (c .rounded-up .ensures))
 
 rounded-down-requires : tie.Need-rounded-down-requires
 rounded-down-requires c κs = exact-formed (least (low (c .before)))
@@ -138,19 +148,16 @@ plus-down-requires : tie.Need-plus-down-requires
 plus-down-requires c κs = (start (v c) .pre .0 .lower, lower-term c .part)
 
 rounded-up-requires : tie.Need-rounded-up-requires
-rounded-up-requires c κs = exact-formed (greatest (both (c .before)))
+rounded-up-requires c κs = exact-formed (greatest (high (c .before)))
 
 plus-down-requires-2 : tie.Need-plus-down-requires-2
 plus-down-requires-2 c κs = (start (v (down c)) .pre .0 .opposed, upper-term c .part)
 
 returns : tie.Need-returns
 returns c =
-    let g = c .before in
-    let k = v (down g) in
-    record {
-      lower = g .before .plus-down .ensures (leastProduct (al k) (au k) (bl k) (bu k)) (lower-term (down g));
-      opposed = c .plus-down2 .ensures (negate (greatestProduct (al k) (au k) (bl k) (bu k))) (upper-term g);
-    }
+    let t = c .before in
+    let k = v (down t) in
+    pair-holds (start k .args .self) (a k) (b k) _ (t .before .plus-down .ensures _ (lower-term (down t))) (c .plus-down2 .ensures _ (upper-term t))
 
 pub step-spec : {M : Type 1} → statement M
 step-spec =
@@ -160,16 +167,12 @@ step-spec =
     upper-requires
     unpack-requires
     unpack-requires-2
-    corner-of-requires
-    corner-of-requires-2
-    corner-of-requires-3
-    corner-of-requires-4
+    corner-by-sign-requires
+    corner-by-sign-requires-2
     lesser-requires
-    lesser-requires-2
-    lesser-requires-3
+    corner-by-sign-requires-3
+    corner-by-sign-requires-4
     greater-requires
-    greater-requires-2
-    greater-requires-3
     rounded-down-requires
     plus-down-requires
     rounded-up-requires

@@ -1,24 +1,21 @@
--- The two ends of an entry in `products::three::entries`: from the sums of all pairs, refused or both numbers, and what writing them needs.
+-- After the loop over pairs of `products::three::entries`: the radius, the two ends of an entry, and the ways out of all loops at one that is refused.
 use mathlib.Core.Path.{_≡_, sym, _∙_}
 use Prim.Native.Nat.{ℕ, _+_, _*_, _<_}
-use native.Mathlib.Omega.{arith}
 use borrow.Author.Needs.{needs}
 use lib.IntN.{negℤ}
 use lib.ListN.{getD}
 use Rattle.rounding.specs.Rounding.{negate}
-use Rattle.enclosure.specs.Methods.{Range, three}
 use Rattle.binary32.specs.Number.{valueOf, held}
 use Rattle.unpacked.specs.Number.{worth, Runs}
-use Rattle.products.specs.Running.{Closes}
+use Rattle.products.specs.Running.{HoldsRange}
 use Rattle.products.specs.Derived.{outerOf}
-use Rattle.matrices.proofs.Fronts.{filled-more}
-use Rattle.products.proofs.FourEntry.{b-mid, b-rad, entryBy, reaches, outers, outer-runs}
+use Rattle.products.proofs.FourEntry.{b-mid, b-rad, reaches, outers, outer-runs, outer-none}
 use Rattle.unpacked.proofs.Opposites.{opposite-number}
-use Rattle.products.proofs.ThreeSteps.{first-numbers, tiny-number, three-closes}
-use Rattle.products.proofs.Writing.{stop-more, lower-is, upper-is}
+use Rattle.products.proofs.ThreeSteps.{first-numbers, first-none, tiny-number, tiny-none, three-first, three-tiny, three-outer, three-holds}
 use Rattle.products.proofs.three.entries.Tie as tie
-use Rattle.products.proofs.three.entries.Proof.Loops.{Inv-loop2, μ-loop2, Inv-loop, μ-loop, Inv-search, μ-search, In1, start, spot, pair, here, place-out}
-use Rattle.products.proofs.three.entries.Proof.Turns.{Out2, first-all, tiny-all}
+use Rattle.products.proofs.three.entries.Proof.Loops.{Inv-loop2, μ-loop2, Inv-loop, μ-loop, Inv-search, μ-search}
+use Rattle.products.proofs.three.entries.Proof.Loops.{In2, In1, start, E, spot, here, pair, of₂, long, leaves}
+use Rattle.products.proofs.three.entries.Proof.Turns.{Out2, first-after, first-all, tiny-after, tiny-all}
 
 -- the radius goes on over what is read for all pairs
 pub outer-requires : tie.Need-outer-requires Inv-loop2 μ-loop2 Inv-loop μ-loop Inv-search μ-search
@@ -31,7 +28,7 @@ outer-requires c κs =
 pub is-none-requires-2 : tie.Need-is-none-requires-2 Inv-loop2 μ-loop2 Inv-loop μ-loop Inv-search μ-search
 is-none-requires-2 c κs = search needs
 
-abbrev pub wide : (h : In1) (l : ℕ) → l < spot h .k → held (getD (start h .args .wb .now) (l * spot h .n + spot h .j) 0) ≡ outerOf (valueOf (b-mid (spot h) l)) (valueOf (b-rad (spot h) l))
+abbrev wide : (h : In1) (l : ℕ) → l < spot h .k → held (getD (start h .args .wb .now) (l * spot h .n + spot h .j) 0) ≡ outerOf (valueOf (b-mid (spot h) l)) (valueOf (b-rad (spot h) l))
 wide h l m = start h .pre .2 .each _ (pair h l m .second)
 
 -- it is a number
@@ -43,16 +40,16 @@ radius-runs c =
     outer-runs (spot h) _ _ (pair h) (wide h) _ _ (c .before .before .outer .ensures) (sym (c .before .is-none2 .ensures) ∙ c .if4 .left)
 
 -- the entry with these ends
-pub closed : (c : tie.After-ends Inv-loop2 μ-loop2 Inv-loop μ-loop Inv-search μ-search) →
+pub entry-holds : (c : tie.After-ends Inv-loop2 μ-loop2 Inv-loop μ-loop Inv-search μ-search) →
     let h : In1 = c .before .before .before .before .before .before .before .before .before .before .before .before in
-    Closes (entryBy (spot h) three (h .before .loop .at)) (c .ends .result)
-closed c =
+    HoldsRange (E (start h) (h .before .loop .at)) (c .ends .result)
+entry-holds c =
     let d = c .before .before in
     let e = d .before .before .before in
     let f : Out2 = e .before .before .before .before in
     let h : In1 = f .before .before .before in
     let o = c .before .opposite in
-    three-closes (spot h) (h .before .loop .at) (here h) (h .loop-test .taken) (f .before .loop2 .s) _ (o .result)
+    three-holds (spot h) (h .before .loop .at) (here h) (h .loop-test .taken) (f .before .loop2 .s) _ (o .result)
     _ (c .ends .result) (first-all f) (tiny-all e) (o .ensures) (radius-runs d) (c .ends .ensures)
 
 pub opposite-requires : tie.Need-opposite-requires Inv-loop2 μ-loop2 Inv-loop μ-loop Inv-search μ-search
@@ -67,49 +64,57 @@ pub refused-requires-2 : tie.Need-refused-requires-2 Inv-loop2 μ-loop2 Inv-loop
 refused-requires-2 c κs = search needs
 
 pub lower-requires : tie.Need-lower-requires Inv-loop2 μ-loop2 Inv-loop μ-loop Inv-search μ-search
-lower-requires c κs = closed (c .before .before) .numbers (sym (c .before .refused2 .ensures) ∙ c .if5 .left)
-
-pub mul-lo : tie.Need-mul-lo Inv-loop2 μ-loop2 Inv-loop μ-loop Inv-search μ-search
-mul-lo c = omega (arith, place-out (c .before .before .before .before .before .before .before .before .before .before .before .before .before .before .before))
-
-pub slice-write-lo : tie.Need-slice-write-lo Inv-loop2 μ-loop2 Inv-loop μ-loop Inv-search μ-search
-slice-write-lo c = omega (arith, place-out (c .before .before .before .before .before .before .before .before .before .before .before .before .before .before .before))
+lower-requires c κs = entry-holds (c .before .before) .numbers (sym (c .before .refused2 .ensures) ∙ c .if5 .left)
 
 pub upper-requires : tie.Need-upper-requires Inv-loop2 μ-loop2 Inv-loop μ-loop Inv-search μ-search
 upper-requires c κs =
     let d = c .before in
-    closed (d .before .before) .numbers (sym (d .before .refused2 .ensures) ∙ d .if5 .left)
+    entry-holds (d .before .before) .numbers (sym (d .before .refused2 .ensures) ∙ d .if5 .left)
 
-pub mul-up : tie.Need-mul-up Inv-loop2 μ-loop2 Inv-loop μ-loop Inv-search μ-search
-mul-up c = omega (arith, place-out (c .before .before .before .before .before .before .before .before .before .before .before .before .before .before .before .before))
+-- ---- a refused entry leaves all loops with its place
+pub same-length-3 : tie.Need-same-length-3 Inv-loop2 μ-loop2 Inv-loop μ-loop Inv-search μ-search
+same-length-3 c = long (c .before .before .before .before .before .before .before .before .before .before .before) .0
 
-pub slice-write-up : tie.Need-slice-write-up Inv-loop2 μ-loop2 Inv-loop μ-loop Inv-search μ-search
-slice-write-up c = omega (arith, place-out (c .before .before .before .before .before .before .before .before .before .before .before .before .before .before .before .before))
+pub same-length-4 : tie.Need-same-length-4 Inv-loop2 μ-loop2 Inv-loop μ-loop Inv-search μ-search
+same-length-4 c = long (c .before .before .before .before .before .before .before .before .before .before .before) .1
 
-pub add-at : tie.Need-add-at Inv-loop2 μ-loop2 Inv-loop μ-loop Inv-search μ-search
-add-at c = omega (arith, place-out (c .before .before .before .before .before .before .before .before .before .before .before .before .before .before .before .before))
+pub returns-2 : tie.Need-returns-2 Inv-loop2 μ-loop2 Inv-loop μ-loop Inv-search μ-search
+returns-2 c =
+    let t : In2 = c .before .before .before .before .before .before .before .before in
+    let h : In1 = of₂ t in
+    leaves h
+    (three-first (spot h) (h .before .loop .at) (here h) (h .loop-test .taken)
+    (first-none (spot h) _ _ (first-after (c .before .before)) (t .loop2-test .taken) (sym (c .before .refused .ensures) ∙ c .if2 .taken)))
 
-pub add-j : tie.Need-add-j Inv-loop2 μ-loop2 Inv-loop μ-loop Inv-search μ-search
-add-j c =
-    let h : In1 = c .before .before .before .before .before .before .before .before .before .before .before .before .before .before .before .before in
-    omega (arith, place-out h, h .before .loop .inv .1)
+pub same-length-5 : tie.Need-same-length-5 Inv-loop2 μ-loop2 Inv-loop μ-loop Inv-search μ-search
+same-length-5 c = long (c .before .before .before .before .before .before .before) .0
 
-pub loop-less : tie.Need-loop-less Inv-loop2 μ-loop2 Inv-loop μ-loop Inv-search μ-search
-loop-less c = omega (arith, (c .before .before .before .before .before .before .before .before .before .before .before .before .before .before .before .before) .loop-test .taken)
+pub same-length-6 : tie.Need-same-length-6 Inv-loop2 μ-loop2 Inv-loop μ-loop Inv-search μ-search
+same-length-6 c = long (c .before .before .before .before .before .before .before) .1
 
-pub loop-again : tie.Need-loop-again Inv-loop2 μ-loop2 Inv-loop μ-loop Inv-search μ-search
-loop-again c =
-    let h : In1 = c .before .before .before .before .before .before .before .before .before .before .before .before .before .before .before .before in
-    let d = c .before .before in
-    let s = d .before .before .ends .result in
-    let p = h .before .loop in
-    let o = place-out h in
-    let r : Range = record { lower = worth (s .lower); upper = negℤ (worth (s .opposed)) } in
-    let e = closed (d .before .before) .whole (sym (d .before .refused2 .ensures) ∙ d .if5 .left) in (
-      omega arith,
-      omega arith,
-      c .before .before .before .before .before .before .before .before .before .before .before .before .before .before .loop2 .inv .1,
-      stop-more (entryBy (spot h) three) (p .at) r (p .inv .3) e,
-      filled-more _ _ _ _ _ (omega arith) (c .before .lower .ensures ∙ lower-is (entryBy (spot h) three) (p .at) r e) (p .inv .4),
-      filled-more _ _ _ _ _ (omega arith) (c .upper .ensures ∙ upper-is (entryBy (spot h) three) (p .at) r e) (p .inv .5),
-    )
+pub returns-3 : tie.Need-returns-3 Inv-loop2 μ-loop2 Inv-loop μ-loop Inv-search μ-search
+returns-3 c =
+    let h : In1 = c .before .before .before .before .before .before .before in
+    leaves h (three-tiny (spot h) (h .before .loop .at) (here h) (h .loop-test .taken) (tiny-none (spot h) _ (tiny-after (c .before .before)) (sym (c .before .is-none .ensures) ∙ c .if3 .taken)))
+
+pub same-length-7 : tie.Need-same-length-7 Inv-loop2 μ-loop2 Inv-loop μ-loop Inv-search μ-search
+same-length-7 c = long (c .before .before .before .before .before .before .before .before .before .before) .0
+
+pub same-length-8 : tie.Need-same-length-8 Inv-loop2 μ-loop2 Inv-loop μ-loop Inv-search μ-search
+same-length-8 c = long (c .before .before .before .before .before .before .before .before .before .before) .1
+
+pub returns-4 : tie.Need-returns-4 Inv-loop2 μ-loop2 Inv-loop μ-loop Inv-search μ-search
+returns-4 c =
+    let h : In1 = c .before .before .before .before .before .before .before .before .before .before in
+    leaves h
+    (three-outer (spot h) (h .before .loop .at) (here h) (h .loop-test .taken) _ (tiny-all (c .before .before .before))
+    (outer-none (spot h) _ _ (pair h) (wide h) _ _ (c .before .before .outer .ensures) (sym (c .before .is-none2 .ensures) ∙ c .if4 .taken)))
+
+pub same-length-9 : tie.Need-same-length-9 Inv-loop2 μ-loop2 Inv-loop μ-loop Inv-search μ-search
+same-length-9 c = long (c .before .before .before .before .before .before .before .before .before .before .before .before .before .before) .0
+
+pub same-length-10 : tie.Need-same-length-10 Inv-loop2 μ-loop2 Inv-loop μ-loop Inv-search μ-search
+same-length-10 c = long (c .before .before .before .before .before .before .before .before .before .before .before .before .before .before) .1
+
+pub returns-5 : tie.Need-returns-5 Inv-loop2 μ-loop2 Inv-loop μ-loop Inv-search μ-search
+returns-5 c = leaves (c .before .before .before .before .before .before .before .before .before .before .before .before .before .before) (entry-holds (c .before .before) .refused (sym (c .before .refused2 .ensures) ∙ c .if5 .taken))
