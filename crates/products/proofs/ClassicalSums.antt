@@ -16,7 +16,7 @@ use Rattle.enclosure.specs.Arithmetic.{of}
 use Rattle.enclosure.specs.Cell.{Cell}
 use Rattle.enclosure.specs.Methods.{classical, leastTerm, greatestTerm}
 use Rattle.enclosure.specs.RunningSums.{addPair}
-use Rattle.enclosure.proofs.RunningSums.{sums-start, sums-more, sums-stay}
+use Rattle.enclosure.proofs.RunningSums.{both, sums-start, sums-more, sums-stay}
 use Rattle.unpacked.specs.Number.{worth, Holds}
 use Rattle.unpacked.proofs.CornerTerms.{ZeroTerms}
 use Rattle.unpacked.proofs.Packing.{num-of}
@@ -42,8 +42,7 @@ pair-holds s a b r l o = holds-both _ _ r l (subst (λ m. Holds m (r .opposed)) 
 pair-zero : (s : Sums) (a b : Cell) → BothNumbers s → ZeroTerms a b → addPair (of binary32) (boundsOf s) a b ≡ some (boundsOf s)
 unfolding addPair bind
 pair-zero s a b N z =
-    ap₂ (λ m n. bind (bind m λ t. down binary32 1 (worth (s .lower) +ℤ t)) λ u. bind (bind n λ t. up binary32 1 (negℤ (worth (s .opposed)) +ℤ t)) λ v. some (record { lower = u; upper = v })) (z .least) (z .greatest)
-    ∙ ap₂ (λ m n. bind m λ u. bind n λ v. some (record { lower = u; upper = v })) lower upper
+    ap₂ both (ap (plusDown (worth (s .lower))) (z .least) ∙ lower) (ap (λ m. bind m λ t. up binary32 1 (negℤ (worth (s .opposed)) +ℤ t)) (z .greatest) ∙ upper)
   where
     lower : down binary32 1 (worth (s .lower) +ℤ pos 0) ≡ some (worth (s .lower))
     lower = ap (down binary32 1) (plus-zero (worth (s .lower))) ∙ down-exact binary32 1 (lit< tt) (num-of (s .lower) (N .lower))
