@@ -30,7 +30,7 @@ check: ## prove what changed since the last check
 bench: $(archive) ## time operations, sheets, sheet jobs and trains beside their peers; ROUNDS=N sets the rounds
 	@$(MAKE) --no-print-directory -C bench $(if $(ROUNDS),ROUNDS=$(ROUNDS))
 
-before: $(archive) ## time products and sheet jobs beside those of an earlier archive, OLD=FILE
+before: $(archive) ## time reads, products and sheet jobs beside those of an earlier archive, OLD=FILE
 	@$(MAKE) --no-print-directory -C bench before OLD=$(abspath $(OLD)) $(if $(ROUNDS),ROUNDS=$(ROUNDS))
 
 widths: $(archive) ## compare how wide the ranges of the five methods are, and cells that are converted and back

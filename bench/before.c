@@ -1,7 +1,9 @@
-/* Benchmarks, not proved: the products and sheet jobs of the library beside those of an
-   earlier archive of it, in one process, on the same data, in turns. */
+/* Benchmarks, not proved: the reads of sheets, products and sheet jobs of the library beside
+   those of an earlier archive of it, in one process, on the same data, in turns. */
 #include "timing.h"
 
+#include "../tests/oracle/records.h"
+#include "coupling.h"
 #include "measure.h"
 #include "table.h"
 
@@ -44,11 +46,44 @@ static bool print_table(const struct data_set *set, const struct peer *const *pa
     return true;
 }
 
+/* ---- reads of a full sheet */
+
+uint32_t earlier_coupling_read(const uint8_t *sheet, size_t sheet_len, uint32_t *lowers, size_t lowers_len, uint32_t *uppers, size_t uppers_len);
+
+static double time_read(uint32_t (*read)(const uint8_t *, size_t, uint32_t *, size_t, uint32_t *, size_t), const uint8_t *sheet)
+{
+    static uint32_t lowers[CELLS], uppers[CELLS];
+    double start = now();
+    uint32_t sizes = read(sheet, COUPLING_SHEET_MAX, lowers, CELLS, uppers, CELLS);
+    return COUPLING_REFUSED(sizes) ? LONGEST : now() - start;
+}
+
+static void print_reads(const char *name, bool classes, int rounds)
+{
+    static uint8_t sheet[COUPLING_SHEET_MAX];
+    double least = LONGEST, earlier = LONGEST;
+    put_full(sheet);
+    for (size_t c = 1; !classes && c <= CELLS; c++)
+        sheet[RECORD_BYTES * c + 12] = 0;
+    for (int round = 0; round < 10 * rounds; round++) {
+        keep_least(&least, time_read(coupling_read, sheet));
+        keep_least(&earlier, time_read(earlier_coupling_read, sheet));
+    }
+    printf("| %-20s |", name);
+    print_number(least / CELLS);
+    printf(" %6.3f |\n", least / earlier);
+}
+
 int main(int argc, char **argv)
 {
     int rounds = rounds_given(argc, argv);
     printf("Microseconds now, and now / before: below 1, faster than the earlier archive. Least of %d rounds, of ten times as many up to 1,024\n"
            "steps over l, in turns. All results were equal.\n\n", rounds);
+    printf("Nanoseconds a cell of a full sheet\n\n| %-20s |    now |  ratio |\n", "read");
+    print_rule(2);
+    print_reads("class 0", false, rounds);
+    print_reads("classes 0 to 7", true, rounds);
+    printf("\n");
     for (int kind = 0; kind < 2; kind++)
         for (int set = 0; set < DATA_SETS; set++)
             if (!print_table(&data_sets[set], peers[kind], rounds))

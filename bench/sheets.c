@@ -1,5 +1,6 @@
-/* Benchmarks, not proved: times reading and writing a full coupling sheet of 1,024
-   cells, by the library and by plain C (plain_sheet.c), in turns.
+/* Benchmarks, not proved: times reading a full coupling sheet of 1,024 cells, with the fixed
+   wear amounts and with a load of them, and writing it, by the library and by plain C
+   (plain_sheet.c), in turns.
 
    sheets [rounds]
 
@@ -24,7 +25,11 @@ struct pair {
 };
 
 static uint8_t given[COUPLING_SHEET_MAX], our_sheet[COUPLING_SHEET_MAX], plain_sheet[COUPLING_SHEET_MAX];
+static uint8_t load[COUPLING_LOAD_BYTES];
 static struct cells our_cells, plain_cells;
+
+/* The arguments of a read. */
+#define SHEET_AND_BOUNDS(cells) given, COUPLING_SHEET_MAX, cells.lowers, CELLS, cells.uppers, CELLS
 
 /* The full sheet with all wear classes, or with class 0 only. */
 static void put_given(bool classes)
@@ -34,17 +39,41 @@ static void put_given(bool classes)
         given[16 * c + 12] = 0;
 }
 
+/* The fixed amounts as a load: 0, and 2^(class - 11) from class 1 on. */
+static void put_load(void)
+{
+    for (uint32_t c = 1; c < 8; c++)
+        put_number(load + 4 * c, (c + 116) << 23, 4);
+}
+
+static bool read_alike(uint32_t sizes, uint32_t refusal)
+{
+    return COUPLING_READ_ROWS(sizes) == SIZE && COUPLING_READ_COLUMNS(sizes) == SIZE && refusal == 0
+        && memcmp(&our_cells, &plain_cells, sizeof our_cells) == 0;
+}
+
 static bool time_read(struct pair *least)
 {
     size_t rows, columns;
     double start = now();
-    uint32_t sizes = coupling_read(given, COUPLING_SHEET_MAX, our_cells.lowers, CELLS, our_cells.uppers, CELLS);
+    uint32_t sizes = coupling_read(SHEET_AND_BOUNDS(our_cells));
     double between = now();
-    struct refusal refusal = oracle_read(given, COUPLING_SHEET_MAX, plain_cells.lowers, CELLS, plain_cells.uppers, CELLS, &rows, &columns);
+    struct refusal refusal = oracle_read(SHEET_AND_BOUNDS(plain_cells), &rows, &columns);
     keep_least(&least->plain, now() - between);
     keep_least(&least->ours, between - start);
-    return COUPLING_READ_ROWS(sizes) == SIZE && COUPLING_READ_COLUMNS(sizes) == SIZE && refusal.number == 0
-        && memcmp(&our_cells, &plain_cells, sizeof our_cells) == 0;
+    return read_alike(sizes, refusal.number);
+}
+
+static bool time_read_with(struct pair *least)
+{
+    size_t rows, columns;
+    double start = now();
+    uint32_t sizes = coupling_read_with(load, sizeof load, SHEET_AND_BOUNDS(our_cells));
+    double between = now();
+    struct refusal refusal = oracle_read_with(load, sizeof load, SHEET_AND_BOUNDS(plain_cells), &rows, &columns);
+    keep_least(&least->plain, now() - between);
+    keep_least(&least->ours, between - start);
+    return read_alike(sizes, refusal.number);
 }
 
 /* Writes the cells that were read last. */
@@ -86,5 +115,7 @@ int main(int argc, char **argv)
     if (!print_row("read, class 0", time_read, rounds))
         return 1;
     put_given(true);
-    return print_row("read, classes 0 to 7", time_read, rounds) && print_row("write", time_write, rounds) ? 0 : 1;
+    put_load();
+    return print_row("read, classes 0 to 7", time_read, rounds) && print_row("the same with a load", time_read_with, rounds)
+        && print_row("write", time_write, rounds) ? 0 : 1;
 }

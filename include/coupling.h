@@ -16,10 +16,11 @@
    1,000,000 x number + 10,000 x matrix + 100 x row + column, which
    COUPLING_REFUSED tells from every other answer. The matrix is 1 for A, 2 for B,
    3 for the result and 0 for none; in a train it is the sheet's position, 1 to 8,
-   or 9 for a product or the writing. Row and column count from 0, and are the
-   place of a cell for 3, 4, 5 and 10, else 0. The first refusal in the order that
-   is given for each call is returned. Single operations return one number alone,
-   and have a form of their own below.
+   or 9 for a product or the writing. Row and column count from 0. They are the
+   place of a cell for 3, 4, 5 and 10, but 0 where 3 is about a wear amount, and 0
+   for the other numbers. The first refusal in the order that is given for each
+   call is returned. Single operations return one number alone, and have a form of
+   their own below.
 
    Lent memory: a refusal leaves all of it as it was, but for number 5 of
    coupling_product. What lies beyond the cells or bytes that a call writes stays
@@ -35,7 +36,7 @@
    or changes floating-point state.
 
    Stack: on x86-64 a call of coupling_multiply or coupling_train took at most
-   58,904 bytes below its caller's frame, measured on 32 by 32 sheets by each
+   58,920 bytes below its caller's frame, measured on 32 by 32 sheets by each
    method (tests/drivers/stack.c); the other calls take less. COUPLING_STACK bytes
    are enough for each call. */
 #ifndef COUPLING_H
@@ -48,6 +49,7 @@
 #define COUPLING_CELLS_MAX 1024  /* its cells */
 #define COUPLING_SHEET_MAX 16400 /* bytes of the longest sheet; a buffer of this length is never too short */
 #define COUPLING_SHEETS_MAX 8    /* sheets of the longest train */
+#define COUPLING_LOAD_BYTES 32   /* bytes of a load of eight wear amounts */
 #define COUPLING_STACK 65536     /* bytes of stack that are enough for a call */
 
 /* The numbers of the refusals; coupling_sentences.h has a sentence for each. */
@@ -63,6 +65,7 @@
 #define COUPLING_CLASS 10
 #define COUPLING_ROOM 11
 #define COUPLING_COUNT 12
+#define COUPLING_AMOUNTS 13
 
 /* Whether r, which a call returned, is a refusal; and the parts of r if it is. */
 #define COUPLING_REFUSED(r) ((r) >= 1000000u)
@@ -71,7 +74,8 @@
 #define COUPLING_ROW(r) ((r) / 100u % 100u)
 #define COUPLING_COLUMN(r) ((r) % 100u)
 
-/* Rows and columns, from an answer of coupling_read that is no refusal. */
+/* Rows and columns, from an answer of coupling_read or coupling_read_with that is
+   no refusal. */
 #define COUPLING_READ_ROWS(r) ((r) / 100u)
 #define COUPLING_READ_COLUMNS(r) ((r) % 100u)
 
@@ -136,9 +140,24 @@ uint32_t coupling_train(uint32_t method, uint32_t count, const uint8_t *sheets, 
    5. The matrix named is 0; 3, 4, 5 and 10 have the row and column. */
 uint32_t coupling_read(const uint8_t *sheet, size_t sheet_len, uint32_t *lowers, size_t lowers_len, uint32_t *uppers, size_t uppers_len);
 
+/* Reads a sheet with eight wear amounts of the caller's own in place of the fixed
+   ones, which are 0 for class 0 and 2^(c - 11) for class c from 1 to 7. They are
+   loaded with each call: class c widens a cell by the number whose pattern is in
+   bytes 4 c to 4 c + 3 of amounts, little-endian. The load is checked before the
+   sheet is looked at. The first of these refuses it, with matrix, row and column 0:
+     6            amounts_len is not COUPLING_LOAD_BYTES
+     3            an amount has exponent field 255
+     13           the first amount is not zero, or one is below the one before it
+   Amounts are compared by value: minus zero counts as zero, and equal ones pass.
+   All else is as in coupling_read: what is returned, the refusals of the sheet in
+   their order, and what is left in lent memory. */
+uint32_t coupling_read_with(const uint8_t *amounts, size_t amounts_len, const uint8_t *sheet, size_t sheet_len,
+                            uint32_t *lowers, size_t lowers_len, uint32_t *uppers, size_t uppers_len);
+
 /* Writes the sheet of a matrix to the front of out, class 0 in each cell. Returns
    the length written, or the first of: 1, 2, then 3 and 4 cell by cell, 11. The
-   matrix named is 0. What was written, coupling_read reads as the same numbers. */
+   matrix named is 0. What was written, coupling_read reads as the same numbers,
+   and so does coupling_read_with, whatever load it accepts. */
 uint32_t coupling_write(size_t rows, size_t columns, const uint32_t *lowers, size_t lowers_len, const uint32_t *uppers,
                         size_t uppers_len, uint8_t *out, size_t out_len);
 

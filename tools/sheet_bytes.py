@@ -14,16 +14,17 @@ MOST_BYTES = RECORD * (1 + MOST_CELLS)
 SENTENCES = {
     1: "a size is not from 1 to 32, or the left factor's columns are not the right one's rows",
     2: "a slice is shorter than its cells",
-    3: "a bound is not a finite number",
+    3: "a bound or a wear amount is not a finite number",
     4: "a lower bound is above the upper bound",
     5: "a result is too large for binary32",
-    6: "the sheet's length or record count is wrong, or a byte that must be zero is not",
+    6: "a length or the record count is wrong, or a byte that must be zero is not",
     7: "an index is not below the record count, or a cell is outside the matrix",
     8: "the cells of the chain do not rise by row, then column",
     9: "the method is not 1, 3, 4, 5 or 7",
     10: "a wear class is above 7",
     11: "the out buffer is shorter than the sheet to be written",
     12: "the number of sheets is not from 1 to 8",
+    13: "the first wear amount is not zero, or an amount is below the one before it",
 }
 
 # records: what stands behind the head, in order. A record is a Cell, or the 16 bytes of a record outside the chain.
@@ -32,7 +33,7 @@ Cell = namedtuple("Cell", "row column lower upper wear")
 
 
 class Refused(Exception):
-    """A check of the library that a sheet does not pass."""
+    """A check of the library that a sheet or a load of wear amounts does not pass."""
 
     def __init__(self, number, detail, row=0, column=0):
         super().__init__(f"refusal {number}: {SENTENCES[number]} ({detail})")

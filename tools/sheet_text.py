@@ -14,6 +14,11 @@ WORD = re.compile("[^ \t]+")
 MOST_EXPONENT_DIGITS = 8
 
 
+def words_of(text):
+    """The words of a line, without its comment."""
+    return WORD.findall(text.partition("#")[0])
+
+
 def whole(line, word, what, least, most):
     if not re.fullmatch("[0-9]{1,4}", word) or not least <= int(word) <= most:
         raise BadText(line, f"{what} {quoted(word)} is not a whole number from {least} to {most}")
@@ -33,7 +38,7 @@ def parse_decimal(line, word, what):
     return exact
 
 
-def parse_bound(line, word, what, rounded):
+def parse_number(line, word, what, rounded):
     """The exact value written, and the pattern that it is rounded to."""
     if not PATTERN.fullmatch(word):
         exact = parse_decimal(line, word, what)
@@ -49,8 +54,8 @@ def parse_cell(line, words, rows, columns):
         raise BadText(line, f"{len(words)} words where a cell has 5: row column lower upper class")
     row = whole(line, words[0], "row", 0, rows - 1)
     column = whole(line, words[1], "column", 0, columns - 1)
-    lower, lower_pattern = parse_bound(line, words[2], "lower bound", binary32.down)
-    upper, upper_pattern = parse_bound(line, words[3], "upper bound", binary32.up)
+    lower, lower_pattern = parse_number(line, words[2], "lower bound", binary32.down)
+    upper, upper_pattern = parse_number(line, words[3], "upper bound", binary32.up)
     wear = whole(line, words[4], "class", 0, MOST_CLASS)
     if lower > upper:
         raise BadText(line, f"lower bound {quoted(words[2])} is above upper bound {quoted(words[3])}")
@@ -77,7 +82,7 @@ def read_sheet(data):
     """The sheet that the bytes of a text describe."""
     line, sizes, records, first_lines = 1, None, [], {}
     for line, text in lines_of(data):
-        words = WORD.findall(text.partition("#")[0])
+        words = words_of(text)
         if not words:
             continue
         if sizes is None:

@@ -4,6 +4,7 @@
 #include "cells.h"
 #include "draw.h"
 #include "numbers.h"
+#include "oracle.h"
 #include "records.h"
 
 uint32_t draw_fault_number(void)
@@ -89,4 +90,19 @@ void put_large(uint8_t *sheet)
     if (one_in(4))
         bound = draw_sign(MAX);
     put_number(record + (bound & SIGN ? 4 : 8), bound, 4);
+}
+
+/* One bound or both, MAX less the amount or a number next to it; the other one is zero.
+   Nothing where an amount that is not finite or below zero gives no such number. */
+void put_limit(uint8_t *sheet, const uint8_t *load)
+{
+    uint8_t *record = draw_record(sheet);
+    const uint8_t *amount = load + 4 * record[12];
+    uint32_t limit, pattern = index_in(amount) | index_in(amount + 2) << 16;
+    int which = from_to(0, 2), step = from_to(-1, 1);
+    if (oracle_operate(SUB, NEAR, MAX, pattern, &limit) != 0)
+        return;
+    if (step < 0 ? limit > 0 : limit < MAX)
+        limit += (uint32_t)step;
+    put_bounds(record, which == 0 ? 0 : SIGN | limit, which == 1 ? 0 : limit);
 }

@@ -15,4 +15,8 @@ void put_fault(uint8_t *sheet, uint32_t number);
    cell itself. */
 void put_large(uint8_t *sheet);
 
+/* Bounds in one cell that, widened by the amount of the cell's class in this load, are the
+   largest number or next to it, or just too large. */
+void put_limit(uint8_t *sheet, const uint8_t *load);
+
 #endif

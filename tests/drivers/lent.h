@@ -12,6 +12,7 @@
 #define GUARD 16        /* words or bytes of a guard, one on each side of a slice */
 #define CELLS 1056      /* 1,024, the most cells of a matrix, and a surplus */
 #define BYTES 18448     /* 16,400, the longest sheet, and a surplus */
+#define LOAD_BYTES 64   /* 32, a load of wear amounts, and a surplus */
 
 #define GUARDED(slice) (GUARD + (slice) + GUARD)
 

@@ -10,41 +10,57 @@ static struct sheet_memory library;
 void fill_sheet_call(struct sheet_call *call)
 {
     fill_bytes(call->memory.sheet, GUARDED(BYTES));
+    fill_bytes(call->memory.load, GUARDED(LOAD_BYTES));
     fill_words(call->memory.lowers, GUARDED(CELLS));
     fill_words(call->memory.uppers, GUARDED(CELLS));
 }
 
-static bool left_alike(const struct sheet_memory *expected)
+/* Compares the two answers, and the memory afterwards. */
+static bool alike(const struct sheet_memory *expected, uint32_t given, uint32_t answer)
 {
-    bool same = same_bytes("sheet", library.sheet, expected->sheet, GUARDED(BYTES));
+    bool same = same_number("answer", given, answer);
+    same = same_bytes("sheet", library.sheet, expected->sheet, GUARDED(BYTES)) && same;
+    same = same_bytes("amounts", library.load, expected->load, GUARDED(LOAD_BYTES)) && same;
     same = same_words("lowers", library.lowers, expected->lowers, GUARDED(CELLS)) && same;
     return same_words("uppers", library.uppers, expected->uppers, GUARDED(CELLS)) && same;
 }
 
+static uint32_t answer_of_read(struct refusal refusal, size_t rows, size_t columns)
+{
+    return refusal.number != 0 ? code_of(refusal) : (uint32_t)(100 * rows + columns);
+}
+
+/* Arguments: a slice of the memory with its length in the call. */
+#define SLICE(memory, name) memory.name + GUARD, call->name##_length
+#define SHEET_AND_BOUNDS(memory) SLICE(memory, sheet), SLICE(memory, lowers), SLICE(memory, uppers)
+#define BOUNDS_AND_SHEET(memory) SLICE(memory, lowers), SLICE(memory, uppers), SLICE(memory, sheet)
+
 bool read_alike(struct sheet_call *call, uint32_t *answer)
 {
-    struct sheet_memory *m = &call->memory;
     size_t rows = 0, columns = 0;
-    library = *m;
-    uint32_t given = coupling_read(library.sheet + GUARD, call->sheet_length, library.lowers + GUARD, call->lowers_length,
-                                   library.uppers + GUARD, call->uppers_length);
-    struct refusal refusal = oracle_read(m->sheet + GUARD, call->sheet_length, m->lowers + GUARD, call->lowers_length,
-                                         m->uppers + GUARD, call->uppers_length, &rows, &columns);
-    *answer = refusal.number != 0 ? code_of(refusal) : (uint32_t)(100 * rows + columns);
-    bool same = same_number("answer", given, *answer);
-    return left_alike(m) && same;
+    library = call->memory;
+    uint32_t given = coupling_read(SHEET_AND_BOUNDS(library));
+    struct refusal refusal = oracle_read(SHEET_AND_BOUNDS(call->memory), &rows, &columns);
+    *answer = answer_of_read(refusal, rows, columns);
+    return alike(&call->memory, given, *answer);
+}
+
+bool read_with_alike(struct sheet_call *call, uint32_t *answer)
+{
+    size_t rows = 0, columns = 0;
+    library = call->memory;
+    uint32_t given = coupling_read_with(SLICE(library, load), SHEET_AND_BOUNDS(library));
+    struct refusal refusal = oracle_read_with(SLICE(call->memory, load), SHEET_AND_BOUNDS(call->memory), &rows, &columns);
+    *answer = answer_of_read(refusal, rows, columns);
+    return alike(&call->memory, given, *answer);
 }
 
 bool write_alike(struct sheet_call *call, uint32_t *answer)
 {
-    struct sheet_memory *m = &call->memory;
     size_t written = 0;
-    library = *m;
-    uint32_t given = coupling_write(call->rows, call->columns, library.lowers + GUARD, call->lowers_length,
-                                    library.uppers + GUARD, call->uppers_length, library.sheet + GUARD, call->sheet_length);
-    struct refusal refusal = oracle_write(call->rows, call->columns, m->lowers + GUARD, call->lowers_length,
-                                          m->uppers + GUARD, call->uppers_length, m->sheet + GUARD, call->sheet_length, &written);
+    library = call->memory;
+    uint32_t given = coupling_write(call->rows, call->columns, BOUNDS_AND_SHEET(library));
+    struct refusal refusal = oracle_write(call->rows, call->columns, BOUNDS_AND_SHEET(call->memory), &written);
     *answer = refusal.number != 0 ? code_of(refusal) : (uint32_t)written;
-    bool same = same_number("answer", given, *answer);
-    return left_alike(m) && same;
+    return alike(&call->memory, given, *answer);
 }

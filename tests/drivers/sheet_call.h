@@ -4,15 +4,16 @@
 
 #include "lent.h"
 
-/* The memory lent to a call: a sheet, which is read or written, and the bounds. */
+/* The memory lent to a call: a sheet, which is read or written, the bounds, and a load,
+   the wear amounts of a mill. */
 struct sheet_memory {
-    uint8_t sheet[GUARDED(BYTES)];
+    uint8_t sheet[GUARDED(BYTES)], load[GUARDED(LOAD_BYTES)];
     uint32_t lowers[GUARDED(CELLS)], uppers[GUARDED(CELLS)];
 };
 
-/* rows and columns are used by a write only. */
+/* rows and columns are used by a write only, the load by a read with amounts only. */
 struct sheet_call {
-    size_t rows, columns, sheet_length, lowers_length, uppers_length;
+    size_t rows, columns, sheet_length, load_length, lowers_length, uppers_length;
     struct sheet_memory memory;
 };
 
@@ -23,6 +24,7 @@ void fill_sheet_call(struct sheet_call *call);
    whether answers and memory are equal. *answer and the memory in call are afterwards
    those of the independent implementation. */
 bool read_alike(struct sheet_call *call, uint32_t *answer);
+bool read_with_alike(struct sheet_call *call, uint32_t *answer);
 bool write_alike(struct sheet_call *call, uint32_t *answer);
 
 #endif

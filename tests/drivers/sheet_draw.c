@@ -60,11 +60,11 @@ size_t draw_valid_sheet(uint8_t *sheet, uint32_t rows, uint32_t columns, bool mo
     return RECORD_BYTES * records;
 }
 
-static size_t draw_any_valid_sheet(uint8_t *sheet)
+size_t draw_any_valid_sheet(uint8_t *sheet, bool moderate)
 {
     int most_rows = one_in(8) ? 32 : 5, most_columns = one_in(8) ? 32 : 5;
     uint32_t rows = 1 + below((uint32_t)most_rows), columns = 1 + below((uint32_t)most_columns);
-    return draw_valid_sheet(sheet, rows, columns, false);
+    return draw_valid_sheet(sheet, rows, columns, moderate);
 }
 
 static void exchange_bounds(uint8_t *record)
@@ -137,11 +137,11 @@ static size_t draw_bytes(uint8_t *sheet)
 size_t draw_sheet(uint8_t *sheet)
 {
     switch (from_to(0, 7)) {
-    case 0:  return draw_any_valid_sheet(sheet);
+    case 0:  return draw_any_valid_sheet(sheet, false);
     case 1:  return draw_chain(sheet);
     case 2:  return draw_bytes(sheet);
     case 3:  return damage(sheet, draw_chain(sheet));
-    case 4:  return damage(sheet, damage(sheet, draw_any_valid_sheet(sheet)));
-    default: return damage(sheet, draw_any_valid_sheet(sheet));
+    case 4:  return damage(sheet, damage(sheet, draw_any_valid_sheet(sheet, false)));
+    default: return damage(sheet, draw_any_valid_sheet(sheet, false));
     }
 }

@@ -15,6 +15,9 @@ void draw_bounds(bool moderate, uint32_t *lower, uint32_t *upper);
    records are in random order, and some are not in the chain. */
 size_t draw_valid_sheet(uint8_t *sheet, uint32_t rows, uint32_t columns, bool moderate);
 
+/* The same of any size, mostly up to 5 by 5. */
+size_t draw_any_valid_sheet(uint8_t *sheet, bool moderate);
+
 /* A sheet of any kind: valid, with damaged fields, with random next indices, or of
    random bytes. */
 size_t draw_sheet(uint8_t *sheet);

@@ -12,6 +12,7 @@
 
 static struct sheet_call call;
 static size_t out_length;
+static bool has_load;
 static uint64_t sheets;
 
 /* A bit for each byte of a record that starts a field, except byte 0. */
@@ -56,7 +57,7 @@ static void answer_sheet(void)
     uint32_t answer;
     if (sheets == 0)
         return;
-    bool same = read_alike(&call, &answer);
+    bool same = has_load ? read_with_alike(&call, &answer) : read_alike(&call, &answer);
     printf("read ");
     if (COUPLING_REFUSED(answer))
         print_refusal(answer);
@@ -73,14 +74,18 @@ static void wrong_form(const char *line)
     exit(2);
 }
 
-static void take_bytes(const char *line)
+/* Takes the bytes of a line in hexadecimal behind those that are there; at most as many as
+   there is room for. */
+static void take_bytes(const char *line, uint8_t *bytes, size_t *length, size_t room)
 {
     unsigned byte;
     int used;
+    if (line[strspn(line, "0123456789ABCDEF \n")] != 0)
+        wrong_form(line);
     for (const char *at = line; sscanf(at, " %2x%n", &byte, &used) == 1; at += used) {
-        if (call.sheet_length == BYTES)
+        if (*length == room)
             wrong_form(line);
-        call.memory.sheet[GUARD + call.sheet_length++] = (uint8_t)byte;
+        bytes[(*length)++] = (uint8_t)byte;
     }
 }
 
@@ -92,15 +97,17 @@ static bool take_line(const char *line)
         return false;
     if (strncmp(line, "sheet ", 6) == 0) {
         fill_sheet_call(&call);
-        call.sheet_length = 0;
+        call.sheet_length = call.load_length = 0;
+        has_load = false;
         sheets++;
     } else if (sscanf(line, "lent %zu %zu %zu", &call.lowers_length, &call.uppers_length, &out_length) == 3) {
         if (call.lowers_length > CELLS || call.uppers_length > CELLS || out_length > BYTES)
             wrong_form(line);
-    } else if (line[strspn(line, "0123456789ABCDEF \n")] == 0)
-        take_bytes(line);
-    else if (line[0] != '#')
-        wrong_form(line);
+    } else if (strncmp(line, "amounts", 7) == 0) {
+        has_load = true;
+        take_bytes(line + 7, call.memory.load + GUARD, &call.load_length, LOAD_BYTES);
+    } else if (line[0] != '#')
+        take_bytes(line, call.memory.sheet + GUARD, &call.sheet_length, BYTES);
     return true;
 }
 

@@ -4,6 +4,8 @@
      sheet NAME
      lent LOWERS UPPERS OUT    words of the slices that the sheet is read into, and bytes
                                of the buffer that the matrix is then written to
+     amounts BYTES             a load in hexadecimal, a space before each amount; without
+                               this line the sheet is read with the fixed amounts
      0300 02 03 0400 00000000000000000000        the sheet's bytes in hexadecimal,
      0200 01 00 00000080 00000080 00 000000      a record a line, a space before each field
      read ANSWER               2 by 3, or refused: NUMBER row ROW column COLUMN

@@ -33,9 +33,22 @@ int untouched(const uint32_t *words, size_t count);
 #define LENGTH 48
 void put_sheet(uint8_t *sheet);
 
+/* A load of the amounts by which sheets are widened where none are loaded. */
+void put_fixed_amounts(uint8_t *load);
+
+/* What is lent to a read of that sheet: 8 words for lower and for upper bounds,
+   between two guards on each side. lend() makes all of them guards. left(r), r being
+   what the read returned, is r, and checks that a refusal changed no word and a
+   success only the four of the matrix. */
+#define ROOM 12
+extern uint32_t lowers[ROOM], uppers[ROOM];
+void lend(void);
+uint32_t left(uint32_t r);
+
 void test_job(void);
 void test_train(void);
 void test_sheets(void);
+void test_amounts(void);
 void test_product(void);
 void test_operations(void);
 void test_conversions(void);

@@ -38,6 +38,29 @@ void put_sheet(uint8_t *sheet)
     put_cell(sheet + 32, 0, 1, 1, MINUS | ONE, ONE, 0);
 }
 
+void put_fixed_amounts(uint8_t *load)
+{
+    memset(load, 0, 4);
+    for (uint32_t c = 1; c < 8; c++)
+        put_number(load + 4 * c, (127 + c - 11) << 23, 4); /* 2^(c - 11) */
+}
+
+uint32_t lowers[ROOM], uppers[ROOM];
+
+void lend(void)
+{
+    memset(lowers, GUARD_BYTE, sizeof lowers);
+    memset(uppers, GUARD_BYTE, sizeof uppers);
+}
+
+uint32_t left(uint32_t r)
+{
+    size_t from = COUPLING_REFUSED(r) ? 2 : 6;
+    CHECK(untouched(lowers, 2) && untouched(lowers + from, ROOM - from));
+    CHECK(untouched(uppers, 2) && untouched(uppers + from, ROOM - from));
+    return r;
+}
+
 static void test_macros(void)
 {
     const uint32_t r = refusal(10, 2, 31, 7);
@@ -50,9 +73,10 @@ static void test_macros(void)
     CHECK(COUPLING_INFINITY == COUPLING_LARGEST + 1);
     CHECK(!COUPLING_OPERATION_REFUSED(COUPLING_LARGEST) && !COUPLING_OPERATION_REFUSED(MINUS | COUPLING_LARGEST));
     CHECK(COUPLING_OPERATION_REFUSED(COUPLING_INFINITY + 5) && COUPLING_OPERATION_NUMBER(COUPLING_INFINITY + 5) == 5);
-    for (uint32_t n = COUPLING_SIZE; n <= COUPLING_COUNT; n++)
+    for (uint32_t n = COUPLING_SIZE; n <= COUPLING_AMOUNTS; n++)
         CHECK(strcmp(coupling_sentence(n), coupling_sentence(0)) != 0);
-    CHECK(COUPLING_COUNT == 12 && strcmp(coupling_sentence(13), coupling_sentence(0)) == 0);
+    CHECK(COUPLING_AMOUNTS == 13 && strcmp(coupling_sentence(14), coupling_sentence(0)) == 0);
+    CHECK(COUPLING_LOAD_BYTES == 8 * sizeof(uint32_t));
 }
 
 int main(void)
@@ -61,10 +85,11 @@ int main(void)
     test_job();
     test_train();
     test_sheets();
+    test_amounts();
     test_product();
     test_operations();
     test_conversions();
     test_surroundings();
-    printf("19 functions: macros, each refusal, zero lengths, guards, two threads, floating-point environment\n");
+    printf("20 functions: macros, each refusal, zero lengths, guards, two threads, floating-point environment\n");
     return 0;
 }

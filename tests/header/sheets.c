@@ -6,22 +6,21 @@
 
 #include "../oracle/records.h"
 
-#define ROOM 12 /* 8 words, between two guards on each side */
-
 /* ---- the reader, on the sheet of 2 by 2 */
 
-static uint32_t lowers[ROOM], uppers[ROOM];
-
-/* A read into slices of these lengths: a refusal changes no word, and a success
-   only the four of the matrix. */
+/* A read into slices of these lengths. With the fixed amounts loaded it is the same. */
 static uint32_t read_guarded(const uint8_t *sheet, size_t length, size_t lowers_len, size_t uppers_len)
 {
-    memset(lowers, GUARD_BYTE, sizeof lowers);
-    memset(uppers, GUARD_BYTE, sizeof uppers);
-    uint32_t r = coupling_read(sheet, length, lowers + 2, lowers_len, uppers + 2, uppers_len);
-    size_t from = COUPLING_REFUSED(r) ? 2 : 6;
-    CHECK(untouched(lowers, 2) && untouched(lowers + from, ROOM - from));
-    CHECK(untouched(uppers, 2) && untouched(uppers + from, ROOM - from));
+    uint8_t load[COUPLING_LOAD_BYTES];
+    uint32_t below[ROOM], above[ROOM];
+    put_fixed_amounts(load);
+    lend();
+    uint32_t r = left(coupling_read_with(load, sizeof load, sheet, length, lowers + 2, lowers_len, uppers + 2, uppers_len));
+    memcpy(below, lowers, sizeof below);
+    memcpy(above, uppers, sizeof above);
+    lend();
+    CHECK(left(coupling_read(sheet, length, lowers + 2, lowers_len, uppers + 2, uppers_len)) == r);
+    CHECK(memcmp(lowers, below, sizeof below) == 0 && memcmp(uppers, above, sizeof above) == 0);
     return r;
 }
 

@@ -14,15 +14,16 @@
 
 static uint8_t full[COUPLING_SHEET_MAX], sheets[COUPLING_SHEETS_MAX][COUPLING_SHEET_MAX]; /* each of a train is the full one */
 static uint32_t low[CELLS], high[CELLS];                                                  /* what the full sheet is read as */
+static const uint8_t load[COUPLING_LOAD_BYTES] = {[29] = 1, [30] = 0x80, [31] = 0x3E};     /* class 7 alone widens, by 1/4 + 2^-17 */
 
 static const uint32_t methods[] = {1, 3, 4, 5, 7};
 enum { METHODS = COUNT(methods) };
 
 /* All that one round of calls returns and writes. */
 struct answers {
-    uint32_t read, write, multiply[METHODS], train[METHODS], product[METHODS], operations[12], to_midrad, to_bounds, words[4];
+    uint32_t read, read_with, write, multiply[METHODS], train[METHODS], product[METHODS], operations[12], to_midrad, to_bounds, words[4];
     uint8_t sheet[COUPLING_SHEET_MAX], out[METHODS][COUPLING_SHEET_MAX], last[METHODS][COUPLING_SHEET_MAX];
-    uint32_t lowers[CELLS], uppers[CELLS], lent[METHODS][6][CELLS];
+    uint32_t lowers[CELLS], uppers[CELLS], worn_lowers[CELLS], worn_uppers[CELLS], lent[METHODS][6][CELLS];
 };
 
 static void multiply_all(struct answers *x)
@@ -47,6 +48,7 @@ static void call_all(struct answers *x)
     };
     memcpy(x->operations, operations, sizeof operations);
     x->read = coupling_read(full, sizeof full, x->lowers, CELLS, x->uppers, CELLS);
+    x->read_with = coupling_read_with(load, sizeof load, full, sizeof full, x->worn_lowers, CELLS, x->worn_uppers, CELLS);
     x->write = coupling_write(SIZE, SIZE, low, CELLS, high, CELLS, x->sheet, sizeof x->sheet);
     x->to_midrad = coupling_to_midrad(b, a, &x->words[0], &x->words[1]);
     x->to_bounds = coupling_to_bounds(b, a, &x->words[2], &x->words[3]);
@@ -63,7 +65,8 @@ static void call_first(void)
         put_full(sheets[i]);
     CHECK(coupling_read(full, sizeof full, low, CELLS, high, CELLS) == 100 * SIZE + SIZE);
     call_all(&first);
-    CHECK(first.read == 100 * SIZE + SIZE && first.write == sizeof full && first.to_midrad == 0 && first.to_bounds == 0);
+    CHECK(first.read == 100 * SIZE + SIZE && first.read_with == first.read && first.write == sizeof full);
+    CHECK(first.to_midrad == 0 && first.to_bounds == 0);
     for (int i = 0; i < METHODS; i++)
         CHECK(first.multiply[i] == sizeof full && first.train[i] == sizeof full && first.product[i] == 0);
     for (int i = 0; i < 12; i++)

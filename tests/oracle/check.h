@@ -37,6 +37,8 @@ void check_product_refusals(void);
 void check_method_five(void);
 void check_reading(void);
 void check_read_refusals(void);
+void check_amounts(void);
+void check_reading_with(void);
 void check_writing(void);
 void check_job(void);
 void check_train(void);

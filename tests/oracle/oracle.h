@@ -14,7 +14,7 @@
 enum operation { ADD, SUB, MUL, MIDPOINT };
 enum direction { DOWN, UP, NEAR };
 
-/* number: 1 to 12, or 0 for an accepted call; then the other three are 0 too.
+/* number: 1 to 13, or 0 for an accepted call; then the other three are 0 too.
    matrix: 1 is A, 2 is B, 3 is the result, 0 is none of them; in a train it is the
    position of a sheet, 1 to 8, or 9 for a product or the writing. */
 struct refusal { uint32_t number, matrix, row, column; };
@@ -61,6 +61,19 @@ struct refusal oracle_read(const uint8_t *s, size_t len,
                            uint32_t *lo, size_t lo_len,
                            uint32_t *hi, size_t hi_len,
                            size_t *rows, size_t *columns);
+
+/* The same with a load, eight wear amounts of a mill, in place of the fixed ones. The load
+   is checked before the sheet; its refusals have matrix, row and column 0. */
+struct refusal oracle_read_with(const uint8_t *load, size_t load_len,
+                                const uint8_t *s, size_t len,
+                                uint32_t *lo, size_t lo_len,
+                                uint32_t *hi, size_t hi_len,
+                                size_t *rows, size_t *columns);
+
+/* The check of a load alone. Returns 0, or the refusal: 6 where it has not 32 bytes, 3
+   where a pattern has exponent field 255, 13 where the first amount is not zero or an
+   amount is below the one before it. */
+uint32_t oracle_check_amounts(const uint8_t *load, size_t load_len);
 
 /* Writes a coupling sheet to the front of out. *written is the length of
    that front part, 0 on a refusal, which leaves out untouched. */

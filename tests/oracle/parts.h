@@ -10,6 +10,7 @@
 #define MAX_SIZE 32
 #define MAX_CELLS 1024
 #define RECORD 16        /* bytes of a record of a sheet */
+#define CLASSES 8        /* wear classes, from 0 on */
 
 static const struct refusal ACCEPTED = {0, 0, 0, 0};
 
@@ -60,6 +61,12 @@ struct entry seven_products(const struct pair *pairs, size_t k);
 uint32_t add_product(bool *refused, enum direction direction, uint32_t sum, uint32_t a, uint32_t b);
 uint32_t part(uint32_t m, uint32_t r);
 uint32_t centre_with_parts(bool *refused, enum direction direction, const struct pair *pairs, size_t k);
+
+/* amounts.c: the amount of a wear class in a load that has 32 bytes */
+uint32_t amount_of(const uint8_t *load, size_t wear_class);
+
+/* sheet_read.c: a little-endian number of four bytes */
+uint32_t get_32(const uint8_t *bytes);
 
 /* sheet_read.c: the length of the first of the sheets that stand back to back in len bytes:
    16 for each of its records, or all bytes where they are fewer or end before the record

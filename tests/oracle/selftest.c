@@ -118,6 +118,8 @@ int main(void)
     check_method_five();
     check_reading();
     check_read_refusals();
+    check_amounts();
+    check_reading_with();
     check_writing();
     check_job();
     check_train();

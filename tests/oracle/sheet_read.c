@@ -6,8 +6,8 @@
 #define LEAST_LENGTH 16
 #define GREATEST_LENGTH 16400
 
-/* The patterns of the wear class amounts: 0 for class 0, 2^(c - 11) for class c. */
-static const uint32_t class_amounts[8] = {
+/* The patterns of the fixed wear amounts: 0 for class 0, 2^(c - 11) for class c. */
+static const uint32_t fixed_amounts[CLASSES] = {
     0x00000000, 0x3A800000, 0x3B000000, 0x3B800000,
     0x3C000000, 0x3C800000, 0x3D000000, 0x3D800000,
 };
@@ -17,7 +17,7 @@ static uint32_t get_16(const uint8_t *bytes)
     return (uint32_t)bytes[0] | (uint32_t)bytes[1] << 8;
 }
 
-static uint32_t get_32(const uint8_t *bytes)
+uint32_t get_32(const uint8_t *bytes)
 {
     return get_16(bytes) | get_16(bytes + 2) << 16;
 }
@@ -46,26 +46,27 @@ size_t length_of_first(const uint8_t *sheets, size_t len)
     return wanted < len ? wanted : len;
 }
 
-/* Checks one cell for refusals 6, 10, 3, 4, 5; when it passes, gives the widened bounds. */
-static uint32_t read_cell(const uint8_t *record, uint32_t *lo, uint32_t *hi)
+/* Checks one cell for refusals 6, 10, 3, 4, 5; when it passes, gives the bounds, widened by
+   the amount of its class. */
+static uint32_t read_cell(const uint32_t *amounts, const uint8_t *record, uint32_t *lo, uint32_t *hi)
 {
     uint32_t lower = get_32(record + 4), upper = get_32(record + 8);
     uint32_t wear_class = record[12];
     if (!all_zero(record + 13, 3))
         return 6;
-    if (wear_class > 7)
+    if (wear_class >= CLASSES)
         return 10;
     uint32_t number = check_bounds(lower, upper);
     if (number == 0)
-        number = oracle_operate(SUB, DOWN, lower, class_amounts[wear_class], lo);
+        number = oracle_operate(SUB, DOWN, lower, amounts[wear_class], lo);
     if (number == 0)
-        number = oracle_operate(ADD, UP, upper, class_amounts[wear_class], hi);
+        number = oracle_operate(ADD, UP, upper, amounts[wear_class], hi);
     return number;
 }
 
 /* Follows the chain and puts its cells into the matrix, whose sizes are set and whose
    cells are all [0, 0]. An index is checked before its record is read. */
-static struct refusal read_chain(const uint8_t *s, struct matrix *cells)
+static struct refusal read_chain(const uint32_t *amounts, const uint8_t *s, struct matrix *cells)
 {
     uint32_t records = get_16(s + 4);
     bool first = true;
@@ -80,7 +81,7 @@ static struct refusal read_chain(const uint8_t *s, struct matrix *cells)
         size_t place = row * cells->columns + column;
         if (!first && place <= last_place)
             return refuse(8, 0, 0, 0);
-        uint32_t number = read_cell(record, &cells->lo[place], &cells->hi[place]);
+        uint32_t number = read_cell(amounts, record, &cells->lo[place], &cells->hi[place]);
         if (number == 6)
             return refuse(6, 0, 0, 0);
         if (number != 0)
@@ -92,10 +93,9 @@ static struct refusal read_chain(const uint8_t *s, struct matrix *cells)
     return ACCEPTED;
 }
 
-struct refusal oracle_read(const uint8_t *s, size_t len,
-                           uint32_t *lo, size_t lo_len,
-                           uint32_t *hi, size_t hi_len,
-                           size_t *rows, size_t *columns)
+static struct refusal read_by(const uint32_t *amounts, const uint8_t *s, size_t len,
+                              uint32_t *lo, size_t lo_len, uint32_t *hi, size_t hi_len,
+                              size_t *rows, size_t *columns)
 {
     if (!frame_is_good(s, len))
         return refuse(6, 0, 0, 0);
@@ -105,7 +105,7 @@ struct refusal oracle_read(const uint8_t *s, size_t len,
     size_t count = cells.rows * cells.columns;
     if (lo_len < count || hi_len < count)
         return refuse(2, 0, 0, 0);
-    struct refusal refusal = read_chain(s, &cells);
+    struct refusal refusal = read_chain(amounts, s, &cells);
     if (refusal.number != 0)
         return refusal;
     memcpy(lo, cells.lo, count * sizeof *lo);
@@ -113,4 +113,26 @@ struct refusal oracle_read(const uint8_t *s, size_t len,
     *rows = cells.rows;
     *columns = cells.columns;
     return ACCEPTED;
+}
+
+struct refusal oracle_read(const uint8_t *s, size_t len,
+                           uint32_t *lo, size_t lo_len,
+                           uint32_t *hi, size_t hi_len,
+                           size_t *rows, size_t *columns)
+{
+    return read_by(fixed_amounts, s, len, lo, lo_len, hi, hi_len, rows, columns);
+}
+
+struct refusal oracle_read_with(const uint8_t *load, size_t load_len,
+                                const uint8_t *s, size_t len,
+                                uint32_t *lo, size_t lo_len,
+                                uint32_t *hi, size_t hi_len,
+                                size_t *rows, size_t *columns)
+{
+    uint32_t number = oracle_check_amounts(load, load_len), amounts[CLASSES];
+    if (number != 0)
+        return refuse(number, 0, 0, 0);
+    for (size_t c = 0; c < CLASSES; c++)
+        amounts[c] = amount_of(load, c);
+    return read_by(amounts, s, len, lo, lo_len, hi, hi_len, rows, columns);
 }

@@ -1,4 +1,4 @@
-//! Tests of the Rust wrapper beside the sheet job, the train and the conversions, not proved: sheets, product, operations, each refusal.
+//! Tests of the Rust wrapper beside job, train, loaded amounts and conversions, not proved: sheets, product, operations, each refusal.
 use coupling::*;
 
 const HALF: u32 = 0x3F00_0000;

@@ -70,6 +70,38 @@ LENT = [
     ("1,024 cells, an out buffer a byte too short", FULL, 1024, 1024, 16399),
 ]
 
+TENTH, LARGE = 0x3DCCCCCD, 0x7F000000  # the number nearest to 0.1, and 2^127
+FIXED = [0] + [(117 + c) << 23 for c in range(7)]
+OWN = [0, TENTH, ONE, ONE, TWO, TWO + 1, LARGE, MAX]
+
+
+def load(changes=(), amounts=OWN):
+    """The bytes of a load: these amounts, those of the classes in changes replaced."""
+    return b"".join(number(dict(changes).get(c, amount), 4) for c, amount in enumerate(amounts))
+
+
+# load, sheet: read with the amounts of the load
+WITH = [
+    ("amounts, the fixed ones", load(amounts=FIXED), GOOD), ("amounts, the sums rounded outward", load(), last(wear=1)),
+    ("amounts, the sums rounded outward, negative", load(), last(lower=TWO | NEGATIVE, upper=ONE | NEGATIVE, wear=1)),
+    ("amounts, all zero", bytes(32), last(wear=7)), ("amounts, all minus zero", load(amounts=[NEGATIVE] * 8), last(wear=7)),
+    ("amounts, minus zero behind zero", load({1: NEGATIVE}), last(wear=1)), ("amounts, equal ones", load(), last(wear=3)),
+] + [("amounts of %d bytes" % length, (load() * 2)[:length], GOOD) for length in (0, 31, 33, 64)] + [
+    ("amounts, 6 before 3", load({0: NAN}) + b"\0", GOOD), ("amounts, the first infinite", load({0: INFINITY}), GOOD),
+    ("amounts, the fourth no number", load({3: NAN}), GOOD), ("amounts, the last infinite, negative", load({7: INFINITY | NEGATIVE}), GOOD),
+    ("amounts, 3 before 13", load({0: ONE, 7: NAN}), GOOD), ("amounts, the first one unit", load({0: 1}), GOOD),
+    ("amounts, the first below zero", load({0: 1 | NEGATIVE}), GOOD), ("amounts, the second below zero", load({1: 1 | NEGATIVE}), GOOD),
+    ("amounts, the fourth below the third", load({3: ONE - 1}), GOOD), ("amounts, the last below the seventh", load({7: LARGE - 1}), GOOD),
+    ("amounts, minus zero behind a tenth", load({2: NEGATIVE}), GOOD), ("amounts, 6 before the sheet", load()[:-1], b""),
+    ("amounts, 3 before the sheet", load({6: NAN}), GOOD[:-1]), ("amounts, 13 before the sheet", load({0: ONE}), GOOD[:-1]),
+    ("amounts, then the sheet", load(), GOOD[:-1]), ("amounts, class 8", load(), last(wear=8)), ("amounts, 4 before 5", load(), last(lower=MAX, wear=7)),
+    ("amounts, MAX for zeros", load(), last(lower=0, upper=NEGATIVE, wear=7)), ("amounts, MAX for a unit", load(), last(lower=0, upper=1, wear=7)),
+    ("amounts, MAX for a unit, negative", load(), last(lower=1 | NEGATIVE, upper=0, wear=7)),
+    ("amounts, widened to MAX", load(), last(lower=(LARGE - 2) | NEGATIVE, upper=LARGE - 2, wear=6)),
+    ("amounts, widened past MAX", load(), last(lower=0, upper=LARGE - 1, wear=6)),
+    ("amounts, widened past MAX, negative", load(), last(lower=(LARGE - 1) | NEGATIVE, upper=0, wear=6)),
+]
+
 HEAD_FIELDS, CELL_FIELDS = (2, 3, 4, 6), (2, 3, 4, 8, 12, 13)
 
 
@@ -77,10 +109,19 @@ def text_of(record, starts):
     return "".join((" " if at in starts else "") + "%02X" % byte for at, byte in enumerate(record))
 
 
+def stored():
+    """Each sheet with its name, the load or None, and the words and bytes lent."""
+    yield from ((name, None, sheet, 1026, 1026, 16416) for name, sheet in CASES)
+    yield from ((name, None, sheet, lowers, uppers, room) for name, sheet, lowers, uppers, room in LENT)
+    yield from ((name, amounts, sheet, 1026, 1026, 16416) for name, amounts, sheet in WITH)
+
+
 def main():
     print("# Stored sheets, good and damaged, with what reading each answers, and writing what was read. 'make -C tests store' writes this file.")
-    for name, sheet, lowers, uppers, room in [(n, s, 1026, 1026, 16416) for n, s in CASES] + LENT:
+    for name, amounts, sheet, lowers, uppers, room in stored():
         print(f"sheet {name}\nlent {lowers} {uppers} {room}")
+        if amounts is not None:
+            print("amounts" + text_of(amounts, range(0, len(amounts), 4)))
         for at in range(0, len(sheet), 16):
             print(text_of(sheet[at:at + 16], CELL_FIELDS if at else HEAD_FIELDS))
 

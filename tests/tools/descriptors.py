@@ -4,16 +4,17 @@ import signal
 import subprocess
 import tempfile
 
-from support import TOOL, check_all, ok, ran
+from support import TOOL, check_all, in_file, ok, ran
 from sheet_bytes import SENTENCES
 
-USAGE = "usage: tools/sheet pack TEXT, or show SHEET, or show --hex SHEET, or table, or --help"
+USAGE = "usage: tools/sheet pack TEXT, or show SHEET, or show --hex SHEET, or amounts TEXT, or show --amounts LOAD, or table, or --help"
 BAD = "Bad file descriptor"
 FULL = "standard output: No space left on device"
 CLOSED = f"standard output: {BAD}"
 LONG = "the text has more than 16777216 bytes"
 
-# Name, command of the shell, status and line on standard error. 'text', 'packed' and 'product' are right files; 'closed' is one without permissions.
+# Name, command of the shell, status and line on standard error. 'text', 'packed', 'product', 'worn' and 'load' are right files; 'closed' is one
+# without permissions.
 CASES = [
     ("no arguments", "sheet", 2, USAGE),
     ("unknown command", "sheet pick text", 2, USAGE),
@@ -22,10 +23,15 @@ CASES = [
     ("show without a file", "sheet show", 2, USAGE),
     ("show with two files", "sheet show packed packed", 2, USAGE),
     ("show with three words", "sheet show --hex packed packed", 2, USAGE),
+    ("amounts without a file", "sheet amounts", 2, USAGE),
+    ("amounts with two files", "sheet amounts worn worn", 2, USAGE),
+    ("show --amounts with two files", "sheet show --amounts load load", 2, USAGE),
     ("table with a file", "sheet table product", 2, USAGE),
     ("--help with a word", "sheet --help pack", 2, USAGE),
     ("pack, no such file", "sheet pack none", 2, "none: No such file or directory"),
     ("show, no such file", "sheet show none", 2, "none: No such file or directory"),
+    ("amounts, no such file", "sheet amounts none", 2, "none: No such file or directory"),
+    ("show --amounts, no such file", "sheet show --amounts none", 2, "none: No such file or directory"),
     ("pack, directory", "sheet pack .", 2, ".: Is a directory"),
     ("show, directory", "sheet show .", 2, ".: Is a directory"),
     ("table, directory", "sheet table <.", 2, "standard input: Is a directory"),
@@ -41,6 +47,8 @@ CASES = [
     ("show, no permission", "sheet show closed", 2, "closed: Permission denied"),
     ("pack, endless file", "sheet pack /dev/zero", 2, f"/dev/zero: {LONG}"),
     ("show, endless file", "sheet show /dev/zero", 1, f"/dev/zero: refusal 6: {SENTENCES[6]} (the length is above 16400 bytes)"),
+    ("amounts, endless file", "sheet amounts /dev/zero", 2, f"/dev/zero: {LONG}"),
+    ("show --amounts, endless file", "sheet show --amounts /dev/zero", 1, f"/dev/zero: refusal 6: {SENTENCES[6]} (the length is above 32 bytes)"),
     ("table, endless input", "sheet table </dev/zero", 2, f"standard input: {LONG}"),
     ("table, no input", "sheet table <&-", 2, f"standard input: {BAD}"),
     ("table, input for writing alone", "sheet table 0>>text", 2, f"standard input: {BAD}"),
@@ -50,6 +58,8 @@ CASES = [
     ("--help, output closed", "sheet --help >&-", 1, CLOSED),
     ("pack, disk full", "sheet pack text >/dev/full", 1, FULL),
     ("show, disk full", "sheet show packed >/dev/full", 1, FULL),
+    ("amounts, disk full", "sheet amounts worn >/dev/full", 1, FULL),
+    ("show --amounts, disk full", "sheet show --amounts load >/dev/full", 1, FULL),
     ("table, disk full", "sheet table <product >/dev/full", 1, FULL),
     ("--help, disk full", "sheet --help >/dev/full", 1, FULL),
     ("show, output for reading alone", "sheet show packed 1<text", 1, CLOSED),
@@ -66,16 +76,16 @@ CASES = [
 ]
 
 # Name and words of the tool; its standard input is 'product', its standard output a pipe that nobody reads.
-UNREAD = [("pack", "pack", "text"), ("show", "show", "packed"), ("show --hex", "show", "--hex", "packed"), ("table", "table"), ("--help", "--help")]
+UNREAD = [("pack", "pack", "text"), ("show", "show", "packed"), ("show --hex", "show", "--hex", "packed"), ("amounts", "amounts", "worn"),
+          ("show --amounts", "show", "--amounts", "load"), ("table", "table"), ("--help", "--help")]
 
 
 def make_files():
-    with open("text", "w", encoding="utf-8") as file:
-        file.write("sheet 1 1\n0 0 1 2 0\n")
-    with open("product", "w", encoding="utf-8") as file:
-        file.write("product 1 1 1\n0 0 3F800000 40000000\n")
-    with open("packed", "wb") as file:
-        file.write(ran([TOOL, "pack", "text"])[1])
+    in_file("", "text", "sheet 1 1\n0 0 1 2 0\n")
+    in_file("", "product", "product 1 1 1\n0 0 3F800000 40000000\n")
+    in_file("", "worn", "0 1 2 3 4 5 6 7\n")
+    in_file("", "packed", ran([TOOL, "pack", "text"])[1])
+    in_file("", "load", ran([TOOL, "amounts", "worn"])[1])
     os.close(os.open("closed", os.O_CREAT, 0))
 
 

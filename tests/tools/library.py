@@ -1,16 +1,17 @@
-"""For the tests of tools/sheet, not proved: the sheet job and the train as a shared library. Imported after support, which has the tool's modules
-found."""
+"""For the tests of tools/sheet, not proved: the sheet job, the train and a read with loaded amounts as a shared library. Imported after support,
+which has the tool's modules found."""
 import ctypes
 import os
 
-from sheet_bytes import MOST_BYTES
+from sheet_bytes import MOST_BYTES, MOST_CELLS, Sheet, encode
 
 
 class Library:
     def __init__(self, path):
         library = ctypes.CDLL(os.path.abspath(path))
         self.multiply, self.multiply_train = library.coupling_multiply, library.coupling_train
-        self.multiply.restype = self.multiply_train.restype = ctypes.c_uint32
+        self.read_loaded = library.coupling_read_with
+        self.multiply.restype = self.multiply_train.restype = self.read_loaded.restype = ctypes.c_uint32
 
     def job(self, method, a, b):
         """What the job returns, and the product's sheet."""
@@ -32,3 +33,17 @@ class Library:
         """1,000,000 number + 100 row + column if the library refuses to read a sheet, else 0. The other sheet is empty, which is refused next."""
         returned, _ = self.job(1, data, b"")
         return 0 if returned == 6020000 else returned - 10000
+
+    def read_with(self, load, sheet):
+        """What a read of a sheet with a load returns, and if it is not refused lower and upper bound of each cell, by rows."""
+        lowers, uppers = (ctypes.c_uint32 * MOST_CELLS)(), (ctypes.c_uint32 * MOST_CELLS)()
+        most = ctypes.c_size_t(MOST_CELLS)
+        returned = self.read_loaded(load, ctypes.c_size_t(len(load)), sheet, ctypes.c_size_t(len(sheet)), lowers, most, uppers, most)
+        cells = 0 if returned >= 1000000 else returned // 100 * (returned % 100)
+        return returned, list(zip(lowers[:cells], uppers[:cells]))
+
+    def load_number(self, load):
+        """The number of the refusal of a load, or 0. The sheet has one cell, [0, 0], so nothing else is refused."""
+        returned, _ = self.read_with(load, encode(Sheet(1, 1, [])))
+        assert returned == 101 or returned % 1000000 == 0, returned
+        return returned // 1000000

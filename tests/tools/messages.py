@@ -3,7 +3,7 @@ import os
 import re
 import tempfile
 
-from support import ROOT, check_all, ok, tool
+from support import ROOT, check_all, in_file, ok, tool
 from sheet_bytes import MOST_BYTES, SENTENCES
 
 HEAD = "sheet 2 2\n"
@@ -79,13 +79,6 @@ BAD_SHEETS = [
 ]
 
 
-def in_file(folder, name, data):
-    path = os.path.join(folder, name.replace(" ", "_"))
-    with open(path, "wb") as file:
-        file.write(data.encode() if isinstance(data, str) else data)
-    return path
-
-
 def test_bad(folder):
     def pack(name, text, line, sentence):
         path = in_file(folder, name, text)
@@ -108,7 +101,7 @@ def test_good(folder):
 
 
 def test_sentences():
-    """Each place has the same twelve sentences."""
+    """Each place has the same thirteen sentences."""
     forms = {
         "include/coupling_sentences.h": r'case (\d+): return "(.*)";',
         "bindings/rust/src/refusal.rs": r'(\d+) => "(.*)",',

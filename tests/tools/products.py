@@ -7,10 +7,10 @@ import struct
 import sys
 
 from support import ROOT, check_all, ok, tool
+from draws import parsed
 from product_cases import A, B, BAD, C, D, HEAD, ONE
 from product_text import Product, read_product
 from sheet_bytes import SENTENCES
-from text_lines import BadText
 
 TABLE = """method 1, 2 by 2
 row 0, column 0: [1.90064454, 2.10061431]
@@ -80,13 +80,7 @@ def check_bounds(told):
 
 
 def is_refused(data):
-    """Whether a text is refused, with one of its lines or the one that would follow."""
-    try:
-        read_product(data)
-    except BadText as bad:
-        assert 1 <= bad.line <= data.count(b"\n") + 1, (data, bad)
-        return True
-    return False
+    return parsed(read_product, data) is None
 
 
 def test_printed():

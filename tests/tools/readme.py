@@ -1,5 +1,6 @@
 """Test of README.md, not proved: readme.py PROGRAM, where PROGRAM is the independent implementation of the program that prints a product.
-The lines of C and the outputs that it shows are those of the examples, of a sample sheet and of the product of two."""
+The lines of C and the outputs that it shows are those of the examples, of a sample sheet, of the sample of wear amounts and of the product of two
+sheets."""
 import os
 import re
 import subprocess
@@ -7,10 +8,10 @@ import sys
 import tempfile
 from textwrap import indent
 
-from support import ROOT, ok, tool
+from support import ROOT, TOOL, in_file, ok, ran, tool
 
 # In the order in which README.md shows them.
-EXAMPLES = ("controller", "train")
+EXAMPLES = ("controller", "amounts", "train")
 
 
 def text_of(*names):
@@ -29,6 +30,17 @@ def shown(data):
         return tool("show", file.name)[1].decode()
 
 
+def loads_shown():
+    """The load of the sample, and one whose last amount is zero, which is refused."""
+    load = tool("amounts", os.path.join(ROOT, "samples", "amounts.txt"))[1]
+    with tempfile.TemporaryDirectory() as folder:
+        in_file(folder, "mill.load", load)
+        in_file(folder, "falling.load", load[:-4] + bytes(4))
+        _, text, _ = ran([TOOL, "show", "--amounts", "mill.load"], cwd=folder)
+        _, _, refusal = ran([TOOL, "show", "--amounts", "falling.load"], cwd=folder)
+    return text.decode() + "$ tools/sheet show --amounts falling.load\n" + refusal
+
+
 def printed(program):
     given = b"1" + packed("motor_to_lever.txt") + packed("lever_to_bar.txt")
     product = subprocess.run([program], input=given, capture_output=True, check=True).stdout
@@ -42,7 +54,7 @@ def main(program):
     for code, example in zip(codes, EXAMPLES):
         assert indent(code, "    ") in text_of("examples", f"{example}.c"), code
     outputs = [text_of("tests", "header", f"{example}.expected") for example in EXAMPLES]
-    for output in (*outputs, shown(packed("lever_to_bar.txt")), printed(program)):
+    for output in (*outputs, shown(packed("lever_to_bar.txt")), loads_shown(), printed(program)):
         assert indent(output, "    ") in readme, output
     ok("README.md", "its C and its outputs are as they are printed")
 

@@ -3,10 +3,11 @@ import random
 import resource
 import sys
 import tempfile
-from decimal import Context, Decimal
+from decimal import Decimal
 from fractions import Fraction
 
 from support import EDGES, check_all, ok, tool
+from draws import random_decimal, random_neighbour
 import binary32
 
 MILLION = 10**6
@@ -37,21 +38,6 @@ LONG_CELLS = [
     ("exponent of a million digits", f"1e{NINES}", "0", f"lower bound '1e{'9' * 38}...' has more than 8 digits in its exponent"),
     ("no decimal", f"{NINES}x", "0", f"lower bound '{'9' * 40}...' is neither a decimal nor 0x with eight hexadecimal digits"),
 ]
-
-
-def random_decimal(draw):
-    digits = "".join(draw.choice("0123456789") for _ in range(draw.randint(1, 40)))
-    point = draw.randint(0, len(digits))
-    word = draw.choice(["", "-"]) + draw.choice([digits, digits[:point] + "." + digits[point:]])
-    return word + draw.choice(["", f"e{draw.randint(-60, 30 - point)}", f"e-{draw.randint(40, 400)}"])
-
-
-def random_neighbour(draw):
-    """A decimal very close to a binary32 number, of up to 2,000 digits, or the number itself."""
-    pattern = draw.choice([draw.choice(EDGES), draw.getrandbits(31)])
-    near = binary32.decimal(pattern if binary32.is_finite(pattern) else binary32.MAX)
-    step = Decimal(draw.choice([-9, -5, -1, 0, 1, 4, 5, 6])).scaleb(-draw.choice([draw.randint(140, 160), draw.randint(45, 2000)]))
-    return str(Context(prec=2100).add(near, step).copy_sign(draw.choice([1, -1])))
 
 
 def next_up(pattern):

@@ -4,19 +4,12 @@ import random
 import sys
 import tempfile
 
-from support import EDGES, ok, tool
+from support import ok, tool
+from draws import check_damaged_texts, random_pattern
 from library import Library
 import binary32
 from sheet_bytes import Cell, Refused, Sheet, decode, encode
 from sheet_text import read_sheet, text_of
-from text_lines import BadText
-
-
-def random_pattern(draw):
-    while True:
-        pattern = draw.choice([draw.choice(EDGES) | draw.getrandbits(1) << 31, draw.getrandbits(32), 0x3F000000 + draw.getrandbits(25)])
-        if binary32.is_finite(pattern):
-            return pattern
 
 
 def random_sheet(draw):
@@ -82,41 +75,13 @@ def test_damage(library, draw, count):
     ok("tools/sheet, damaged sheets", f"{count}, refused as by the library, each number met")
 
 
-def damage_text(draw, data):
-    """Changes, takes out or puts in some bytes, exchanges two words or cuts the end off."""
-    for _ in range(draw.randint(1, 3)):
-        at, cut = draw.randrange(len(data) + 1), draw.randint(0, 2)
-        data = data[:at] + bytes(draw.choices(b"0123456789ABCDEFx.eE+-# \t\n\r\0\xff", k=draw.randint(0, 2))) + data[at + cut:]
-    if draw.random() < 0.2:
-        words = data.split(b" ")
-        i, j = draw.randrange(len(words)), draw.randrange(len(words))
-        words[i], words[j] = words[j], words[i]
-        data = b" ".join(words)
-    return data[:draw.randint(0, len(data))] if draw.random() < 0.1 else data
-
-
-def test_damaged_texts(library, draw, count):
-    """A damaged text is refused with a line, or packed as a sheet that the library accepts."""
-    packed = 0
-    for _ in range(count):
-        data = damage_text(draw, text_of(random_sheet(draw), draw.random() < 0.5).encode())
-        try:
-            sheet = encode(read_sheet(data))
-        except BadText as bad:
-            assert 1 <= bad.line <= data.count(b"\n") + 1, (data, bad)
-            continue
-        packed += 1
-        assert library.read_code(sheet) == 0, data
-    assert count / 20 < packed < count * 19 / 20, packed
-    ok("tools/sheet, damaged texts", f"{count}: {count - packed} refused with a line, {packed} packed and accepted by the library")
-
-
 def main(library, seed):
     draw = random.Random(seed)
     test_round_trips(library, draw, 300)
     test_commands(draw)
     test_damage(library, draw, 20000)
-    test_damaged_texts(library, draw, 5000)
+    texts = (text_of(random_sheet(draw), draw.random() < 0.5) for _ in range(5000))
+    check_damaged_texts("tools/sheet, damaged texts", draw, texts, read_sheet, lambda sheet: library.read_code(encode(sheet)) == 0)
 
 
 main(Library(sys.argv[1]), int(sys.argv[2]))

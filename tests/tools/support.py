@@ -1,4 +1,4 @@
-"""For the tests of tools/sheet, not proved: the tool as a command, tables of cases, and the tool's modules to import."""
+"""For the tests of tools/sheet, not proved: the tool as a command, files, tables of cases, and the tool's modules to import."""
 import os
 import subprocess
 import sys
@@ -28,6 +28,14 @@ def ran(words, **how):
 
 def tool(*words, given=b""):
     return ran([TOOL, *words], input=given)
+
+
+def in_file(folder, name, data):
+    """The path of a new file with this text or these bytes."""
+    path = os.path.join(folder, name.replace(" ", "_"))
+    with open(path, "wb") as file:
+        file.write(data.encode() if isinstance(data, str) else data)
+    return path
 
 
 def check_all(cases, run):

@@ -10,6 +10,11 @@ extern "C" {
         lowers: *mut u32, lowers_len: usize, uppers: *mut u32, uppers_len: usize,
     ) -> u32;
 
+    pub fn coupling_read_with(
+        amounts: *const u8, amounts_len: usize, sheet: *const u8, sheet_len: usize,
+        lowers: *mut u32, lowers_len: usize, uppers: *mut u32, uppers_len: usize,
+    ) -> u32;
+
     pub fn coupling_write(
         rows: usize, columns: usize,
         lowers: *const u32, lowers_len: usize, uppers: *const u32, uppers_len: usize,

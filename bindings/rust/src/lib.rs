@@ -14,7 +14,7 @@ mod operations;
 mod refusal;
 
 pub use intervals::{to_bounds, to_midrad};
-pub use matrices::{multiply, product, read, train, write, Matrix, Method, Work};
+pub use matrices::{multiply, product, read, read_with, train, write, Matrix, Method, Work};
 pub use operations::{add_down, add_near, add_up, midpoint_down, midpoint_near, midpoint_up};
 pub use operations::{mul_down, mul_near, mul_up, sub_down, sub_near, sub_up};
 pub use refusal::Refusal;
@@ -30,6 +30,9 @@ pub const SHEET_MAX: usize = 16_400;
 
 /// Sheets of the longest train.
 pub const SHEETS_MAX: u32 = 8;
+
+/// Bytes of a load of eight wear amounts, for [`read_with`].
+pub const LOAD_BYTES: usize = 32;
 
 /// The pattern of the largest number.
 pub const LARGEST: u32 = 0x7F7F_FFFF;

@@ -1,5 +1,5 @@
 //! The sheet job, the train, reader and writer of sheets, and the product of two matrices.
-use crate::calls::{coupling_multiply, coupling_product, coupling_read, coupling_train, coupling_write};
+use crate::calls::{coupling_multiply, coupling_product, coupling_read, coupling_read_with, coupling_train, coupling_write};
 use crate::Refusal;
 
 /// How to multiply.
@@ -43,7 +43,7 @@ pub struct Work<'a> {
     pub b_rads: &'a mut [u32],
 }
 
-// SAFETY, of all five calls: slices are never null and valid for their lengths, those for writing are borrowed alone, and no
+// SAFETY, of all six calls: slices are never null and valid for their lengths, those for writing are borrowed alone, and no
 // pointer is kept.
 
 /// Multiplies sheet `a` by sheet `b` and writes the product's sheet to the front of `out`: the length written, or the first
@@ -61,12 +61,26 @@ pub fn train(method: Method, count: u32, sheets: &[u8], out: &mut [u8]) -> Resul
     Refusal::unless(code).map(|length| length as usize)
 }
 
+/// Rows and columns from what a read returned to C, or the refusal.
+fn sizes(code: u32) -> Result<(usize, usize), Refusal> {
+    Refusal::unless(code).map(|sizes| (sizes as usize / 100, sizes as usize % 100))
+}
+
 /// Reads a sheet's matrix, each cell widened by its wear class, into the front of `lowers` and `uppers`: rows and columns, or the
 /// first refusal.
 pub fn read(sheet: &[u8], lowers: &mut [u32], uppers: &mut [u32]) -> Result<(usize, usize), Refusal> {
     let (l, u) = (lowers.len(), uppers.len());
-    let code = unsafe { coupling_read(sheet.as_ptr(), sheet.len(), lowers.as_mut_ptr(), l, uppers.as_mut_ptr(), u) };
-    Refusal::unless(code).map(|sizes| (sizes as usize / 100, sizes as usize % 100))
+    sizes(unsafe { coupling_read(sheet.as_ptr(), sheet.len(), lowers.as_mut_ptr(), l, uppers.as_mut_ptr(), u) })
+}
+
+/// Reads a sheet as [`read`] does, with eight wear amounts of the caller's own: class c widens its cell by the number whose pattern
+/// is in bytes 4c to 4c + 3 of `amounts`, little-endian. Before the sheet is looked at, the load is refused with 6 where it has not
+/// [`LOAD_BYTES`](crate::LOAD_BYTES) bytes, 3 where an amount has exponent field 255, and 13 where the first is not zero or one is
+/// below the one before it; minus zero counts as zero, and equal amounts pass.
+pub fn read_with(amounts: &[u8], sheet: &[u8], lowers: &mut [u32], uppers: &mut [u32]) -> Result<(usize, usize), Refusal> {
+    let (l, u) = (lowers.len(), uppers.len());
+    let (load, n) = (amounts.as_ptr(), amounts.len());
+    sizes(unsafe { coupling_read_with(load, n, sheet.as_ptr(), sheet.len(), lowers.as_mut_ptr(), l, uppers.as_mut_ptr(), u) })
 }
 
 /// Writes a matrix's sheet to the front of `out`, class 0 in each cell: the length written, or the first refusal.

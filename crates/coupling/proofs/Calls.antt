@@ -7,21 +7,22 @@ use Rattle.refusals.specs.Refusal.{codeOf}
 use Rattle.refusals.specs.Answer.{Answer, gives, refuses, coded}
 use Rattle.refusals.proofs.SizeLaws.{Fitting}
 use Rattle.intervals.specs.Conversion.{OptimalFor}
-use Rattle.sheets.specs.declared.chain.Cell.{Cell}
-use Rattle.sheets.specs.Reading.{readOf, sliceAfter}
+use Rattle.sheets.specs.declared.Shape.{Shape}
+use Rattle.sheets.specs.declared.Shape.the-variants as S
+use Rattle.sheets.specs.Reading.{shape}
 use Rattle.sheets.specs.declared.Written.{Written}
 use Rattle.sheets.specs.declared.Written.the-variants as W
 use Rattle.sheets.specs.Writing.{written}
-use Rattle.sheets.proofs.Answers.{done-tells}
 use Rattle.matrices.specs.Checks.{Given}
 use Rattle.matrices.specs.Product.{Left}
 use Rattle.matrices.specs.Demand.{Keeps}
-use Rattle.coupling.specs.Cells.{Short, Answered}
+use Rattle.coupling.specs.Cells.{sizesCode, Small, Short, Answered}
 use Rattle.coupling.specs.Conversions.{firstAfter, secondAfter, OptimalWords}
 
--- what is left, by an answer o that is x
-pub slice-is : (b : Cell → ℕ) (s d d′ : List ℕ) (o x : Answer (ℕ × ℕ)) → o ≡ x → d′ ≡ sliceAfter b s o d → d′ ≡ sliceAfter b s x d
-slice-is b s d d′ o x e f = f ∙ ap (λ y. sliceAfter b s y d) e
+-- a read leaves `lowers` and `uppers` by its answer; the code's answer is v, and r the number for it
+pub read-is : (lowers uppers : Answer (ℕ × ℕ) → List ℕ → List ℕ) (l u : List ℕ) {r : ℕ} {v o : Answer (ℕ × ℕ)} {l′ u′ : List ℕ} → r ≡ coded sizesCode v
+    → (v ≡ o) × ((l′ ≡ lowers v l) × (u′ ≡ uppers v u)) → (r ≡ coded sizesCode o) × ((l′ ≡ lowers o l) × (u′ ≡ uppers o u))
+read-is lowers uppers l u e f = (e ∙ ap (coded sizesCode) (f .0), (f .1 .0 ∙ ap (λ a. lowers a l) (f .0), f .1 .1 ∙ ap (λ a. uppers a u) (f .0)))
 
 -- a writing leaves `out` by its answer, and keeps K by its answer; the code's answer is v, and r the number for it
 pub written-is : (out : Answer ℕ → List ℕ → List ℕ) (K : Answer ℕ → List ℕ → Type 0) (d : List ℕ) {r : ℕ} {v o : Answer ℕ} {d′ : List ℕ} → r ≡ coded (λ n. n) v
@@ -33,9 +34,10 @@ pub short : (w : Written) {o : Answer ℕ} → written w ≡ o → ((n : ℕ) �
 short (W.Bytes n) e h = h n e
 short (W.Refused x) e h = tt
 
--- sizes are small
-pub sizes-small : (s : List ℕ) (l u r c : ℕ) → readOf s l u ≡ gives (r, c) → Fitting r c l u
-sizes-small s l u r c e = done-tells s l u r c e .sized
+-- sizes that are read are small, where the code's answer z is o
+pub small : (z : Shape) {o : Answer (ℕ × ℕ)} {l u : ℕ} → shape z ≡ o → ((r c : ℕ) → gives (r, c) ≡ o → Fitting r c l u) → Small z
+small (S.Sizes r c) e h = let f = h r c e in (f .rows, f .columns)
+small (S.Refused x) e h = tt
 
 -- a product's answer as one number
 pub answered : {g : Given} {ma ra mb rb lo up : List ℕ} {o : Answer (Unit {0})} {r : ℕ} {ma′ ra′ mb′ rb′ lo′ up′ : List ℕ} → Left g ma ra mb rb lo up o ma′ ra′ mb′ rb′ lo′ up′

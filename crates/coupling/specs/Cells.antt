@@ -3,6 +3,8 @@ use mathlib.Core.Path.{_≡_}
 use mathlib.Core.List.{List}
 use Prim.Native.Nat.{ℕ, _+_, _*_, _≤_}
 use Rattle.refusals.specs.Answer.{coded}
+use Rattle.sheets.specs.declared.Shape.{Shape}
+use Rattle.sheets.specs.declared.Shape.the-variants as S
 use Rattle.sheets.specs.declared.Written.{Written}
 use Rattle.sheets.specs.declared.Written.the-variants as W
 use Rattle.matrices.specs.Checks.{Given, called}
@@ -12,6 +14,11 @@ use Rattle.matrices.specs.Demand.{Keeps}
 -- rows and columns as one number: 100 × rows + columns
 abbrev pub sizesCode : ℕ × ℕ → ℕ
 sizesCode x = 100 * x .0 + x .1
+
+-- sizes that were read are small, so that their number fits 32 bits
+abbrev pub Small : Shape → Type 0
+Small (S.Sizes rows columns) = (rows ≤ 32) × (columns ≤ 32)
+Small (S.Refused r) = Unit {0}
 
 -- a length that was written fits 32 bits: no sheet is longer than 16,400 bytes
 abbrev pub Short : Written → Type 0

@@ -3,14 +3,25 @@
 ghost use mathlib.Core.Path.{_≡_};
 ghost use lib.ListN.{length};
 ghost use Rattle.refusals.specs.Answer.{coded};
-ghost use Rattle.sheets.specs.Reading.{readOf, lowersAfter, uppersAfter};
+ghost use Rattle.sheets.specs.Reading.{shape, readOf, lowersAfter, uppersAfter, readWith, lowersWith, uppersWith};
 ghost use Rattle.sheets.specs.Writing.{writeOf, outAfter};
 ghost use Rattle.sheets.specs.Trip.{TripOf};
-ghost use Rattle.coupling.specs.Cells.{sizesCode, Called};
+ghost use Rattle.coupling.specs.Cells.{sizesCode, Small, Called};
 use crate::length_code;
 use sheets::Shape;
 
-// Reads the matrix of a sheet into the front of the two slices; a refusal leaves both as they were.
+// The answer of a read: 100 × rows + columns, or the refusal's code.
+fn sizes_code(s: Shape) -> u32
+    requires { ⌜ Small s ⌝ }
+    ensures { λ r. ⌜ r ≡ coded sizesCode (shape s) ⌝ }
+{
+    match s {
+        Shape::Sizes(rows, columns) => (100 * rows + columns) as u32,
+        Shape::Refused(r) => r.code(),
+    }
+}
+
+// Reads the matrix of a sheet, each cell widened by its wear class, into the front of the two slices; a refusal leaves both as they were.
 #[no_mangle]
 pub extern "C" fn coupling_read(sheet: &[u8], lowers: &mut [u32], uppers: &mut [u32]) -> u32
     ensures answer { λ r. ⌜ r ≡ coded sizesCode (readOf (now (sheet .entry)) (length (now (lowers .entry))) (length (now (uppers .entry)))) ⌝ }
@@ -19,10 +30,25 @@ pub extern "C" fn coupling_read(sheet: &[u8], lowers: &mut [u32], uppers: &mut [
     ensures above { λ r. ⌜ now (uppers .exit) ≡ uppersAfter (now (sheet .entry))
         (readOf (now (sheet .entry)) (length (now (lowers .entry))) (length (now (uppers .entry)))) (now (uppers .entry)) ⌝ }
 {
-    match sheets::read(sheet, lowers, uppers) {
-        Shape::Sizes(rows, columns) => (100 * rows + columns) as u32,
-        Shape::Refused(r) => r.code(),
-    }
+    sizes_code(sheets::read(sheet, lowers, uppers))
+}
+
+// The same with a mill's own wear amounts, eight patterns in 32 bytes, in the place of the fixed ones.
+#[no_mangle]
+pub extern "C" fn coupling_read_with(
+    amounts: &[u8],
+    sheet: &[u8],
+    lowers: &mut [u32],
+    uppers: &mut [u32],
+) -> u32
+    ensures answer { λ r. ⌜ r ≡ coded sizesCode
+        (readWith (now (amounts .entry)) (now (sheet .entry)) (length (now (lowers .entry))) (length (now (uppers .entry)))) ⌝ }
+    ensures below { λ r. ⌜ now (lowers .exit) ≡ lowersWith (now (amounts .entry)) (now (sheet .entry))
+        (readWith (now (amounts .entry)) (now (sheet .entry)) (length (now (lowers .entry))) (length (now (uppers .entry)))) (now (lowers .entry)) ⌝ }
+    ensures above { λ r. ⌜ now (uppers .exit) ≡ uppersWith (now (amounts .entry)) (now (sheet .entry))
+        (readWith (now (amounts .entry)) (now (sheet .entry)) (length (now (lowers .entry))) (length (now (uppers .entry)))) (now (uppers .entry)) ⌝ }
+{
+    sizes_code(sheets::read_with(amounts, sheet, lowers, uppers))
 }
 
 // Writes the sheet of a matrix into the front of out; a refusal leaves out as it was. A read of the sheet gives a matrix with the same values.

@@ -17,9 +17,10 @@ use Rattle.refusals.specs.Sizes.{checkSize, checkLengths, checkFit}
 use Rattle.binary32.specs.Number.{valueOf}
 use Rattle.binary32.specs.Operations.{answer}
 use Rattle.intervals.specs.Conversion.{faultOf}
+use Rattle.sheets.specs.AllFrom.{allFrom}
 use Rattle.sheets.specs.Layout.{u16At, u32At, blank, recordOf, framed}
 use Rattle.sheets.specs.Cut.{firstLength}
-use Rattle.sheets.specs.Wear.{unitsOf, amountOf}
+use Rattle.sheets.specs.Wear.{unitsOf, amountOf, fixedAmounts}
 use Rattle.sheets.specs.Cell.{widenedOf}
 use Rattle.sheets.specs.Chain.{judgeOf, visitOf, walk, chainOf}
 use Rattle.sheets.specs.Reading.{readOf, putIn}
@@ -41,7 +42,7 @@ sheet l u = recordBytes 1 1 1 2 0 ++ recordBytes 0 0 0 l u
 three : trainProduct 1 3 (sheet 0x3F800000 0x40000000 ++ sheet 0xBF800000 0x40400000 ++ sheet 0x40000000 0x40000000)
     ≡ gives (record { rows = 1; columns = 1; lowers = 0xC0800000 ∷ []; uppers = 0x41400000 ∷ [] })
 unfolding trainProduct checkCount sheetsIn nextLength firstLength sheetsProduct foldFrom stepOf timesOf readAs
-    u16At u32At blank recordOf framed checkFit checkSize checkLengths unitsOf amountOf widenedOf judgeOf visitOf walk chainOf readOf putIn recordBytes
+    u16At u32At allFrom blank recordOf framed checkFit checkSize checkLengths unitsOf amountOf fixedAmounts widenedOf judgeOf visitOf walk chainOf readOf putIn recordBytes
     productOf checkOf checkShapes checkMethod methodOf checkSizes checkSlices checkOperands checkLent checkBoth checkCells first
     stopOf tabulate entryAt entryOf cellAt entry entry₁ total sum leastTerm greatestTerm faultOf answer valueOf mid rad up down lo hi ceil expo size MAX val encode bind minℤ maxℤ
 three = refl
@@ -49,7 +50,7 @@ three = refl
 -- [2, MAX] × [2, 2] is too large, whatever stands behind: three bytes that are no sheet
 early : trainProduct 1 3 (sheet 0x40000000 0x7F7FFFFF ++ sheet 0x40000000 0x40000000 ++ (1 ∷ 2 ∷ 3 ∷ [])) ≡ refuses (ofCell 5 9 0 0)
 unfolding trainProduct checkCount sheetsIn nextLength firstLength sheetsProduct foldFrom stepOf timesOf readAs
-    u16At u32At blank recordOf framed checkFit checkSize checkLengths unitsOf amountOf widenedOf judgeOf visitOf walk chainOf readOf putIn recordBytes
+    u16At u32At allFrom blank recordOf framed checkFit checkSize checkLengths unitsOf amountOf fixedAmounts widenedOf judgeOf visitOf walk chainOf readOf putIn recordBytes
     productOf checkOf checkShapes checkMethod methodOf checkSizes checkSlices checkOperands checkLent checkBoth checkCells first
     stopOf tabulate entryAt entryOf cellAt entry entry₁ total sum leastTerm greatestTerm faultOf answer valueOf mid rad up down lo hi ceil expo size MAX val encode bind minℤ maxℤ
 early = refl

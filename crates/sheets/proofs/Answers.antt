@@ -15,58 +15,60 @@ use Rattle.intervals.specs.Slices.{cleared}
 use Rattle.intervals.proofs.Clearing.{cleared-front}
 use Rattle.sheets.specs.declared.chain.Cell.{Cell}
 use Rattle.sheets.specs.Layout.{framed, rowsOf, columnsOf, firstOf}
+use Rattle.sheets.specs.Wear.{fixedAmounts}
 use Rattle.sheets.specs.Chain.{Walk, walk, chainOf}
-use Rattle.sheets.specs.Reading.{readOf, putIn, sliceAfter}
+use Rattle.sheets.specs.Reading.{readBy, readOf, putIn, sliceBy}
 use Rattle.sheets.proofs.Putting.{put-front}
 
-pub chain-is : (s : List ℕ) (r c i : ℕ) → r ≡ rowsOf s → c ≡ columnsOf s → i ≡ firstOf s → walk s r c (r * c + 1) i 0 ≡ chainOf s
+pub chain-is : (amounts : List ℕ) (s : List ℕ) (r c i : ℕ) → r ≡ rowsOf s → c ≡ columnsOf s → i ≡ firstOf s → walk amounts s r c (r * c + 1) i 0 ≡ chainOf amounts s
 unfolding chainOf
-chain-is s r c i e f g = rw (e, f, g)
+chain-is amounts s r c i e f g = rw (e, f, g)
 
-module _ (s : List ℕ) (l u : ℕ) where
-  pub read-unframed : framed s ≡ false → refuse 6 ≡ readOf s l u
-  unfolding readOf
+module _ (amounts : List ℕ) (s : List ℕ) (l u : ℕ) where
+  pub read-unframed : framed s ≡ false → refuse 6 ≡ readBy amounts s l u
   read-unframed h = rw h
 
   -- 6 has passed: by the answer on 1 and 2, y
   pub read-fit : (r c : ℕ) (z y : Outcome) → framed s ≡ true → r ≡ rowsOf s → c ≡ columnsOf s → outcome z ≡ checkFit 0 r c l u → z ≡ y
-      → then (outcome y) (then (chainOf s .verdict) (gives (r, c))) ≡ readOf s l u
-  unfolding readOf
+      → then (outcome y) (then (chainOf amounts s .verdict) (gives (r, c))) ≡ readBy amounts s l u
   read-fit r c z y h p q e f = rw (h, ← p, ← q, ← e, f)
 
   -- 1 and 2 have passed: by the answer on the chain, x
   pub read-followed : (r c i : ℕ) (z w x : Outcome) → framed s ≡ true → r ≡ rowsOf s → c ≡ columnsOf s → outcome z ≡ checkFit 0 r c l u → z ≡ Done → i ≡ firstOf s
-      → outcome w ≡ walk s r c (r * c + 1) i 0 .verdict → w ≡ x → then (outcome x) (gives (r, c)) ≡ readOf s l u
+      → outcome w ≡ walk amounts s r c (r * c + 1) i 0 .verdict → w ≡ x → then (outcome x) (gives (r, c)) ≡ readBy amounts s l u
   read-followed r c i z w x h p q e f n g k =
-      ap (λ (v : Answer (Unit {0})). then v (gives (r, c))) (said outcome g k ∙ ap (λ (y : Walk). y .verdict) (chain-is s r c i p q n)) ∙ read-fit r c z Done h p q e f
+      ap (λ (v : Answer (Unit {0})). then v (gives (r, c))) (said outcome g k ∙ ap (λ (y : Walk). y .verdict) (chain-is amounts s r c i p q n)) ∙ read-fit r c z Done h p q e f
 
 -- what a read that is not refused tells
-pub record Accepted (s : List ℕ) (l u r c : ℕ) : Type 0 where
+pub record Accepted (amounts s : List ℕ) (l u r c : ℕ) : Type 0 where
   pub frame : framed s ≡ true
   pub rows : rowsOf s ≡ r
   pub columns : columnsOf s ≡ c
   pub sized : Fitting r c l u
-  pub passed : chainOf s .verdict ≡ done
+  pub passed : chainOf amounts s .verdict ≡ done
 
-pub done-tells : (s : List ℕ) (l u r c : ℕ) → readOf s l u ≡ gives (r, c) → Accepted s l u r c
-unfolding readOf
-done-tells s l u r c e =
+pub accepted-by : (amounts : List ℕ) (s : List ℕ) (l u r c : ℕ) → readBy amounts s l u ≡ gives (r, c) → Accepted amounts s l u r c
+accepted-by amounts s l u r c e =
     let a = then-tells (unless (framed s) (ofMatrix 6 0)) _ (r, c) e in
     let b = then-tells (checkFit 0 (rowsOf s) (columnsOf s) l u) _ (r, c) (a .1) in
-    let d = then-tells (chainOf s .verdict) (gives (rowsOf s, columnsOf s)) (r, c) (b .1) in
+    let d = then-tells (chainOf amounts s .verdict) (gives (rowsOf s, columnsOf s)) (r, c) (b .1) in
     let p : _≡_ {A = ℕ × ℕ} (rowsOf s, columnsOf s) (r, c) = cc in
     let m : rowsOf s ≡ r = ap (λ (x : ℕ × ℕ). x .0) p in
     let n : columnsOf s ≡ c = ap (λ (x : ℕ × ℕ). x .1) p in
     record { frame = unless-tells _ _ (a .0 .1); rows = m; columns = n; sized = rw (m, n) at (fit-tells 0 (rowsOf s) (columnsOf s) l u (b .0 .1)); passed = d .0 .1 }
 
-pub accepted-walk : (s : List ℕ) (l u r c i : ℕ) → Accepted s l u r c → i ≡ firstOf s → walk s r c (r * c + 1) i 0 ≡ chainOf s
-accepted-walk s l u r c i a n = chain-is s r c i (sym (a .rows)) (sym (a .columns)) n
+-- a plain read
+pub done-tells : (s : List ℕ) (l u r c : ℕ) → readOf s l u ≡ gives (r, c) → Accepted fixedAmounts s l u r c
+unfolding readOf
+done-tells s l u r c e = accepted-by fixedAmounts s l u r c e
+
+pub accepted-walk : (amounts : List ℕ) (s : List ℕ) (l u r c i : ℕ) → Accepted amounts s l u r c → i ≡ firstOf s → walk amounts s r c (r * c + 1) i 0 ≡ chainOf amounts s
+accepted-walk amounts s l u r c i a n = chain-is amounts s r c i (sym (a .rows)) (sym (a .columns)) n
 
 -- ---- what is left
 
 -- the slice d, cleared, then filled with the chain's cells
-pub slice-done : (b : Cell → ℕ) (s d d₁ d₂ : List ℕ) (l u r c i : ℕ) → Accepted s l u r c → i ≡ firstOf s → r * c ≤ length d
-    → d₁ ≡ cleared (r * c) d → d₂ ≡ putIn b d₁ (walk s r c (r * c + 1) i 0 .cells) → d₂ ≡ sliceAfter b s (gives (r, c)) d
-unfolding sliceAfter
-slice-done b s d d₁ d₂ l u r c i a n h p q =
-    q ∙ rw (a .rows, a .columns, ← accepted-walk s l u r c i a n, p, cleared-front (r * c) d h) (put-front b s r c (r * c + 1) i 0 (replicate (r * c) 0) (drop (r * c) d) (length-replicate (r * c) 0))
+pub slice-done : (amounts : List ℕ) (b : Cell → ℕ) (s d d₁ d₂ : List ℕ) (l u r c i : ℕ) → Accepted amounts s l u r c → i ≡ firstOf s → r * c ≤ length d
+    → d₁ ≡ cleared (r * c) d → d₂ ≡ putIn b d₁ (walk amounts s r c (r * c + 1) i 0 .cells) → d₂ ≡ sliceBy amounts b s (gives (r, c)) d
+slice-done amounts b s d d₁ d₂ l u r c i a n h p q =
+    q ∙ rw (a .rows, a .columns, ← accepted-walk amounts s l u r c i a n, p, cleared-front (r * c) d h) (put-front b amounts s r c (r * c + 1) i 0 (replicate (r * c) 0) (drop (r * c) d) (length-replicate (r * c) 0))

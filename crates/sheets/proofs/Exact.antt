@@ -1,5 +1,5 @@
--- Class 0 widens by nothing: a number less 0, down, and plus 0, up, is itself, as the pattern of its value. Assumes nothing.
-use mathlib.Core.Path.{_≡_, refl, sym, ap, ap₂, _∙_}
+-- An amount of zero widens by nothing: a number less 0, down, and plus 0, up, is itself, as the pattern of its value. Assumes nothing.
+use mathlib.Core.Path.{_≡_, refl, sym, ap, ap₂, subst, _∙_}
 use mathlib.Core.Bool.{true, false, cond}
 use mathlib.Core.List.{[], _∷_}
 use Prim.Native.Nat.{ℕ, _<_}
@@ -21,17 +21,25 @@ use Rattle.binary32.specs.Number.{finite, finites, valueOf, patternOf}
 use Rattle.binary32.specs.Operations.{add, sub, answerOf, subDown, addUp}
 use Rattle.binary32.proofs.Held.{finite-is, is-finite, pattern-value, pattern-finite, value-num}
 use Rattle.intervals.specs.Conversion.{faultOf, outwardOf}
-use Rattle.sheets.specs.Wear.{unitsOf, amountOf}
+use Rattle.sheets.specs.Wear.{unitsOf, amountOf, fixedAmounts, amountIn}
 use Rattle.sheets.specs.Cell.{canonicalOf, widenedOf}
 use Rattle.sheets.proofs.Bounding.{fine-finite, answer-is}
 
-pub amount-none : amountOf 0 ≡ 0
+-- w is zero, of either sign
+abbrev pub Zero : ℕ → Type 0
+Zero w = (finite w ≡ true) × (valueOf w ≡ pos 0)
+
+pub zero-is : Zero 0
+unfolding valueOf val
+zero-is = (refl, refl)
+
+amount-none : amountOf 0 ≡ 0
 unfolding amountOf unitsOf encode expo size
 amount-none = refl
 
-value-none : valueOf 0 ≡ pos 0
-unfolding valueOf val
-value-none = refl
+pub fixed-none : Zero (amountIn fixedAmounts 0)
+unfolding fixedAmounts
+fixed-none = subst Zero (sym amount-none) zero-is
 
 -- ---- the pattern of a number's value
 
@@ -59,25 +67,26 @@ module _ (p : ℕ) (h : finite p ≡ true) where
   unfolding canonicalOf
   canonical-twice = ap patternOf canonical-value
 
-  less-none : valueOf p -ℤ valueOf 0 ≡ valueOf p *ℤ pos 1
-  less-none = ap (λ z. valueOf p -ℤ z) value-none ∙ by-ring (valueOf p ∷ []) (search reading depth 20) tt
+  module _ (w : ℕ) (z : Zero w) where
+    less-none : valueOf p -ℤ valueOf w ≡ valueOf p *ℤ pos 1
+    less-none = ap (λ x. valueOf p -ℤ x) (z .1) ∙ by-ring (valueOf p ∷ []) (search reading depth 20) tt
 
-  plus-none : valueOf p +ℤ valueOf 0 ≡ valueOf p *ℤ pos 1
-  plus-none = ap (λ z. valueOf p +ℤ z) value-none ∙ by-ring (valueOf p ∷ []) (search reading depth 20) tt
+    plus-none : valueOf p +ℤ valueOf w ≡ valueOf p *ℤ pos 1
+    plus-none = ap (λ x. valueOf p +ℤ x) (z .1) ∙ by-ring (valueOf p ∷ []) (search reading depth 20) tt
 
-  sub-none : subDown p 0 ≡ gives (canonicalOf p)
-  unfolding canonicalOf
-  sub-none = answer-is (sub down) p 0 h refl ∙ ap answerOf (ap (down binary32 1) less-none ∙ down-exact binary32 1 (lit< tt) number)
+    sub-none : subDown p w ≡ gives (canonicalOf p)
+    unfolding canonicalOf
+    sub-none = answer-is (sub down) p w h (z .0) ∙ ap answerOf (ap (down binary32 1) less-none ∙ down-exact binary32 1 (lit< tt) number)
 
-  add-none : addUp p 0 ≡ gives (canonicalOf p)
-  unfolding canonicalOf
-  add-none = answer-is (add up) p 0 h refl ∙ ap answerOf (ap (up binary32 1) plus-none ∙ up-exact binary32 1 (lit< tt) number)
+    add-none : addUp p w ≡ gives (canonicalOf p)
+    unfolding canonicalOf
+    add-none = answer-is (add up) p w h (z .0) ∙ ap answerOf (ap (up binary32 1) plus-none ∙ up-exact binary32 1 (lit< tt) number)
 
--- ---- a cell read with class 0
+-- ---- a cell read with an amount of zero
 
 module _ (a b : ℕ) (e : faultOf a b ≡ 0) where
-  pub outward-none : outwardOf a b (amountOf 0) ≡ gives (canonicalOf a, canonicalOf b)
-  outward-none = ap (outwardOf a b) amount-none ∙ ap₂ both (sub-none a (fine-finite a b e .0)) (add-none b (fine-finite a b e .1))
+  pub outward-none : (w : ℕ) → Zero w → outwardOf a b w ≡ gives (canonicalOf a, canonicalOf b)
+  outward-none w z = ap₂ both (sub-none a (fine-finite a b e .0) w z) (add-none b (fine-finite a b e .1) w z)
 
   canonical-fine : faultOf (canonicalOf a) (canonicalOf b) ≡ 0
   unfolding faultOf
@@ -86,9 +95,9 @@ module _ (a b : ℕ) (e : faultOf a b ≡ 0) where
       let g : finites (canonicalOf a) (canonicalOf b) ≡ finites a b = ap₂ (λ s t. cond s t false) (canonical-finite a (f .0) ∙ sym (f .0)) (canonical-finite b (f .1) ∙ sym (f .1)) in
       ap₂ (λ s t. cond s (cond t 0 4) 3) g (ap₂ leZ (canonical-value a (f .0)) (canonical-value b (f .1))) ∙ e
 
-pub widened-none : (a b : ℕ) → faultOf a b ≡ 0 → widenedOf (canonicalOf a) (canonicalOf b) (amountOf 0) ≡ gives (canonicalOf a, canonicalOf b)
+pub widened-none : (a b w : ℕ) → faultOf a b ≡ 0 → Zero w → widenedOf (canonicalOf a) (canonicalOf b) w ≡ gives (canonicalOf a, canonicalOf b)
 unfolding widenedOf
-widened-none a b e =
+widened-none a b w e z =
     let f = fine-finite a b e in
-    sym (passing-on _ _ (canonical-fine a b e)) ∙ outward-none (canonicalOf a) (canonicalOf b) (canonical-fine a b e)
+    sym (passing-on _ _ (canonical-fine a b e)) ∙ outward-none (canonicalOf a) (canonicalOf b) (canonical-fine a b e) w z
     ∙ ap₂ (λ x y. gives (x, y)) (canonical-twice a (f .0)) (canonical-twice b (f .1))

@@ -1,3 +1,4 @@
+pub mod AllFrom
 pub mod Bytes
 pub mod Frames
 pub mod Cuts
@@ -7,6 +8,7 @@ pub mod Judging
 pub mod Walking
 pub mod Putting
 pub mod Answers
+pub mod Loads
 pub mod Fronts
 pub mod CellBytes
 pub mod Counting
@@ -14,7 +16,8 @@ pub mod Scanning
 pub mod Rooms
 pub mod Outs
 pub mod Exact
-pub mod Largest
+pub mod Valid
+pub mod Halves
 pub mod CellBack
 pub mod RecordBack
 pub mod WalkBack
@@ -23,3 +26,4 @@ pub mod RoundTrip
 pub mod Order
 pub mod ByIndex
 pub mod Examples
+pub mod LoadExamples

@@ -1,6 +1,7 @@
 -- The order of the chain: a position that rises is a cell that comes later by row, then column, and 8 is said of a cell exactly where it does not. Assumes nothing.
 use mathlib.Core.Path.{_≡_, refl, sym, ap, _∙_}
 use mathlib.Core.Bool.{Bool, true, false, cond}
+use mathlib.Core.List.{List}
 use mathlib.Core.Logic.{_↔_, _⊎_, inl, inr}
 use mathlib.Core.Option.{Option, none, some}
 use Prim.Native.Nat.{ℕ, _+_, _*_, _≤_, _<_}
@@ -20,7 +21,7 @@ use Rattle.binary32.specs.Order.{atMost}
 use Rattle.intervals.specs.Conversion.{faultOf, outwardOf}
 use Rattle.sheets.specs.declared.layout.Record.{Record}
 use Rattle.sheets.specs.declared.chain.Cell.{Cell}
-use Rattle.sheets.specs.Wear.{amountOf}
+use Rattle.sheets.specs.Wear.{amountIn}
 use Rattle.sheets.specs.Cell.{widenedOf}
 use Rattle.sheets.specs.Chain.{positionOf, cellFrom, judgeOf}
 use Rattle.sheets.proofs.Judging.{judge-by}
@@ -76,24 +77,24 @@ widened-low a b w = go (finites a b) (atMost a b) (both-low (subDown a w) (addUp
     go false t h = omega arith
 
 -- a record r after q, both in the matrix: 8 exactly where q does not come before r
-module _ (rows columns : ℕ) (q r : Record) (hq : q .column < columns) (hr : r .row < rows) (hc : r .column < columns) where
+module _ (amounts : List ℕ) (rows columns : ℕ) (q r : Record) (hq : q .column < columns) (hr : r .row < rows) (hc : r .column < columns) where
   abbrev Later : Type 0
   Later = Before (q .row) (q .column) (r .row) (r .column)
 
-  unordered : (Later → ⊥) → judgeOf rows columns (positionOf columns q + 1) r ≡ refuse 8
+  unordered : (Later → ⊥) → judgeOf amounts rows columns (positionOf columns q + 1) r ≡ refuse 8
   unordered h =
-      sym (judge-by rows columns (positionOf columns q + 1) r false false true _ _ _ (lt-leb rows (r .row) hr) (lt-leb columns (r .column) hc)
+      sym (judge-by amounts rows columns (positionOf columns q + 1) r false false true _ _ _ (lt-leb rows (r .row) hr) (lt-leb columns (r .column) hc)
       (lt-ltb (positionOf columns r) (positionOf columns q + 1) (below (ltb (positionOf columns q) (positionOf columns r)) refl)) refl refl refl)
     where
       below : (t : Bool) → ltb (positionOf columns q) (positionOf columns r) ≡ t → positionOf columns r < positionOf columns q + 1
       below true e = absurd (h (to columns (q .row) (q .column) (r .row) (r .column) hq hc (ltb-true _ _ e)))
       below false e = omega (arith, ltb-false (positionOf columns q) (positionOf columns r) e)
 
-  ordered : judgeOf rows columns (positionOf columns q + 1) r ≡ refuse 8 → Later → ⊥
+  ordered : judgeOf amounts rows columns (positionOf columns q + 1) r ≡ refuse 8 → Later → ⊥
   ordered e h =
       let f : positionOf columns q < positionOf columns r = from columns (q .row) (q .column) (r .row) (r .column) hq hc h in
-      go (r .spare) (ltb 7 (r .wear)) (widenedOf (r .lower) (r .upper) (amountOf (r .wear))) (widened-low _ _ _)
-      (judge-by rows columns (positionOf columns q + 1) r false false false _ _ _ (lt-leb rows (r .row) hr) (lt-leb columns (r .column) hc)
+      go (r .spare) (ltb 7 (r .wear)) (widenedOf (r .lower) (r .upper) (amountIn amounts (r .wear))) (widened-low _ _ _)
+      (judge-by amounts rows columns (positionOf columns q + 1) r false false false _ _ _ (lt-leb rows (r .row) hr) (lt-leb columns (r .column) hc)
       (le-ltb (positionOf columns r) (positionOf columns q + 1) (omega arith)) refl refl refl ∙ e)
     where
       no : (x : Refusal) → refuses x ≡ refuse {A = Cell} 8 → (x .number ≡ 8 → ⊥) → ⊥
@@ -106,5 +107,5 @@ module _ (rows columns : ℕ) (q r : Record) (hq : q .column < columns) (hr : r 
       go true false (gives x) l h = not-both (sym h)
       go true false (refuses x) l h = no _ h (λ e. omega arith)
 
-  pub unordered-is : (judgeOf rows columns (positionOf columns q + 1) r ≡ refuse 8) ↔ (Later → ⊥)
+  pub unordered-is : (judgeOf amounts rows columns (positionOf columns q + 1) r ≡ refuse 8) ↔ (Later → ⊥)
   unordered-is = (ordered, unordered)

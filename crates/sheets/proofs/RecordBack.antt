@@ -12,6 +12,7 @@ use borrow.Author.Tests.{eq-eqb, ltb-true}
 use Rattle.sheets.specs.declared.layout.Record.{Record}
 use Rattle.sheets.specs.declared.cell.HandedIn.{HandedIn}
 use Rattle.sheets.specs.declared.cell.HandedIn.the-variants as H
+use Rattle.sheets.specs.AllFrom.{allFrom}
 use Rattle.sheets.specs.Layout.{u16At, u32At, blank, recordOf, countOf, firstOf, rowsOf, columnsOf}
 use Rattle.sheets.specs.Sheet.{recordBytes, cellAt, countTo, nextOf, cellBytes, recordsTo, sheetOf}
 use Rattle.sheets.proofs.CellBytes.{record-length}
@@ -38,7 +39,7 @@ four l h =
 
 pub record-back : (a d : List ℕ) (i x r c l u : ℕ) → length a ≡ 16 * i → x < 65536 → l < 4294967296 → u < 4294967296
     → recordOf (a ++ (recordBytes x r c l u ++ d)) i ≡ fieldsOf x r c l u
-unfolding recordOf u16At u32At blank recordBytes
+unfolding recordOf u16At u32At allFrom blank recordBytes
 record-back a d i x r c l u h hx hl hu =
     let e : List ℕ = recordBytes x r c l u ++ d in
     let f : (j k : ℕ) → k ≡ 16 * i + j → getD (a ++ e) k 0 ≡ getD e j 0 = λ j k g. at a e (16 * i) j k h g in
@@ -89,7 +90,7 @@ next-small t j h = go (ltb j t) refl
     go false g = omega arith
 
 pub head-blank : (rows columns : ℕ) (lo up : List ℕ) → countTo lo up (rows * columns) ≤ 1024 → blank (sheetOf rows columns lo up) 6 10 ≡ true
-unfolding blank sheetOf recordBytes
+unfolding allFrom blank sheetOf recordBytes
 head-blank rows columns lo up h =
     let n : ℕ = countTo lo up (rows * columns) + 1 in
     rw (eq-eqb (n / 65536 % 256) 0 (omega arith), eq-eqb (n / 16777216 % 256) 0 (omega arith))

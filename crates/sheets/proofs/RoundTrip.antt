@@ -5,18 +5,22 @@ use Prim.Native.Nat.{ℕ, _+_, _*_, _≤_, _<_}
 use native.Mathlib.Omega.{arith}
 use lib.ListN.{length, getD, drop, replicate, length-replicate}
 use Rattle.refusals.specs.Answer.{gives}
-use Rattle.refusals.proofs.SizeLaws.{Fitting}
 use Rattle.intervals.specs.Conversion.{faultOf}
 use Rattle.sheets.specs.declared.cell.HandedIn.{HandedIn}
 use Rattle.sheets.specs.declared.cell.HandedIn.the-variants as H
 use Rattle.sheets.specs.declared.chain.Cell.{Cell}
 use Rattle.sheets.specs.Cell.{canonicalOf, handedOf}
-use Rattle.sheets.specs.Reading.{cellLower, cellUpper, sliceAfter}
+use Rattle.sheets.specs.Wear.{fixedAmounts, amountIn}
+use Rattle.sheets.specs.Load.{patternsOf, loadFault, loadOf}
+use Rattle.sheets.specs.Reading.{readBy, readOf, cellLower, cellUpper, sliceBy, sliceAfter, readWith, sliceWith, lowersWith, uppersWith}
 use Rattle.sheets.specs.Sheet.{cellAt, countTo, sheetOf}
 use Rattle.sheets.specs.Writing.{outAfter}
 use Rattle.sheets.specs.Trip.{canonicals, ReadsBack, TripOf}
 use Rattle.sheets.proofs.Rooms.{Granted}
 use Rattle.sheets.proofs.Outs.{part-is}
+use Rattle.sheets.proofs.Loads.{with-loaded}
+use Rattle.sheets.proofs.Exact.{Zero, fixed-none}
+use Rattle.sheets.proofs.Valid.{accepted-is}
 use Rattle.sheets.proofs.CellBack.{Tells, handed-tells}
 use Rattle.sheets.proofs.RecordBack.{rows-back, columns-back}
 use Rattle.sheets.proofs.WalkBack.{read-back, chain-back}
@@ -31,26 +35,51 @@ holds a b e = go (handedOf a b) (handed-tells a b)
     go (H.Cell x y) t = (λ n p. t .lower, λ n p. t .upper)
     go (H.Faulty n) t = absurd (t e)
 
-slice-back : (rows columns : ℕ) (lo up : List ℕ) → Fitting rows columns (length lo) (length up) → rows * columns ≤ 1024 → (b : Cell → ℕ) (m d : List ℕ)
-    → ((q : ℕ) → q < 0 + rows * columns → Holds b (canonicalOf (getD m q 0)) (cellAt lo up q))
-    → sliceAfter b (sheetOf rows columns lo up) (gives (rows, columns)) d ≡ canonicals m (rows * columns) 0 ++ drop (rows * columns) d
-unfolding sliceAfter
-slice-back rows columns lo up z few b m d h =
-    rw (rows-back rows columns lo up few, columns-back rows columns lo up few, chain-back rows columns lo up z few)
-    (ap (λ (k : List ℕ). k ++ drop (rows * columns) d)
-    (put-back b (countTo lo up (rows * columns)) m lo up (rows * columns) 0 (replicate (rows * columns) 0) (length-replicate (rows * columns) 0 ∙ omega arith) refl h))
+-- ---- for every matrix that a write accepts, slices that are long enough, and amounts of which that of class 0 is zero
 
--- for every matrix that a write accepts, and slices that are long enough
+module _ (amounts : List ℕ) (none : Zero (amountIn amounts 0)) (rows columns : ℕ) (lo up : List ℕ) {room n : ℕ} (g : Granted rows columns lo up room n) where
+  answer-back : (l u : List ℕ) → rows * columns ≤ length l → rows * columns ≤ length u
+      → readBy amounts (sheetOf rows columns lo up) (length l) (length u) ≡ gives (rows, columns)
+  answer-back l u hl hu = read-back amounts none rows columns lo up (g .sized) (g .few) (length l) (length u) hl hu
+
+  slice-back : (b : Cell → ℕ) (m d : List ℕ) → ((q : ℕ) → q < 0 + rows * columns → Holds b (canonicalOf (getD m q 0)) (cellAt lo up q))
+      → sliceBy amounts b (sheetOf rows columns lo up) (gives (rows, columns)) d ≡ canonicals m (rows * columns) 0 ++ drop (rows * columns) d
+  slice-back b m d h =
+      let few = g .few in
+      rw (rows-back rows columns lo up few, columns-back rows columns lo up few, chain-back amounts none rows columns lo up (g .sized) few)
+      (ap (λ (k : List ℕ). k ++ drop (rows * columns) d)
+      (put-back b (countTo lo up (rows * columns)) m lo up (rows * columns) 0 (replicate (rows * columns) 0) (length-replicate (rows * columns) 0 ∙ omega arith) refl h))
+
+  lowers-back : (l : List ℕ) → sliceBy amounts cellLower (sheetOf rows columns lo up) (gives (rows, columns)) l ≡ canonicals lo (rows * columns) 0 ++ drop (rows * columns) l
+  lowers-back l = slice-back cellLower lo l (λ q h. holds (getD lo q 0) (getD up q 0) (g .fine q (omega arith)) .0)
+
+  uppers-back : (u : List ℕ) → sliceBy amounts cellUpper (sheetOf rows columns lo up) (gives (rows, columns)) u ≡ canonicals up (rows * columns) 0 ++ drop (rows * columns) u
+  uppers-back u = slice-back cellUpper up u (λ q h. holds (getD lo q 0) (getD up q 0) (g .fine q (omega arith)) .1)
+
+-- by a plain read
 pub round-trip : (rows columns : ℕ) (lo up : List ℕ) (room n : ℕ) → Granted rows columns lo up room n
     → (l u : List ℕ) → rows * columns ≤ length l → rows * columns ≤ length u → ReadsBack rows columns lo up (sheetOf rows columns lo up) l u
+unfolding readOf sliceAfter
 round-trip rows columns lo up room n g l u hl hu =
-    let z = g .sized in
-    let m = g .few in
     record {
-      answer = read-back rows columns lo up z m (length l) (length u) hl hu;
-      lowers = slice-back rows columns lo up z m cellLower lo l (λ q h. holds (getD lo q 0) (getD up q 0) (g .fine q (omega arith)) .0);
-      uppers = slice-back rows columns lo up z m cellUpper up u (λ q h. holds (getD lo q 0) (getD up q 0) (g .fine q (omega arith)) .1);
+      answer = answer-back fixedAmounts fixed-none rows columns lo up g l u hl hu;
+      lowers = lowers-back fixedAmounts fixed-none rows columns lo up g l;
+      uppers = uppers-back fixedAmounts fixed-none rows columns lo up g u;
     }
+
+-- by a read with any load that is accepted
+pub trip-with : (load : List ℕ) → loadFault load ≡ 0 → (rows columns : ℕ) (lo up : List ℕ) (room n : ℕ) → Granted rows columns lo up room n
+    → (l u : List ℕ) → rows * columns ≤ length l → rows * columns ≤ length u
+    → (readWith load (sheetOf rows columns lo up) (length l) (length u) ≡ gives (rows, columns))
+    × ((lowersWith load (sheetOf rows columns lo up) (gives (rows, columns)) l ≡ canonicals lo (rows * columns) 0 ++ drop (rows * columns) l)
+    × (uppersWith load (sheetOf rows columns lo up) (gives (rows, columns)) u ≡ canonicals up (rows * columns) 0 ++ drop (rows * columns) u))
+unfolding loadOf sliceWith
+trip-with load e rows columns lo up room n g l u hl hu =
+    let none = accepted-is load .0 e .1 .first in
+    let amounts : List ℕ = patternsOf load in (
+      sym (with-loaded load amounts (loadFault load) refl _ _ _ e) ∙ answer-back amounts none rows columns lo up g l u hl hu,
+      (lowers-back amounts none rows columns lo up g l, uppers-back amounts none rows columns lo up g u),
+    )
 
 -- of the buffer that `put` leaves
 pub trip-done : (rows columns n : ℕ) (lo up d out : List ℕ) → Granted rows columns lo up (length d) n → out ≡ outAfter rows columns lo up (gives n) d

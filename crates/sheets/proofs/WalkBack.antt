@@ -1,4 +1,4 @@
--- The walk along the written chain passes, and meets each cell that is not [0, 0], by rows. Assumes nothing.
+-- The walk along the written chain passes, and meets each cell that is not [0, 0], by rows, whatever the amounts of classes above 0. Assumes nothing.
 use mathlib.Core.Path.{_≡_, refl, sym, ap, _∙_}
 use mathlib.Core.Bool.{true}
 use mathlib.Core.List.{List, [], _∷_}
@@ -17,8 +17,9 @@ use Rattle.sheets.specs.declared.cell.HandedIn.{HandedIn}
 use Rattle.sheets.specs.declared.cell.HandedIn.the-variants as H
 use Rattle.sheets.specs.declared.chain.Cell.{Cell}
 use Rattle.sheets.specs.Layout.{framed, countOf}
+use Rattle.sheets.specs.Wear.{amountIn}
 use Rattle.sheets.specs.Chain.{judgeOf, visitOf, Walk, more, walk, chainOf}
-use Rattle.sheets.specs.Reading.{readOf}
+use Rattle.sheets.specs.Reading.{readBy}
 use Rattle.sheets.specs.Sheet.{cellAt, tally, countTo, nextOf, sheetOf}
 use Rattle.sheets.proofs.Frames.{framed-by}
 use Rattle.sheets.proofs.Judging.{judge-cell}
@@ -27,6 +28,7 @@ use Rattle.sheets.proofs.Answers.{read-fit}
 use Rattle.sheets.proofs.CellBytes.{next-more, next-end}
 use Rattle.sheets.proofs.Counting.{count-room, count-le}
 use Rattle.sheets.proofs.Outs.{sheet-length}
+use Rattle.sheets.proofs.Exact.{Zero}
 use Rattle.sheets.proofs.CellBack.{cell-back}
 use Rattle.sheets.proofs.RecordBack.{fieldsOf, head-blank, record-at-position, count-back, first-back, rows-back, columns-back}
 
@@ -47,12 +49,12 @@ pub count-at : (lo up : List ℕ) (p : ℕ) (b : HandedIn) → cellAt lo up p �
 unfolding countTo
 count-at lo up p b e = rw (add-one p, e)
 
-module _ (rows columns : ℕ) (lo up : List ℕ) (z : Fitting rows columns (length lo) (length up)) (few : rows * columns ≤ 1024) where
+module _ (amounts : List ℕ) (none : Zero (amountIn amounts 0)) (rows columns : ℕ) (lo up : List ℕ) (z : Fitting rows columns (length lo) (length up)) (few : rows * columns ≤ 1024) where
   -- one cell of the walk, by what the writer made of it; ih: the walk from the next position on
   walk-step : (y p l t : ℕ) (b : HandedIn) → cellAt lo up p ≡ b → p < rows * columns → l ≤ p → rows * columns < t + l
       → ((l′ t′ : ℕ) → l′ ≤ p + 1 → rows * columns < t′ + l′
-      → walk (sheetOf rows columns lo up) rows columns t′ (nextOf (countTo lo up (rows * columns)) (countTo lo up (p + 1))) l′ ≡ passed (cellsFrom (countTo lo up (rows * columns)) lo up y (p + 1)))
-      → walk (sheetOf rows columns lo up) rows columns t (nextOf (countTo lo up (rows * columns)) (countTo lo up p)) l
+      → walk amounts (sheetOf rows columns lo up) rows columns t′ (nextOf (countTo lo up (rows * columns)) (countTo lo up (p + 1))) l′ ≡ passed (cellsFrom (countTo lo up (rows * columns)) lo up y (p + 1)))
+      → walk amounts (sheetOf rows columns lo up) rows columns t (nextOf (countTo lo up (rows * columns)) (countTo lo up p)) l
       ≡ passed (consBy (nextOf (countTo lo up (rows * columns)) (countTo lo up p + 1)) p b (cellsFrom (countTo lo up (rows * columns)) lo up y (p + 1)))
   unfolding tally
   walk-step y p l t H.Zero e g h k ih =
@@ -73,21 +75,21 @@ module _ (rows columns : ℕ) (lo up : List ℕ) (z : Fitting rows columns (leng
       let col : p % columns < columns = mod-lt p (z .some-column) in
       let position : p / columns * columns + p % columns ≡ p = div-add-mod' p columns in
       let cell : Cell = record { next = n; position = p; lower = x; upper = w } in
-      let j : gives cell ≡ judgeOf rows columns l (fieldsOf n (p / columns) (p % columns) x w) =
+      let j : gives cell ≡ judgeOf amounts rows columns l (fieldsOf n (p / columns) (p % columns) x w) =
       ap (λ (v : ℕ). gives (record { next = n; position = v; lower = x; upper = w })) (sym position)
-      ∙ judge-cell rows columns l (fieldsOf n (p / columns) (p % columns) x w) (gives (x, w)) row col (omega arith) refl (omega arith) (cell-back (getD lo p 0) (getD up p 0) x w e .read) in
-      let v : visitOf s rows columns (countTo lo up p + 1) l ≡ gives cell =
-      sym (visit-judged s rows columns (countTo lo up p + 1) l (fieldsOf n (p / columns) (p % columns) x w) (gives cell) (omega (arith, count-back rows columns lo up few)) (sym (record-at-position rows columns lo up few p x w g e)) j) in
-      let r : walk s rows columns (t - 1) n (p + 1) ≡ passed (cellsFrom total lo up y (p + 1)) = rw c at (ih (p + 1) (t - 1) (omega arith) (omega arith)) in
-      rw i0 (walk-turn s rows columns t (t - 1) (countTo lo up p + 1) l (omega arith) (omega arith) (gives cell) v ∙ ap (more cell) r)
+      ∙ judge-cell amounts rows columns l (fieldsOf n (p / columns) (p % columns) x w) (gives (x, w)) row col (omega arith) refl (omega arith) (cell-back (getD lo p 0) (getD up p 0) x w e .read _ none) in
+      let v : visitOf amounts s rows columns (countTo lo up p + 1) l ≡ gives cell =
+      sym (visit-judged amounts s rows columns (countTo lo up p + 1) l (fieldsOf n (p / columns) (p % columns) x w) (gives cell) (omega (arith, count-back rows columns lo up few)) (sym (record-at-position rows columns lo up few p x w g e)) j) in
+      let r : walk amounts s rows columns (t - 1) n (p + 1) ≡ passed (cellsFrom total lo up y (p + 1)) = rw c at (ih (p + 1) (t - 1) (omega arith) (omega arith)) in
+      rw i0 (walk-turn amounts s rows columns t (t - 1) (countTo lo up p + 1) l (omega arith) (omega arith) (gives cell) v ∙ ap (more cell) r)
 
   pub walk-back : (y p l t : ℕ) → p + y ≡ rows * columns → l ≤ p → rows * columns < t + l
-      → walk (sheetOf rows columns lo up) rows columns t (nextOf (countTo lo up (rows * columns)) (countTo lo up p)) l ≡ passed (cellsFrom (countTo lo up (rows * columns)) lo up y p)
+      → walk amounts (sheetOf rows columns lo up) rows columns t (nextOf (countTo lo up (rows * columns)) (countTo lo up p)) l ≡ passed (cellsFrom (countTo lo up (rows * columns)) lo up y p)
   unfolding cellsFrom
   walk-back zero p l t e h k =
       let q : p ≡ rows * columns = omega arith in
       let a : nextOf (countTo lo up (rows * columns)) (countTo lo up p) ≡ 0 = sym (next-end (countTo lo up (rows * columns)) (countTo lo up p) (rw q (omega arith))) in
-      walk-end (sheetOf rows columns lo up) rows columns t _ l a
+      walk-end amounts (sheetOf rows columns lo up) rows columns t _ l a
   walk-back (suc y) p l t e h k = walk-step y p l t (cellAt lo up p) refl (omega arith) h k (λ l′ t′ h′ k′. walk-back y (p + 1) l′ t′ (omega arith) h′ k′)
 
   pub framed-back : framed (sheetOf rows columns lo up) ≡ true
@@ -100,7 +102,7 @@ module _ (rows columns : ℕ) (lo up : List ℕ) (z : Fitting rows columns (leng
       (eq-eqb (16 * countOf s) (length s) (omega arith)) (sym (head-blank rows columns lo up (omega arith))))
 
   -- the whole chain
-  pub chain-back : chainOf (sheetOf rows columns lo up) ≡ passed (cellsFrom (countTo lo up (rows * columns)) lo up (rows * columns) 0)
+  pub chain-back : chainOf amounts (sheetOf rows columns lo up) ≡ passed (cellsFrom (countTo lo up (rows * columns)) lo up (rows * columns) 0)
   unfolding countTo chainOf
   chain-back =
       rw (rows-back rows columns lo up few, columns-back rows columns lo up few, first-back rows columns lo up few)
@@ -113,7 +115,7 @@ module _ (rows columns : ℕ) (lo up : List ℕ) (z : Fitting rows columns (leng
       then-gives _ _ _ _ (sym (size-by rows columns 0 true s)) (lengths-2 0 (rows * columns) l u true hl (le-leb (rows * columns) u hu))
 
   -- reading what was written is not refused, with slices that are long enough
-  pub read-back : (l u : ℕ) → rows * columns ≤ l → rows * columns ≤ u → readOf (sheetOf rows columns lo up) l u ≡ gives (rows, columns)
+  pub read-back : (l u : ℕ) → rows * columns ≤ l → rows * columns ≤ u → readBy amounts (sheetOf rows columns lo up) l u ≡ gives (rows, columns)
   read-back l u hl hu =
-      sym (read-fit (sheetOf rows columns lo up) l u rows columns Done Done framed-back (sym (rows-back rows columns lo up few)) (sym (columns-back rows columns lo up few)) (fits l u hl hu) refl)
+      sym (read-fit amounts (sheetOf rows columns lo up) l u rows columns Done Done framed-back (sym (rows-back rows columns lo up few)) (sym (columns-back rows columns lo up few)) (fits l u hl hu) refl)
       ∙ ap (λ (w : Walk). then (w .verdict) (gives (rows, columns))) chain-back

@@ -1,9 +1,8 @@
 -- The two bounds of one cell. Definitions only (01, "The coupling sheet" and "When a call is turned down").
-use mathlib.Core.Path.{_≡_}
-use mathlib.Core.Bool.{Bool, true, false, cond}
+use mathlib.Core.Bool.{Bool, false, cond}
 use Prim.Native.Nat.{ℕ}
 use lib.Dec.{eqb}
-use Rattle.refusals.specs.Answer.{Answer, gives, refuse, passing}
+use Rattle.refusals.specs.Answer.{Answer, passing}
 use Rattle.binary32.specs.Number.{valueOf, patternOf}
 use Rattle.intervals.specs.Conversion.{faultOf, outwardOf}
 use Rattle.sheets.specs.declared.cell.HandedIn.{HandedIn}
@@ -24,8 +23,3 @@ handedOf a b = cond (eqb (faultOf a b) 0) (cond (bothZero (canonicalOf a) (canon
 -- a cell that is read: refusal 3, then 4; then a - w rounded down and b + w rounded up, or refusal 5 where one of them overflows
 unfoldable pub widenedOf : ℕ → ℕ → ℕ → Answer (ℕ × ℕ)
 widenedOf a b w = passing (faultOf a b) (outwardOf a b w)
-
--- the flag says whether the widened bounds v of a cell are refusal 5
-abbrev pub OverflowOf : Answer (ℕ × ℕ) → Bool → Type 0
-OverflowOf v true = v ≡ refuse 5
-OverflowOf v false = (x : ℕ × ℕ) × (v ≡ gives x)

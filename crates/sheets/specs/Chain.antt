@@ -1,4 +1,5 @@
--- The chain of a sheet, followed record by record with all checks. Definitions only (01, "The coupling sheet" and "When a call is turned down").
+-- The chain of a sheet, followed record by record with all checks, over the eight wear amounts that the read is held against.
+-- Definitions only (01, "The coupling sheet" and "When a call is turned down").
 use mathlib.Core.Bool.{cond}
 use mathlib.Core.List.{List, [], _∷_}
 use Prim.Native.Nat.{ℕ, zero, suc, _+_, _*_}
@@ -10,7 +11,7 @@ use Rattle.sheets.specs.declared.chain.Cell.{Cell}
 use Rattle.sheets.specs.declared.chain.Step.{Step}
 use Rattle.sheets.specs.declared.chain.Step.the-variants as S
 use Rattle.sheets.specs.Layout.{recordOf, firstOf, rowsOf, columnsOf, countOf}
-use Rattle.sheets.specs.Wear.{amountOf}
+use Rattle.sheets.specs.Wear.{amountIn}
 use Rattle.sheets.specs.Cell.{widenedOf}
 
 -- ---- one record
@@ -31,14 +32,14 @@ cellFrom columns r (refuses x) = refuses (placed (r .row) (r .column) x)
 
 -- the checks of one record: 7, 8, 6, 10, then 3, 4, 5. `least` is one past the position of the cell before, 0 for the first cell, so that
 -- a position of `least` or more comes later by row, then column (proofs/Order, `unordered-is`)
-unfoldable pub judgeOf : ℕ → ℕ → ℕ → Record → Answer Cell
-judgeOf rows columns least r =
+unfoldable pub judgeOf : List ℕ → ℕ → ℕ → ℕ → Record → Answer Cell
+judgeOf amounts rows columns least r =
     cond (leb rows (r .row)) (refuse 7)
     (cond (leb columns (r .column)) (refuse 7)
     (cond (ltb (positionOf columns r) least) (refuse 8)
     (cond (r .spare)
     (cond (ltb 7 (r .wear)) (refuses (ofCell 10 0 (r .row) (r .column)))
-    (cellFrom columns r (widenedOf (r .lower) (r .upper) (amountOf (r .wear)))))
+    (cellFrom columns r (widenedOf (r .lower) (r .upper) (amountIn amounts (r .wear)))))
     (refuse 6))))
 
 -- ---- the chain
@@ -62,20 +63,20 @@ onward (gives c) f = more c (f c)
 onward (refuses r) f = stopped (refuses r)
 
 -- the checks of the record at an index: 7 where the index is not below the record count, then those of the record
-unfoldable pub visitOf : List ℕ → ℕ → ℕ → ℕ → ℕ → Answer Cell
-visitOf s rows columns index least = cond (leb (countOf s) index) (refuse 7) (judgeOf rows columns least (recordOf s index))
+unfoldable pub visitOf : List ℕ → List ℕ → ℕ → ℕ → ℕ → ℕ → Answer Cell
+visitOf amounts s rows columns index least = cond (leb (countOf s) index) (refuse 7) (judgeOf amounts rows columns least (recordOf s index))
 
 -- the walk from record `index` on; index 0 ends the chain. Positions rise, so rows × columns + 1 turns are enough (proofs/Walking, `enough`)
-unfoldable pub walk : List ℕ → ℕ → ℕ → ℕ → ℕ → ℕ → Walk
-walk s rows columns zero index least = stopped done
-walk s rows columns (suc turns) index least =
+unfoldable pub walk : List ℕ → List ℕ → ℕ → ℕ → ℕ → ℕ → ℕ → Walk
+walk amounts s rows columns zero index least = stopped done
+walk amounts s rows columns (suc turns) index least =
     cond (eqb index 0) (stopped done)
-    (onward (visitOf s rows columns index least) (λ c. walk s rows columns turns (c .next) (c .position + 1)))
+    (onward (visitOf amounts s rows columns index least) (λ c. walk amounts s rows columns turns (c .next) (c .position + 1)))
 
 -- the whole walk, for a matrix with this many rows and columns and a chain that starts at record `first`
-abbrev pub walkAll : List ℕ → ℕ → ℕ → ℕ → Walk
-walkAll s rows columns first = walk s rows columns (rows * columns + 1) first 0
+abbrev pub walkAll : List ℕ → List ℕ → ℕ → ℕ → ℕ → Walk
+walkAll amounts s rows columns first = walk amounts s rows columns (rows * columns + 1) first 0
 
 -- the walk of a sheet, by its head
-unfoldable pub chainOf : List ℕ → Walk
-chainOf s = walkAll s (rowsOf s) (columnsOf s) (firstOf s)
+unfoldable pub chainOf : List ℕ → List ℕ → Walk
+chainOf amounts s = walkAll amounts s (rowsOf s) (columnsOf s) (firstOf s)

@@ -1,10 +1,11 @@
 -- A coupling sheet as a list of bytes. Definitions only (01, "The coupling sheet").
-use mathlib.Core.Bool.{Bool, true, false, cond}
+use mathlib.Core.Bool.{Bool, false, cond}
 use mathlib.Core.List.{List}
-use Prim.Native.Nat.{ℕ, zero, suc, _+_, _*_, _%_}
+use Prim.Native.Nat.{ℕ, _+_, _*_, _%_}
 use lib.Dec.{leb, eqb}
 use lib.ListN.{length, getD}
 use Rattle.sheets.specs.declared.layout.Record.{Record}
+use Rattle.sheets.specs.AllFrom.{allFrom}
 
 -- the little-endian numbers of two and of four bytes at byte p
 unfoldable pub u16At : List ℕ → ℕ → ℕ
@@ -15,8 +16,7 @@ u32At s p = getD s p 0 + 256 * getD s (p + 1) 0 + 65536 * getD s (p + 2) 0 + 167
 
 -- whether the n bytes from p on are zero
 unfoldable pub blank : List ℕ → ℕ → ℕ → Bool
-blank s p zero = true
-blank s p (suc n) = cond (eqb (getD s p 0) 0) (blank s (p + 1) n) false
+blank s = allFrom (λ i. eqb (getD s i 0) 0)
 
 -- record i, read as a cell: next, row, column, the two bounds, wear class, and whether bytes 13 to 15 are zero
 unfoldable pub recordOf : List ℕ → ℕ → Record

@@ -1,6 +1,8 @@
+pub mod AllFrom
 pub mod Layout
 pub mod Wear
 pub mod Cell
+pub mod Load
 pub mod Chain
 pub mod Reading
 pub mod Sheet

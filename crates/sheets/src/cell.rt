@@ -1,14 +1,14 @@
-// The two bounds of one cell: checked before they are written, and widened by the wear class when they are read.
+// The two bounds of one cell: checked before they are written, and moved outward by a wear amount when they are read.
 ghost use mathlib.Core.Path.{_≡_};
-ghost use Prim.Native.Nat.{_<_};
+ghost use Rattle.refusals.specs.Answer.{done, outcome, then};
 ghost use Rattle.binary32.specs.Number.{Finite};
 ghost use Rattle.intervals.specs.Conversion.{faultOf, bounded, outwardOf};
-ghost use Rattle.sheets.specs.Wear.{amountOf};
-ghost use Rattle.sheets.specs.Cell.{canonicalOf, bothZero, handedOf, OverflowOf};
-use binary32::Binary32;
+ghost use Rattle.sheets.specs.Cell.{canonicalOf, bothZero, handedOf};
+use binary32::order::magnitude;
 use intervals::Bounded;
 use intervals::check;
 use intervals::outward;
+use refusals::Outcome;
 
 // A cell to be written: [0, 0], which gets no record; its bounds, with minus zero replaced by 0; or the number of its fault, 3 or 4.
 pub enum HandedIn {
@@ -51,27 +51,37 @@ pub fn handed(lower: u32, upper: u32) -> HandedIn
     HandedIn::Cell(a, b)
 }
 
-// A cell without fault, its bounds moved outward by the amount of its wear class. Class 0 leaves their values as they are.
-pub fn widen(lower: u32, upper: u32, class: usize) -> Bounded
-    requires { ⌜ («class» < 8) × (faultOf lower upper ≡ 0) ⌝ }
-    ensures { λ r. ⌜ bounded r ≡ outwardOf lower upper (amountOf «class») ⌝ }
+// A cell without fault, its bounds moved outward by an amount. 0 leaves their values as they are.
+pub fn widen(lower: u32, upper: u32, amount: u32) -> Bounded
+    requires { ⌜ faultOf lower upper ≡ 0 ⌝ }
+    ensures { λ r. ⌜ bounded r ≡ outwardOf lower upper amount ⌝ }
 {
-    if class == 0 {
+    if amount == 0 {
         return Bounded::Bounds(canonical(lower), canonical(upper));
     }
-    outward(lower, upper, crate::wear::amount(class))
+    outward(lower, upper, amount)
 }
 
-// Whether `widen` would overflow (refusal 5). An amount is at most 2^-4, so only the lower bound -MAX and the upper bound MAX do.
-pub fn overflows(lower: u32, upper: u32, class: usize) -> bool
-    requires { ⌜ («class» < 8) × (faultOf lower upper ≡ 0) ⌝ }
-    ensures { λ r. ⌜ OverflowOf (outwardOf lower upper (amountOf «class»)) r ⌝ }
+// The pattern of 2^127. A sum of two numbers below it is at most the largest number.
+const HALF: u32 = 0x7F00_0000;
+
+// The refusal of `widen`: 5, where the amount is a number. Nothing is worked out for an amount of 0, nor where all three are below 2^127.
+pub fn check_widen(lower: u32, upper: u32, amount: u32) -> Outcome
+    requires { ⌜ faultOf lower upper ≡ 0 ⌝ }
+    ensures { λ r. ⌜ outcome r ≡ then (outwardOf lower upper amount) done ⌝ }
 {
-    if class == 0 {
-        return false;
+    if amount == 0 {
+        return Outcome::Done;
     }
-    if binary32::order::negate(lower) == Binary32::LARGEST {
-        return true;
+    if amount < HALF {
+        if magnitude(lower) < HALF {
+            if magnitude(upper) < HALF {
+                return Outcome::Done;
+            }
+        }
     }
-    upper == Binary32::LARGEST
+    match outward(lower, upper, amount) {
+        Bounded::Bounds(_, _) => Outcome::Done,
+        Bounded::Refused(r) => Outcome::Refused(r),
+    }
 }

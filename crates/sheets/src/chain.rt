@@ -1,10 +1,12 @@
-// Follows the chain of a sheet's cells and checks each record for refusals 7, 8, 6, 10, 3, 4 and 5, in this order. Writes nothing.
+// Follows the chain of a sheet's cells and checks each record for refusals 7, 8, 6, 10, 3, 4 and 5, in this order; `amounts` are the eight wear
+// amounts that the read is held against. Writes nothing.
 ghost use mathlib.Core.Path.{_≡_};
 ghost use Prim.Native.Nat.{_+_, _*_, _≤_};
 ghost use lib.ListN.{length};
 ghost use Rattle.refusals.specs.Answer.{done, outcome, then};
 ghost use Rattle.sheets.specs.Layout.{countOf};
 ghost use Rattle.sheets.specs.Chain.{judgeOf, walkAll};
+use crate::cell::check_widen;
 use crate::layout::Record;
 use crate::layout::record_at;
 use intervals::check;
@@ -26,9 +28,9 @@ pub enum Step {
 }
 
 // Checks one record of the chain: 7, 8, 6, 10, 3, 4, 5. Its position must be `least` or more, one past that of the cell before it.
-fn judge(rows: usize, columns: usize, least: usize, r: Record) -> Outcome
+fn judge(amounts: &[u32; 8], rows: usize, columns: usize, least: usize, r: Record) -> Outcome
     requires { ⌜ (rows ≤ 32) × (columns ≤ 32) ⌝ }
-    ensures { λ v. ⌜ outcome v ≡ then (judgeOf rows columns least r) done ⌝ }
+    ensures { λ v. ⌜ outcome v ≡ then (judgeOf (now (amounts .entry)) rows columns least r) done ⌝ }
 {
     let row = r.row;
     let column = r.column;
@@ -55,16 +57,16 @@ fn judge(rows: usize, columns: usize, least: usize, r: Record) -> Outcome
     if fault != 0 {
         return Outcome::Refused(Refusal::of_cell(fault, 0, i, j));
     }
-    if crate::cell::overflows(r.lower, r.upper, wear) {
-        return Outcome::Refused(Refusal::of_cell(5, 0, i, j));
+    match check_widen(r.lower, r.upper, amounts[wear]) {
+        Outcome::Done => Outcome::Done,
+        Outcome::Refused(x) => Outcome::Refused(Refusal::of_cell(x.number, x.matrix, i, j)),
     }
-    Outcome::Done
 }
 
 // Checks the whole chain, whose first record has the index `first`. Index 0 ends the chain.
-pub fn follow(s: &[u8], rows: usize, columns: usize, first: usize) -> Outcome
+pub fn follow(amounts: &[u32; 8], s: &[u8], rows: usize, columns: usize, first: usize) -> Outcome
     requires { ⌜ (rows ≤ 32) × (columns ≤ 32) × (16 * countOf (now s) ≡ length (now s)) ⌝ }
-    ensures { λ v. ⌜ outcome v ≡ walkAll (now (s .entry)) rows columns first .verdict ⌝ }
+    ensures { λ v. ⌜ outcome v ≡ walkAll (now (amounts .entry)) (now (s .entry)) rows columns first .verdict ⌝ }
 {
     let mut index = first;
     let mut least = 0;
@@ -73,7 +75,7 @@ pub fn follow(s: &[u8], rows: usize, columns: usize, first: usize) -> Outcome
             return Outcome::Refused(Refusal::of_matrix(7, 0));
         }
         let r = record_at(s, index);
-        match judge(rows, columns, least, r) {
+        match judge(amounts, rows, columns, least, r) {
             Outcome::Done => {
                 index = r.next;
                 least = r.row * columns + r.column + 1;

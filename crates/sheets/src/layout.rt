@@ -32,7 +32,7 @@ pub fn u16_at(s: &[u8], p: usize) -> usize
 }
 
 // The four-byte number at byte p.
-fn u32_at(s: &[u8], p: usize) -> u32
+pub fn u32_at(s: &[u8], p: usize) -> u32
     requires { ⌜ p + 3 < length (now s) ⌝ }
     ensures { λ r. ⌜ r ≡ u32At (now (s .entry)) p ⌝ }
 {

@@ -1,7 +1,7 @@
 // The coupling sheet: a matrix of intervals as records of 16 bytes, each with the index of the next one. Reading, writing, and the checks of both.
 ghost use mathlib.Core.Path.{_≡_};
 ghost use lib.ListN.{length};
-ghost use Rattle.sheets.specs.Reading.{shape, readOf, lowersAfter, uppersAfter};
+ghost use Rattle.sheets.specs.Reading.{shape, readOf, lowersAfter, uppersAfter, readWith, lowersWith, uppersWith};
 ghost use Rattle.sheets.specs.Writing.{written, writeOf, outAfter, frontOf};
 ghost use Rattle.sheets.specs.Trip.{TripOf};
 
@@ -9,12 +9,13 @@ mod cell;
 mod chain;
 pub mod cut;
 mod layout;
+mod load;
 mod matrix;
+mod reading;
 mod records;
 mod tally;
 mod wear;
 
-use intervals::slices::clear;
 use refusals::Outcome;
 use refusals::Refusal;
 use refusals::sizes::check_fit;
@@ -32,39 +33,28 @@ pub enum Written {
     Refused(Refusal),
 }
 
-// The answer of a read into slices of these lengths. Checks length and head (6), sizes (1), slice lengths (2), then each cell of the chain.
-pub fn check_read(s: &[u8], lowers: usize, uppers: usize) -> Shape
-    ensures { λ r. ⌜ shape r ≡ readOf (now (s .entry)) lowers uppers ⌝ }
-{
-    if !layout::is_framed(s) {
-        return Shape::Refused(Refusal::of_matrix(6, 0));
-    }
-    let rows = layout::byte(s, 2);
-    let columns = layout::byte(s, 3);
-    match check_fit(0, rows, columns, lowers, uppers) {
-        Outcome::Refused(r) => Shape::Refused(r),
-        Outcome::Done => match chain::follow(s, rows, columns, layout::u16_at(s, 0)) {
-            Outcome::Done => Shape::Sizes(rows, columns),
-            Outcome::Refused(r) => Shape::Refused(r),
-        },
-    }
-}
-
-// Reads the matrix of a sheet into the front of the two slices; a refusal leaves both as they were.
+// Reads the matrix of a sheet, each cell widened by its wear class, into the front of the two slices; a refusal leaves both as they were.
 pub fn read(s: &[u8], lowers: &mut [u32], uppers: &mut [u32]) -> Shape
     ensures answer { λ r. ⌜ shape r ≡ readOf (now (s .entry)) (length (now (lowers .entry))) (length (now (uppers .entry))) ⌝ }
     ensures below { λ r. ⌜ now (lowers .exit) ≡ lowersAfter (now (s .entry)) (shape r) (now (lowers .entry)) ⌝ }
     ensures above { λ r. ⌜ now (uppers .exit) ≡ uppersAfter (now (s .entry)) (shape r) (now (uppers .entry)) ⌝ }
 {
-    match check_read(s, lowers.len(), uppers.len()) {
-        Shape::Sizes(rows, columns) => {
-            clear(rows * columns, lowers);
-            clear(rows * columns, uppers);
-            matrix::fill(s, rows, columns, layout::u16_at(s, 0), lowers, uppers);
-            Shape::Sizes(rows, columns)
-        }
-        Shape::Refused(r) => Shape::Refused(r),
+    let fixed = wear::fixed();
+    reading::read(&fixed, s, lowers, uppers)
+}
+
+// The same with a mill's own amounts, eight patterns in 32 bytes, in the place of the fixed table. They are checked first: 6, 3, 13.
+pub fn read_with(amounts: &[u8], s: &[u8], lowers: &mut [u32], uppers: &mut [u32]) -> Shape
+    ensures answer { λ r. ⌜ shape r ≡ readWith (now (amounts .entry)) (now (s .entry)) (length (now (lowers .entry))) (length (now (uppers .entry))) ⌝ }
+    ensures below { λ r. ⌜ now (lowers .exit) ≡ lowersWith (now (amounts .entry)) (now (s .entry)) (shape r) (now (lowers .entry)) ⌝ }
+    ensures above { λ r. ⌜ now (uppers .exit) ≡ uppersWith (now (amounts .entry)) (now (s .entry)) (shape r) (now (uppers .entry)) ⌝ }
+{
+    let load = load::read(amounts);
+    if load.fault != 0 {
+        return Shape::Refused(Refusal::of_matrix(load.fault, 0));
     }
+    let loaded = load.amounts;
+    reading::read(&loaded, s, lowers, uppers)
 }
 
 // The answer of a write into a buffer of `room` bytes. Checks sizes (1), slice lengths (2), the cells by rows (3, 4), then the room (11).

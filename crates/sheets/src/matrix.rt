@@ -5,7 +5,7 @@ ghost use lib.ListN.{length};
 ghost use Rattle.refusals.specs.Answer.{done};
 ghost use Rattle.intervals.specs.Conversion.{faultOf};
 ghost use Rattle.sheets.specs.Layout.{countOf};
-ghost use Rattle.sheets.specs.Wear.{amountOf};
+ghost use Rattle.sheets.specs.Wear.{amountIn};
 ghost use Rattle.sheets.specs.Cell.{widenedOf};
 ghost use Rattle.sheets.specs.Chain.{stepped, cellFrom, walkAll};
 ghost use Rattle.sheets.specs.Reading.{putIn, cellLower, cellUpper};
@@ -17,13 +17,14 @@ use intervals::Bounded;
 use refusals::Refusal;
 
 // The widened cell of a record that passed all checks.
-fn passed(columns: usize, r: Record) -> Step
+fn passed(amounts: &[u32; 8], columns: usize, r: Record) -> Step
     requires { ⌜ (columns ≤ 32) × (r .row < 32) × (r .column < 32) × (r .wear < 8) × (faultOf (r .lower) (r .upper) ≡ 0) ⌝ }
-    ensures { λ s. ⌜ stepped s ≡ cellFrom columns r (widenedOf (r .lower) (r .upper) (amountOf (r .wear))) ⌝ }
+    ensures { λ s. ⌜ stepped s ≡ cellFrom columns r (widenedOf (r .lower) (r .upper) (amountIn (now (amounts .entry)) (r .wear))) ⌝ }
 {
     let row = r.row;
     let column = r.column;
-    match crate::cell::widen(r.lower, r.upper, r.wear) {
+    let wear = r.wear;
+    match crate::cell::widen(r.lower, r.upper, amounts[wear]) {
         Bounded::Bounds(a, b) => Step::Cell(Cell {
             next: r.next,
             position: row * columns + column,
@@ -40,6 +41,7 @@ fn passed(columns: usize, r: Record) -> Step
 
 // Puts the cells of the chain at their positions. The loop ends because positions rise; `least` serves only that proof.
 pub fn fill(
+    amounts: &[u32; 8],
     s: &[u8],
     rows: usize,
     columns: usize,
@@ -49,14 +51,14 @@ pub fn fill(
 )
     requires { ⌜ (rows ≤ 32) × (columns ≤ 32) × (16 * countOf (now s) ≡ length (now s))
         × (rows * columns ≤ length (now lowers)) × (rows * columns ≤ length (now uppers))
-        × (walkAll (now s) rows columns first .verdict ≡ done) ⌝ }
-    ensures { λ _. ⌜ (now (lowers .exit) ≡ putIn cellLower (now (lowers .entry)) (walkAll (now (s .entry)) rows columns first .cells))
-        × (now (uppers .exit) ≡ putIn cellUpper (now (uppers .entry)) (walkAll (now (s .entry)) rows columns first .cells)) ⌝ }
+        × (walkAll (now amounts) (now s) rows columns first .verdict ≡ done) ⌝ }
+    ensures { λ _. ⌜ (now (lowers .exit) ≡ putIn cellLower (now (lowers .entry)) (walkAll (now (amounts .entry)) (now (s .entry)) rows columns first .cells))
+        × (now (uppers .exit) ≡ putIn cellUpper (now (uppers .entry)) (walkAll (now (amounts .entry)) (now (s .entry)) rows columns first .cells)) ⌝ }
 {
     let mut index = first;
     let mut least = 0;
     while index != 0 {
-        match passed(columns, record_at(s, index)) {
+        match passed(amounts, columns, record_at(s, index)) {
             Step::Cell(c) => {
                 let position = c.position;
                 lowers[position] = c.lower;

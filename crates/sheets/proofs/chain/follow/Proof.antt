@@ -12,11 +12,11 @@ use Rattle.sheets.proofs.chain.follow.Statement.{statement}
 use Rattle.sheets.proofs.chain.follow.Tie as tie
 
 abbrev Inv-loop : tie.InvT-loop
-Inv-loop s rows columns first index₀ least₀ index least =
-    (t : ℕ) × (rows * columns < t + least) × (least ≤ rows * columns) × (walk s rows columns (rows * columns + 1) first 0 .verdict ≡ walk s rows columns t index least .verdict)
+Inv-loop amounts s rows columns first index₀ least₀ index least =
+    (t : ℕ) × (rows * columns < t + least) × (least ≤ rows * columns) × (walk amounts s rows columns (rows * columns + 1) first 0 .verdict ≡ walk amounts s rows columns t index least .verdict)
 
 abbrev μ-loop : tie.MeasureT-loop
-μ-loop s rows columns first index₀ least₀ index least = rows * columns - least
+μ-loop amounts s rows columns first index₀ least₀ index least = rows * columns - least
 
 loop-holds : tie.Need-loop-holds Inv-loop μ-loop
 loop-holds c = (c .before .args .rows * c .before .args .columns + 1, omega arith, omega arith, refl)
@@ -29,7 +29,7 @@ returns c =
     let h = c .before .before .before .loop in
     ap refuses (c .of-matrix .ensures)
     ∙ sym (h .inv .3 ∙ ap (λ (w : Walk). w .verdict)
-    (walk-turn _ _ _ (h .inv .0) (h .inv .0 - 1) _ _ (omega arith) (omega arith) _ (sym (visit-past _ _ _ (h .index) (h .least) (omega arith)))))
+    (walk-turn _ _ _ _ (h .inv .0) (h .inv .0 - 1) _ _ (omega arith) (omega arith) _ (sym (visit-past _ _ _ _ (h .index) (h .least) (omega arith)))))
 
 record-at-requires : tie.Need-record-at-requires Inv-loop μ-loop
 record-at-requires c κs = omega arith
@@ -47,12 +47,12 @@ turned : (c : tie.After-enum-told Inv-loop μ-loop) →
     let a = h .before .before .args in
     let r = k .record-at .result in
     (h .loop .least ≤ positionOf (a .columns) r) × (positionOf (a .columns) r < a .rows * a .columns) × (a .rows * a .columns ≤ 1024)
-    × (walk (a .s .now) (a .rows) (a .columns) (h .loop .inv .0) (h .loop .index) (h .loop .least) .verdict ≡ walk (a .s .now) (a .rows) (a .columns) (h .loop .inv .0 - 1) (r .next) (positionOf (a .columns) r + 1) .verdict)
+    × (walk (a .amounts .now) (a .s .now) (a .rows) (a .columns) (h .loop .inv .0) (h .loop .index) (h .loop .least) .verdict ≡ walk (a .amounts .now) (a .s .now) (a .rows) (a .columns) (h .loop .inv .0 - 1) (r .next) (positionOf (a .columns) r + 1) .verdict)
 turned c =
     let k = c .before .before .before in
     let h = k .before .before .before in
     let a = h .before .before .args in
-    let j = turn-passed (a .s .now) (a .rows) (a .columns) (h .loop .inv .0) (h .loop .inv .0 - 1) (h .loop .index) (h .loop .least) (omega arith) (omega arith) (k .record-at .result) _ (omega arith) (k .record-at .ensures) (c .before .before .judge .ensures) (ap outcome (c .enum-told .given .1)) in
+    let j = turn-passed (a .amounts .now) (a .s .now) (a .rows) (a .columns) (h .loop .inv .0) (h .loop .inv .0 - 1) (h .loop .index) (h .loop .least) (omega arith) (omega arith) (k .record-at .result) _ (omega arith) (k .record-at .ensures) (c .before .before .judge .ensures) (ap outcome (c .enum-told .given .1)) in
     (j .1 .free, digits-lt (j .1 .row) (j .1 .column), small (a .rows) (a .columns) (omega arith) (omega arith), j .2)
 
 mul-least : tie.Need-mul-least Inv-loop μ-loop
@@ -83,10 +83,10 @@ returns-2 c =
     let h = k .before .before .before .loop in
     sym
     (h .inv .3
-    ∙ turn-refused _ _ _ (h .inv .0) (h .inv .0 - 1) (h .index) (h .least) (omega arith) (omega arith) (k .record-at .result) _ (omega arith) (k .record-at .ensures) (c .before .before .before .judge .ensures) _ (ap outcome (c .before .x .given .1)))
+    ∙ turn-refused _ _ _ _ (h .inv .0) (h .inv .0 - 1) (h .index) (h .least) (omega arith) (omega arith) (k .record-at .result) _ (omega arith) (k .record-at .ensures) (c .before .before .before .judge .ensures) _ (ap outcome (c .before .x .given .1)))
 
 returns-3 : tie.Need-returns-3 Inv-loop μ-loop
-returns-3 c = sym (c .before .loop .inv .3 ∙ ap (λ (w : Walk). w .verdict) (walk-end _ _ _ _ _ _ (omega arith)))
+returns-3 c = sym (c .before .loop .inv .3 ∙ ap (λ (w : Walk). w .verdict) (walk-end _ _ _ _ _ _ _ (omega arith)))
 
 pub follow-spec : {M : Type 1} → statement M
 follow-spec =

@@ -15,14 +15,14 @@ use Rattle.sheets.proofs.matrix.fill.Statement.{statement}
 use Rattle.sheets.proofs.matrix.fill.Tie as tie
 
 abbrev Inv-loop : tie.InvT-loop
-Inv-loop s rows columns first lowers₀ uppers₀ index₀ least₀ lowers uppers index least =
+Inv-loop amounts s rows columns first lowers₀ uppers₀ index₀ least₀ lowers uppers index least =
     (t : ℕ) × (rows * columns < t + least) × (least ≤ rows * columns) × (length lowers ≡ length lowers₀) × (length uppers ≡ length uppers₀)
-    × (walk s rows columns t index least .verdict ≡ done)
-    × (putIn cellLower lowers (walk s rows columns t index least .cells) ≡ putIn cellLower lowers₀ (walk s rows columns (rows * columns + 1) first 0 .cells))
-    × (putIn cellUpper uppers (walk s rows columns t index least .cells) ≡ putIn cellUpper uppers₀ (walk s rows columns (rows * columns + 1) first 0 .cells))
+    × (walk amounts s rows columns t index least .verdict ≡ done)
+    × (putIn cellLower lowers (walk amounts s rows columns t index least .cells) ≡ putIn cellLower lowers₀ (walk amounts s rows columns (rows * columns + 1) first 0 .cells))
+    × (putIn cellUpper uppers (walk amounts s rows columns t index least .cells) ≡ putIn cellUpper uppers₀ (walk amounts s rows columns (rows * columns + 1) first 0 .cells))
 
 abbrev μ-loop : tie.MeasureT-loop
-μ-loop s rows columns first lowers₀ uppers₀ index₀ least₀ lowers uppers index least = rows * columns - least
+μ-loop amounts s rows columns first lowers₀ uppers₀ index₀ least₀ lowers uppers index least = rows * columns - least
 
 loop-holds : tie.Need-loop-holds Inv-loop μ-loop
 loop-holds c =
@@ -33,10 +33,10 @@ loop-holds c =
 passing : (c : tie.In-loop Inv-loop μ-loop) →
     let h = c .before in
     let a = h .before .before .before .before .args in
-    Passing (a .s .now) (a .rows) (a .columns) (h .loop .index) (h .loop .least)
+    Passing (a .amounts .now) (a .s .now) (a .rows) (a .columns) (h .loop .index) (h .loop .least)
 passing c =
     let h = c .before .loop in
-    walk-passing _ _ _ (h .inv .0) (h .inv .0 - 1) (h .index) (h .least) (omega arith) (omega arith) (h .inv .5)
+    walk-passing _ _ _ _ (h .inv .0) (h .inv .0 - 1) (h .index) (h .least) (omega arith) (omega arith) (h .inv .5)
 
 record-at-requires : tie.Need-record-at-requires Inv-loop μ-loop
 record-at-requires c κs = omega (arith, passing c .index)
@@ -53,8 +53,8 @@ enum-known-c c = search needs
 visited : (c : tie.After-passed Inv-loop μ-loop) (v : Step) → c .passed .result ≡ v →
     let h = c .before .before .before in
     let a = h .before .before .before .before .args in
-    visitOf (a .s .now) (a .rows) (a .columns) (h .loop .index) (h .loop .least) ≡ stepped v
-visited c v e = visit-passing _ _ _ _ _ _ _ (passing (c .before .before)) (c .before .record-at .ensures) (c .passed .ensures) ∙ ap stepped e
+    visitOf (a .amounts .now) (a .s .now) (a .rows) (a .columns) (h .loop .index) (h .loop .least) ≡ stepped v
+visited c v e = visit-passing _ _ _ _ _ _ _ _ (passing (c .before .before)) (c .before .record-at .ensures) (c .passed .ensures) ∙ ap stepped e
 
 -- a turn that passes the cell x
 turned : (c : tie.After-known-told Inv-loop μ-loop) →
@@ -62,13 +62,13 @@ turned : (c : tie.After-known-told Inv-loop μ-loop) →
     let a = h .before .before .before .before .args in
     let x = c .before .c .given .0 .0 in
     (h .loop .least ≤ x .position) × (x .position < a .rows * a .columns) × (a .rows * a .columns ≤ 1024)
-    × (walk (a .s .now) (a .rows) (a .columns) (h .loop .inv .0) (h .loop .index) (h .loop .least) ≡ more x (walk (a .s .now) (a .rows) (a .columns) (h .loop .inv .0 - 1) (x .next) (x .position + 1)))
+    × (walk (a .amounts .now) (a .s .now) (a .rows) (a .columns) (h .loop .inv .0) (h .loop .index) (h .loop .least) ≡ more x (walk (a .amounts .now) (a .s .now) (a .rows) (a .columns) (h .loop .inv .0 - 1) (x .next) (x .position + 1)))
 turned c =
     let h = c .before .before .before .before .before .before in
     let a = h .before .before .before .before .args in
     let e = visited (c .before .before .before) _ (c .before .c .given .1) in
-    let j = visit-position (a .s .now) (a .rows) (a .columns) (h .loop .index) (h .loop .least) _ e in
-    (j .0, j .1, small (a .rows) (a .columns) (omega arith) (omega arith), walk-turn _ _ _ (h .loop .inv .0) (h .loop .inv .0 - 1) _ _ (omega arith) (omega arith) (gives _) e)
+    let j = visit-position (a .amounts .now) (a .s .now) (a .rows) (a .columns) (h .loop .index) (h .loop .least) _ e in
+    (j .0, j .1, small (a .rows) (a .columns) (omega arith) (omega arith), walk-turn _ _ _ _ (h .loop .inv .0) (h .loop .inv .0 - 1) _ _ (omega arith) (omega arith) (gives _) e)
 
 mul-lowers : tie.Need-mul-lowers Inv-loop μ-loop
 mul-lowers c = let j = turned c in omega arith
@@ -114,7 +114,7 @@ same-length-2 c = search needs
 returns : tie.Need-returns Inv-loop μ-loop
 returns c =
     let h = c .before .before .before .before .before .loop in
-    let w = walk-turn _ _ _ (h .inv .0) (h .inv .0 - 1) _ _ (omega arith) (omega arith) (refuses _) (visited (c .before .before) _ (c .enum-told .given .1)) in
+    let w = walk-turn _ _ _ _ (h .inv .0) (h .inv .0 - 1) _ _ (omega arith) (omega arith) (refuses _) (visited (c .before .before) _ (c .enum-told .given .1)) in
     (sym (put-none cellLower _ _ _ w) ∙ h .inv .6, sym (put-none cellUpper _ _ _ w) ∙ h .inv .7)
 
 same-length-3 : tie.Need-same-length-3 Inv-loop μ-loop
@@ -126,7 +126,7 @@ same-length-4 c = search needs
 returns-2 : tie.Need-returns-2 Inv-loop μ-loop
 returns-2 c =
     let h = c .before .loop in
-    let w = walk-end _ _ _ (h .inv .0) (h .index) (h .least) (omega arith) in
+    let w = walk-end _ _ _ _ (h .inv .0) (h .index) (h .least) (omega arith) in
     (sym (put-none cellLower _ _ _ w) ∙ h .inv .6, sym (put-none cellUpper _ _ _ w) ∙ h .inv .7)
 
 pub fill-spec : {M : Type 1} → statement M

@@ -7,11 +7,17 @@ use Rattle.refusals.proofs.Answers.{passing-on, said}
 use Rattle.refusals.proofs.SizeLaws.{small}
 use Rattle.intervals.specs.Conversion.{bounded}
 use Rattle.intervals.specs.declared.Bounded.{Bounded}
-use Rattle.sheets.specs.Wear.{amountOf}
+use Rattle.sheets.specs.Wear.{amountIn}
 use Rattle.sheets.specs.Cell.{widenedOf}
 use Rattle.sheets.specs.Chain.{cellFrom}
 use Rattle.sheets.proofs.matrix.passed.Statement.{statement}
 use Rattle.sheets.proofs.matrix.passed.Tie as tie
+
+mul-widen : tie.Need-mul-widen
+mul-widen c = omega arith
+
+element-copy-out-widen : tie.Need-element-copy-out-widen
+element-copy-out-widen c = search needs
 
 widen-requires : tie.Need-widen-requires
 widen-requires c κs = search needs
@@ -19,14 +25,14 @@ widen-requires c κs = search needs
 enum-known-a : tie.Need-enum-known-a
 enum-known-a c = search needs
 
-mul-t12 : tie.Need-mul-t12
-mul-t12 c =
-    let a = c .before .before .before .before .args in
+mul-t18 : tie.Need-mul-t18
+mul-t18 c =
+    let a = c .before .before .before .before .before .args in
     omega (arith, small (a .r .row) (a .columns) (omega arith) (omega arith))
 
-add-t13 : tie.Need-add-t13
-add-t13 c =
-    let a = c .before .before .before .before .args in
+add-t19 : tie.Need-add-t19
+add-t19 c =
+    let a = c .before .before .before .before .before .args in
     omega (arith, small (a .r .row) (a .columns) (omega arith) (omega arith))
 
 enum-known-x : tie.Need-enum-known-x
@@ -43,10 +49,10 @@ of-cell-requires c κs = search needs
 
 -- the cell by its widened bounds v
 cell : (c : tie.After-widen) (v : Bounded) → c .widen .result ≡ v →
-    let a = c .before .args in
-    cellFrom (a .columns) (a .r) (bounded v) ≡ cellFrom (a .columns) (a .r) (widenedOf (a .r .lower) (a .r .upper) (amountOf (a .r .wear)))
+    let a = c .before .before .args in
+    cellFrom (a .columns) (a .r) (bounded v) ≡ cellFrom (a .columns) (a .r) (widenedOf (a .r .lower) (a .r .upper) (amountIn (a .amounts .now) (a .r .wear)))
 unfolding widenedOf
-cell c v e = ap (cellFrom (c .before .args .columns) (c .before .args .r)) (said bounded (c .widen .ensures) e ∙ passing-on _ _ (c .before .pre .4))
+cell c v e = ap (cellFrom (c .before .before .args .columns) (c .before .before .args .r)) (said bounded (c .widen .ensures) e ∙ passing-on _ _ (c .before .before .pre .4))
 
 returns : tie.Need-returns
 returns c = cell (c .before .before .before) _ (c .before .a .given .1)
@@ -58,10 +64,12 @@ pub passed-spec : {M : Type 1} → statement M
 passed-spec =
     tie.close
     (tie.spec
+    mul-widen
+    element-copy-out-widen
     widen-requires
     enum-known-a
-    mul-t12
-    add-t13
+    mul-t18
+    add-t19
     enum-known-x
     cast-i
     cast-j

@@ -1,4 +1,4 @@
--- `check_read` meets its contract.
+-- `reading::check` meets its contract.
 use mathlib.Core.Path.{_≡_, sym, ap, _∙_}
 use mathlib.Core.Bool.{true}
 use native.Mathlib.Omega.{arith}
@@ -9,8 +9,8 @@ use Rattle.refusals.proofs.SizeLaws.{fit-said}
 use Rattle.sheets.specs.Layout.{framed}
 use Rattle.sheets.proofs.Frames.{framed-tells}
 use Rattle.sheets.proofs.Answers.{read-unframed, read-fit, read-followed}
-use Rattle.sheets.proofs.check_read.Statement.{statement}
-use Rattle.sheets.proofs.check_read.Tie as tie
+use Rattle.sheets.proofs.reading.check.Statement.{statement}
+use Rattle.sheets.proofs.reading.check.Tie as tie
 
 is-framed-requires : tie.Need-is-framed-requires
 is-framed-requires c κs = search needs
@@ -19,7 +19,7 @@ of-matrix-requires : tie.Need-of-matrix-requires
 of-matrix-requires c κs = search needs
 
 returns : tie.Need-returns
-returns c = ap refuses (c .of-matrix .ensures) ∙ read-unframed _ _ _ (sym (c .before .before .is-framed .ensures) ∙ not-true _ (c .before .if1 .taken))
+returns c = ap refuses (c .of-matrix .ensures) ∙ read-unframed _ _ _ _ (sym (c .before .before .is-framed .ensures) ∙ not-true _ (c .before .if1 .taken))
 
 -- 6 on length and head has passed
 frame : (c : tie.Else1) → framed (c .before .before .before .args .s .now) ≡ true
@@ -59,7 +59,7 @@ returns-2 : tie.Need-returns-2
 returns-2 c =
     let f = c .before .before .before in
     let b = f .before .before in
-    read-fit _ _ _ _ _ _ _ (frame (b .before)) (b .byte .ensures .0) (f .before .byte2 .ensures .0) (f .check-fit .ensures) (c .before .r .given .1)
+    read-fit _ _ _ _ _ _ _ _ (frame (b .before)) (b .byte .ensures .0) (f .before .byte2 .ensures .0) (f .check-fit .ensures) (c .before .r .given .1)
 
 returns-3 : tie.Need-returns-3
 returns-3 c =
@@ -67,7 +67,7 @@ returns-3 c =
     let m = w .before .before in
     let f = m .before .before in
     let b = f .before .before in
-    read-followed _ _ _ _ _ _ _ _ _ (frame (b .before)) (b .byte .ensures .0) (f .before .byte2 .ensures .0) (f .check-fit .ensures) (m .enum-told .given .1)
+    read-followed _ _ _ _ _ _ _ _ _ _ (frame (b .before)) (b .byte .ensures .0) (f .before .byte2 .ensures .0) (f .check-fit .ensures) (m .enum-told .given .1)
     (w .before .u16-at .ensures .0) (w .follow .ensures) (c .enum-told2 .given .1)
 
 returns-4 : tie.Need-returns-4
@@ -76,11 +76,11 @@ returns-4 c =
     let m = w .before .before in
     let f = m .before .before in
     let b = f .before .before in
-    read-followed _ _ _ _ _ _ _ _ _ (frame (b .before)) (b .byte .ensures .0) (f .before .byte2 .ensures .0) (f .check-fit .ensures) (m .enum-told .given .1)
+    read-followed _ _ _ _ _ _ _ _ _ _ (frame (b .before)) (b .byte .ensures .0) (f .before .byte2 .ensures .0) (f .check-fit .ensures) (m .enum-told .given .1)
     (w .before .u16-at .ensures .0) (w .follow .ensures) (c .before .r2 .given .1)
 
-pub check-read-spec : {M : Type 1} → statement M
-check-read-spec =
+pub check-spec : {M : Type 1} → statement M
+check-spec =
     tie.close
     (tie.spec
     is-framed-requires
