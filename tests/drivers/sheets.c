@@ -91,7 +91,7 @@ int main(int argc, char **argv)
 {
     if (argc == 2 && strcmp(argv[1], "stored") == 0)
         return answer_stored_sheets();
-    for (int i = 0; i < 3; i++)
+    for (size_t i = 0; i < sizeof comparisons / sizeof comparisons[0]; i++)
         if (argc > 2 && strcmp(argv[1], comparisons[i].word) == 0)
             return compare(run_of(argc - 2, argv + 2), &comparisons[i]);
     fprintf(stderr, "usage: sheets read|with|write SEED COUNT [FIRST], or sheets stored\n");

@@ -37,7 +37,7 @@ signed-order false true m n M N grows falls z w h =
     subst (λ k. pos M ≼ negℤ (pos k)) (sym N₀) (subst (λ k. pos k ≼ pos 0) (sym M₀) (≼-refl (pos 0)))
 signed-order true true m n M N grows falls z w h = neg-le (falls (of-neg-le h))
 
-val-zero : val binary32 0 ≡ 0
+pub val-zero : val binary32 0 ≡ 0
 unfolding val
 val-zero = refl
 

@@ -16,7 +16,7 @@ use Rattle.sheets.specs.Writing.{written}
 use Rattle.matrices.specs.Checks.{Given}
 use Rattle.matrices.specs.Product.{Left}
 use Rattle.matrices.specs.Demand.{Keeps}
-use Rattle.coupling.specs.Cells.{sizesCode, Small, Short, Answered}
+use Rattle.coupling.specs.Cells.{sizesCode, SmallSizes, Short, Answered}
 use Rattle.coupling.specs.Conversions.{firstAfter, secondAfter, OptimalWords}
 
 -- a read leaves `lowers` and `uppers` by its answer; the code's answer is v, and r the number for it
@@ -35,9 +35,9 @@ short (W.Bytes n) e h = h n e
 short (W.Refused x) e h = tt
 
 -- sizes that are read are small, where the code's answer z is o
-pub small : (z : Shape) {o : Answer (ℕ × ℕ)} {l u : ℕ} → shape z ≡ o → ((r c : ℕ) → gives (r, c) ≡ o → Fitting r c l u) → Small z
-small (S.Sizes r c) e h = let f = h r c e in (f .rows, f .columns)
-small (S.Refused x) e h = tt
+pub small-sizes : (z : Shape) {o : Answer (ℕ × ℕ)} {l u : ℕ} → shape z ≡ o → ((r c : ℕ) → gives (r, c) ≡ o → Fitting r c l u) → SmallSizes z
+small-sizes (S.Sizes r c) e h = let f = h r c e in (f .rows, f .columns)
+small-sizes (S.Refused x) e h = tt
 
 -- a product's answer as one number
 pub answered : {g : Given} {ma ra mb rb lo up : List ℕ} {o : Answer (Unit {0})} {r : ℕ} {ma′ ra′ mb′ rb′ lo′ up′ : List ℕ} → Left g ma ra mb rb lo up o ma′ ra′ mb′ rb′ lo′ up′

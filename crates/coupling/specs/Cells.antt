@@ -16,9 +16,9 @@ abbrev pub sizesCode : ℕ × ℕ → ℕ
 sizesCode x = 100 * x .0 + x .1
 
 -- sizes that were read are small, so that their number fits 32 bits
-abbrev pub Small : Shape → Type 0
-Small (S.Sizes rows columns) = (rows ≤ 32) × (columns ≤ 32)
-Small (S.Refused r) = Unit {0}
+abbrev pub SmallSizes : Shape → Type 0
+SmallSizes (S.Sizes rows columns) = (rows ≤ 32) × (columns ≤ 32)
+SmallSizes (S.Refused r) = Unit {0}
 
 -- a length that was written fits 32 bits: no sheet is longer than 16,400 bytes
 abbrev pub Short : Written → Type 0

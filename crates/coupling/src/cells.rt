@@ -6,13 +6,13 @@ ghost use Rattle.refusals.specs.Answer.{coded};
 ghost use Rattle.sheets.specs.Reading.{shape, readOf, lowersAfter, uppersAfter, readWith, lowersWith, uppersWith};
 ghost use Rattle.sheets.specs.Writing.{writeOf, outAfter};
 ghost use Rattle.sheets.specs.Trip.{TripOf};
-ghost use Rattle.coupling.specs.Cells.{sizesCode, Small, Called};
+ghost use Rattle.coupling.specs.Cells.{sizesCode, SmallSizes, Called};
 use crate::length_code;
 use sheets::Shape;
 
 // The answer of a read: 100 × rows + columns, or the refusal's code.
 fn sizes_code(s: Shape) -> u32
-    requires { ⌜ Small s ⌝ }
+    requires { ⌜ SmallSizes s ⌝ }
     ensures { λ r. ⌜ r ≡ coded sizesCode (shape s) ⌝ }
 {
     match s {

@@ -1,20 +1,20 @@
 -- Bounds and an amount below 2^127: the sum of two such numbers is at most the largest number, so widening is not refused. Assumes nothing.
 use mathlib.Core.Path.{_≡_, refl, ap, ap₂, subst, _∙_}
 use mathlib.Core.Bool.{Bool, true, false}
-use mathlib.Core.List.{List, [], _∷_}
+use mathlib.Core.List.{[], _∷_}
 use Prim.Native.Nat.{ℕ, _+_, _*_, _%_, _^_, _≤_, _<_}
 use native.Mathlib.Omega.{arith}
 use lib.Dec.{leb, lit<}
 use lib.IntN.{ℤ, pos, negℤ, _+ℤ_, _-ℤ_}
 use Rattle.algebra.specs.Order.{_≼_}
 use Rattle.algebra.proofs.Linear.{reading, le, lin-le}
-use Rattle.algebra.proofs.Order.{nonneg}
 use Rattle.algebra.proofs.Natural.{of-le}
 use Rattle.rounding.specs.Format.{binary32, MAX}
 use Rattle.rounding.specs.Pattern.{val}
 use Rattle.rounding.specs.Rounding.{up, down, negate}
 use Rattle.rounding.proofs.Directed.{up-number}
 use Rattle.rounding.proofs.Pattern.{val-le}
+use Rattle.rounding.proofs.Sign.{neg-le, neg-le-pos}
 use Rattle.refusals.specs.Answer.{gives, both}
 use Rattle.binary32.specs.Number.{signedBy, valueOf, finite}
 use Rattle.binary32.specs.Operations.{add, sub, answerOf}
@@ -41,10 +41,8 @@ half-finite p h = is-finite p (omega arith)
 -- ---- the value of such a number lies between -half and half
 
 within : (t : Bool) (n m : ℕ) → n ≤ m → (negℤ (pos m) ≼ signedBy t n) × (signedBy t n ≼ pos m)
-within true n m h =
-    let xs : List ℤ = pos n ∷ pos m ∷ [] in
-    (lin-le xs (le (of-le h) ∷ []) (search reading depth 20) (omega arith), lin-le xs (le (nonneg n) ∷ le (nonneg m) ∷ []) (search reading depth 20) (omega arith))
-within false n m h = (lin-le (pos n ∷ pos m ∷ []) (le (nonneg n) ∷ le (nonneg m) ∷ []) (search reading depth 20) (omega arith), of-le h)
+within true n m h = (neg-le h, neg-le-pos n m)
+within false n m h = (neg-le-pos m n, of-le h)
 
 half-value : (p : ℕ) → Half p → (negℤ (pos half) ≼ valueOf p) × (valueOf p ≼ pos half)
 unfolding valueOf

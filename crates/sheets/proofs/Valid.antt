@@ -19,6 +19,7 @@ use Rattle.refusals.proofs.Answers.{and-tells}
 use Rattle.binary32.specs.Number.{signedBy, valueOf, finite}
 use Rattle.binary32.specs.Order.{magnitudeOf, atMost}
 use Rattle.binary32.proofs.Held.{is-finite}
+use Rattle.binary32.proofs.Orders.{val-zero}
 use Rattle.sheets.specs.Wear.{amountIn}
 use Rattle.sheets.specs.Load.{patternsOf, allFinite, rising, ascending, amountsFault, loadFault}
 use Rattle.sheets.proofs.AllFrom.{and-is, all-tells, all-are}
@@ -31,13 +32,9 @@ pub record Valid (amounts : List ℕ) : Type 0 where
 
 -- ---- the tests: zero of either sign, and at most by value
 
-val-none : val binary32 0 ≡ 0
-unfolding val
-val-none = refl
-
 zero-of : (p : ℕ) → magnitudeOf p ≡ 0 → Zero p
 unfolding valueOf
-zero-of p e = (is-finite p (omega arith), ap (λ (m : ℕ). signedBy (leb (2 ^ 31) p) (val binary32 m)) e ∙ ap (signedBy (leb (2 ^ 31) p)) val-none ∙ go (leb (2 ^ 31) p))
+zero-of p e = (is-finite p (omega arith), ap (λ (m : ℕ). signedBy (leb (2 ^ 31) p) (val binary32 m)) e ∙ ap (signedBy (leb (2 ^ 31) p)) val-zero ∙ go (leb (2 ^ 31) p))
   where
     go : (t : Bool) → signedBy t 0 ≡ pos 0
     go true = refl
@@ -45,7 +42,7 @@ zero-of p e = (is-finite p (omega arith), ap (λ (m : ℕ). signedBy (leb (2 ^ 3
 
 of-zero : (p : ℕ) → Zero p → magnitudeOf p ≡ 0
 unfolding valueOf
-of-zero p z = val-injective binary32 (go (leb (2 ^ 31) p) (val binary32 (p % 2 ^ 31)) (z .1) ∙ sym val-none)
+of-zero p z = val-injective binary32 (go (leb (2 ^ 31) p) (val binary32 (p % 2 ^ 31)) (z .1) ∙ sym val-zero)
   where
     go : (t : Bool) (n : ℕ) → signedBy t n ≡ pos 0 → n ≡ 0
     go true zero e = refl

@@ -54,6 +54,7 @@ putIn b l (c ∷ cs) = putIn b (set l (c .position) (b c)) cs
 abbrev pub matrixBy : List ℕ → (Cell → ℕ) → List ℕ → List ℕ
 matrixBy amounts b s = putIn b (replicate (rowsOf s * columnsOf s) 0) (chainOf amounts s .cells)
 
+-- with the fixed table
 abbrev pub matrixOf : (Cell → ℕ) → List ℕ → List ℕ
 matrixOf = matrixBy fixedAmounts
 
@@ -61,13 +62,14 @@ matrixOf = matrixBy fixedAmounts
 abbrev pub sliceBy : List ℕ → (Cell → ℕ) → List ℕ → Answer (ℕ × ℕ) → List ℕ → List ℕ
 sliceBy amounts b s a d = unlessRefused a (matrixBy amounts b s ++ drop (rowsOf s * columnsOf s) d) d
 
+-- with the fixed table, and with the amounts of a load
 unfoldable pub sliceAfter : (Cell → ℕ) → List ℕ → Answer (ℕ × ℕ) → List ℕ → List ℕ
 sliceAfter = sliceBy fixedAmounts
 
 unfoldable pub sliceWith : (Cell → ℕ) → List ℕ → List ℕ → Answer (ℕ × ℕ) → List ℕ → List ℕ
 sliceWith b load = sliceBy (patternsOf load) b
 
--- of a plain read, and of one with a load
+-- both slices, of a plain read and of one with a load
 abbrev pub lowersAfter : List ℕ → Answer (ℕ × ℕ) → List ℕ → List ℕ
 lowersAfter = sliceAfter cellLower
 

@@ -52,7 +52,8 @@ pub fn fill(
     requires { ⌜ (rows ≤ 32) × (columns ≤ 32) × (16 * countOf (now s) ≡ length (now s))
         × (rows * columns ≤ length (now lowers)) × (rows * columns ≤ length (now uppers))
         × (walkAll (now amounts) (now s) rows columns first .verdict ≡ done) ⌝ }
-    ensures { λ _. ⌜ (now (lowers .exit) ≡ putIn cellLower (now (lowers .entry)) (walkAll (now (amounts .entry)) (now (s .entry)) rows columns first .cells))
+    ensures { λ _. ⌜
+        (now (lowers .exit) ≡ putIn cellLower (now (lowers .entry)) (walkAll (now (amounts .entry)) (now (s .entry)) rows columns first .cells))
         × (now (uppers .exit) ≡ putIn cellUpper (now (uppers .entry)) (walkAll (now (amounts .entry)) (now (s .entry)) rows columns first .cells)) ⌝ }
 {
     let mut index = first;

@@ -2,7 +2,7 @@
 use mathlib.Core.Path.{sym}
 use Rattle.sheets.specs.Reading.{lowersAfter, uppersAfter}
 use Rattle.sheets.proofs.Answers.{done-tells}
-use Rattle.coupling.proofs.Calls.{read-is, small}
+use Rattle.coupling.proofs.Calls.{read-is, small-sizes}
 use borrow.Author.Needs.{needs}
 use Rattle.coupling.proofs.cells.coupling_read.Statement.{statement}
 use Rattle.coupling.proofs.cells.coupling_read.Tie as tie
@@ -11,7 +11,7 @@ read-requires : tie.Need-read-requires
 read-requires c κs = search needs
 
 sizes-code-requires : tie.Need-sizes-code-requires
-sizes-code-requires c κs = let r = c .before .before .before .before .read in small (r .result) (r .ensures .0) (λ m n e. done-tells _ _ _ m n (sym e) .sized)
+sizes-code-requires c κs = let r = c .before .before .before .before .read in small-sizes (r .result) (r .ensures .0) (λ m n e. done-tells _ _ _ m n (sym e) .sized)
 
 same-length : tie.Need-same-length
 same-length c = search needs

@@ -2,7 +2,7 @@
 use mathlib.Core.Path.{sym}
 use Rattle.sheets.specs.Reading.{lowersWith, uppersWith}
 use Rattle.sheets.proofs.Loads.{with-tells}
-use Rattle.coupling.proofs.Calls.{read-is, small}
+use Rattle.coupling.proofs.Calls.{read-is, small-sizes}
 use borrow.Author.Needs.{needs}
 use Rattle.coupling.proofs.cells.coupling_read_with.Statement.{statement}
 use Rattle.coupling.proofs.cells.coupling_read_with.Tie as tie
@@ -11,7 +11,7 @@ read-with-requires : tie.Need-read-with-requires
 read-with-requires c κs = search needs
 
 sizes-code-requires : tie.Need-sizes-code-requires
-sizes-code-requires c κs = let r = c .before .before .before .before .read-with in small (r .result) (r .ensures .0) (λ m n e. with-tells _ _ _ _ m n (sym e) .1 .sized)
+sizes-code-requires c κs = let r = c .before .before .before .before .read-with in small-sizes (r .result) (r .ensures .0) (λ m n e. with-tells _ _ _ _ m n (sym e) .1 .sized)
 
 same-length : tie.Need-same-length
 same-length c = search needs

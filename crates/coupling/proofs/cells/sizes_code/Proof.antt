@@ -4,7 +4,7 @@ use native.Mathlib.Omega.{arith}
 use borrow.Author.Needs.{needs}
 use Rattle.refusals.specs.Answer.{coded}
 use Rattle.sheets.specs.Reading.{shape}
-use Rattle.coupling.specs.Cells.{sizesCode, Small}
+use Rattle.coupling.specs.Cells.{sizesCode, SmallSizes}
 use Rattle.coupling.proofs.cells.sizes_code.Statement.{statement}
 use Rattle.coupling.proofs.cells.sizes_code.Tie as tie
 
@@ -12,13 +12,13 @@ enum-known-s : tie.Need-enum-known-s
 enum-known-s c = search needs
 
 mul-result : tie.Need-mul-result
-mul-result c = omega (arith, subst Small (c .before .s .given .1) (c .before .before .before .pre))
+mul-result c = omega (arith, subst SmallSizes (c .before .s .given .1) (c .before .before .before .pre))
 
 add-result : tie.Need-add-result
-add-result c = omega (arith, subst Small (c .before .s .given .1) (c .before .before .before .pre))
+add-result c = omega (arith, subst SmallSizes (c .before .s .given .1) (c .before .before .before .pre))
 
 cast-result : tie.Need-cast-result
-cast-result c = omega (arith, subst Small (c .before .s .given .1) (c .before .before .before .pre))
+cast-result c = omega (arith, subst SmallSizes (c .before .s .given .1) (c .before .before .before .pre))
 
 enum-known-s-2 : tie.Need-enum-known-s-2
 enum-known-s-2 c = search needs
