@@ -1,5 +1,6 @@
 /* Benchmarks, not proved: the reads of sheets, products and sheet jobs of the library beside
-   those of an earlier archive of it, in one process, on the same data, in turns. */
+   those of an earlier archive of it, in one process, on the same data, in turns. What is read
+   is class sheets, since the earlier archive may refuse amount sheets. */
 #include "timing.h"
 
 #include "../tests/oracle/records.h"
@@ -8,9 +9,9 @@
 #include "table.h"
 
 /* The earlier archive: peer_library.c, compiled with its functions under other names. */
-extern const struct peer earlier_job, earlier_product;
+extern const struct peer earlier_class_job, earlier_product;
 
-static const struct peer *const peers[2][2] = {{&peer_product, &earlier_product}, {&peer_job, &earlier_job}};
+static const struct peer *const peers[2][2] = {{&peer_product, &earlier_product}, {&peer_class_job, &earlier_class_job}};
 
 static const size_t sizes[][3] = {{32, 32, 32}, {8, 8, 8}, {4, 4, 4}, {1, 1, 1}, {32, 1, 32}};
 
@@ -62,9 +63,7 @@ static void print_reads(const char *name, bool classes, int rounds)
 {
     static uint8_t sheet[COUPLING_SHEET_MAX];
     double least = LONGEST, earlier = LONGEST;
-    put_full(sheet);
-    for (size_t c = 1; !classes && c <= CELLS; c++)
-        sheet[RECORD_BYTES * c + 12] = 0;
+    put_full_of(CLASS_SHEET, sheet, classes);
     for (int round = 0; round < 10 * rounds; round++) {
         keep_least(&least, time_read(coupling_read, sheet));
         keep_least(&earlier, time_read(earlier_coupling_read, sheet));

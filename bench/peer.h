@@ -24,7 +24,7 @@ struct peer {
     void (*result)(uint32_t *lower, uint32_t *upper);
 };
 
-extern const struct peer peer_job, peer_product;
+extern const struct peer peer_job, peer_class_job, peer_product;
 extern const struct peer peer_integers, peer_once, peer_machine;
 extern const struct peer peer_mpfr, peer_mpfi, peer_boost, peer_boost_hoisted;
 

@@ -1,7 +1,9 @@
-/* Benchmarks, not proved: the library as two peers: the sheet job, which reads both
-   sheets and writes the result, and the product alone, on matrices in memory. */
+/* Benchmarks, not proved: the library as three peers: the sheet job, which reads both
+   sheets and writes the result, the same on class sheets, and the product alone, on
+   matrices in memory. */
 #include <string.h>
 
+#include "../tests/oracle/records.h"
 #include "coupling.h"
 #include "peer.h"
 
@@ -33,6 +35,15 @@ static void job_result(uint32_t *lower, uint32_t *upper)
 }
 
 const struct peer peer_job = {"ours, sheet job", ALL_METHODS, load_job, run_job, job_result};
+
+/* Class 0 in place of amount 0: the matrices are the same. */
+static void load_class_job(const struct matrices *x)
+{
+    load_job(x);
+    a[KIND_BYTE] = b[KIND_BYTE] = CLASS_SHEET;
+}
+
+const struct peer peer_class_job = {"ours, sheet job on class sheets", ALL_METHODS, load_class_job, run_job, job_result};
 
 /* ---- the product alone */
 

@@ -30,5 +30,6 @@ uint32_t oracle_operate(enum operation operation, enum direction direction, uint
 
 #include "../tests/oracle/interval.c"
 #include "../tests/oracle/amounts.c"
+#include "../tests/oracle/sheet_cell.c"
 #include "../tests/oracle/sheet_read.c"
 #include "../tests/oracle/sheet_write.c"

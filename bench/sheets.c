@@ -1,6 +1,6 @@
-/* Benchmarks, not proved: times reading a full coupling sheet of 1,024 cells, with the fixed
-   wear amounts and with a load of them, and writing it, by the library and by plain C
-   (plain_sheet.c), in turns.
+/* Benchmarks, not proved: times reading a full coupling sheet of 1,024 cells, an amount sheet
+   or a class sheet, the latter with the fixed wear amounts and with a load of them, and
+   writing it, by the library and by plain C (plain_sheet.c), in turns.
 
    sheets [rounds]
 
@@ -31,19 +31,11 @@ static struct cells our_cells, plain_cells;
 /* The arguments of a read. */
 #define SHEET_AND_BOUNDS(cells) given, COUPLING_SHEET_MAX, cells.lowers, CELLS, cells.uppers, CELLS
 
-/* The full sheet with all wear classes, or with class 0 only. */
-static void put_given(bool classes)
-{
-    put_full(given);
-    for (size_t c = 1; !classes && c <= CELLS; c++)
-        given[16 * c + 12] = 0;
-}
-
-/* The fixed amounts as a load: 0, and 2^(class - 11) from class 1 on. */
+/* The fixed amounts as a load. */
 static void put_load(void)
 {
-    for (uint32_t c = 1; c < 8; c++)
-        put_number(load + 4 * c, (c + 116) << 23, 4);
+    for (uint32_t c = 0; c < 8; c++)
+        put_number(load + 4 * c, fixed_amount(c), 4);
 }
 
 static bool read_alike(uint32_t sizes, uint32_t refusal)
@@ -105,17 +97,21 @@ static bool print_row(const char *name, bool (*time)(struct pair *), int rounds)
     return true;
 }
 
+/* A read of the full sheet of this kind, worn or not. */
+static bool print_read(const char *name, uint32_t kind, bool worn, int rounds)
+{
+    put_full_of(kind, given, worn);
+    return print_row(name, time_read, rounds);
+}
+
 int main(int argc, char **argv)
 {
     int rounds = 10 * rounds_given(argc, argv);
     printf("\n## Sheets\n\nA sheet of %d cells, least of %d rounds, in turns.\n\n", CELLS, rounds);
     printf("| nanoseconds a cell          |   ours | plain C | ours / plain C |\n");
     print_rule(3);
-    put_given(false);
-    if (!print_row("read, class 0", time_read, rounds))
-        return 1;
-    put_given(true);
     put_load();
-    return print_row("read, classes 0 to 7", time_read, rounds) && print_row("the same with a load", time_read_with, rounds)
-        && print_row("write", time_write, rounds) ? 0 : 1;
+    return print_read("read, amount 0", AMOUNT_SHEET, false, rounds) && print_read("read, amounts", AMOUNT_SHEET, true, rounds)
+        && print_read("read, class 0", CLASS_SHEET, false, rounds) && print_read("read, classes 0 to 7", CLASS_SHEET, true, rounds)
+        && print_row("the same with a load", time_read_with, rounds) && print_row("write", time_write, rounds) ? 0 : 1;
 }

@@ -1,5 +1,5 @@
-/* Worn couplings: two sheets are read with a mill's own eight wear amounts and multiplied, and each range of the product is printed. A refusal
-   is told with what it is about. Usage: amounts LOAD A.sheet B.sheet. Valid as C++ too. */
+/* Worn couplings: two class sheets are read with a mill's own eight wear amounts and multiplied, and each range of the product is printed. A
+   refusal is told with what it is about. Usage: amounts LOAD A.sheet B.sheet. Valid as C++ too. */
 #include <stdio.h>
 #include <string.h>
 #include "coupling.h"

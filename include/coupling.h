@@ -17,10 +17,10 @@
    COUPLING_REFUSED tells from every other answer. The matrix is 1 for A, 2 for B,
    3 for the result and 0 for none; in a train it is the sheet's position, 1 to 8,
    or 9 for a product or the writing. Row and column count from 0. They are the
-   place of a cell for 3, 4, 5 and 10, but 0 where 3 is about a wear amount, and 0
-   for the other numbers. The first refusal in the order that is given for each
-   call is returned. Single operations return one number alone, and have a form of
-   their own below.
+   place of a cell for 3, 4, 5, 10 and 14, but 0 where 3 is about a load, and 0 for
+   the other numbers. The first refusal in the order that is given for each call is
+   returned. Single operations return one number alone, and have a form of their
+   own below.
 
    Lent memory: a refusal leaves all of it as it was, but for number 5 of
    coupling_product. What lies beyond the cells or bytes that a call writes stays
@@ -52,6 +52,10 @@
 #define COUPLING_LOAD_BYTES 32   /* bytes of a load of eight wear amounts */
 #define COUPLING_STACK 65536     /* bytes of stack that are enough for a call */
 
+/* The kind of a sheet, byte 6 of its head. */
+#define COUPLING_KIND_CLASS 0    /* a class sheet: each cell has a wear class */
+#define COUPLING_KIND_AMOUNT 1   /* an amount sheet: each cell has a wear amount */
+
 /* The numbers of the refusals; coupling_sentences.h has a sentence for each. */
 #define COUPLING_SIZE 1
 #define COUPLING_SHORT 2
@@ -66,6 +70,7 @@
 #define COUPLING_ROOM 11
 #define COUPLING_COUNT 12
 #define COUPLING_AMOUNTS 13
+#define COUPLING_BELOW_ZERO 14
 
 /* Whether r, which a call returned, is a refusal; and the parts of r if it is. */
 #define COUPLING_REFUSED(r) ((r) >= 1000000u)
@@ -94,8 +99,9 @@ extern "C" {
 /* ---- The sheet job ----
 
    Reads sheet A and sheet B, multiplies them by a method, which is 1 (classical),
-   3, 4, 5 or 7, and writes the product's sheet to the front of out. Returns the
-   length written, 16 to 16,400, or the first of these refusals:
+   3, 4, 5 or 7, and writes the product's sheet to the front of out, as
+   coupling_write does. Returns the length written, 16 to 16,400, or the first of
+   these refusals:
      9            the method is not 1, 3, 4, 5 or 7
      matrix 1     A's sheet, as coupling_read refuses it (never 2)
      matrix 2     B's sheet, likewise
@@ -126,25 +132,53 @@ uint32_t coupling_multiply(uint32_t method, const uint8_t *a, size_t a_len, cons
                   the product, the first such by rows
    and at last:
      11, matrix 9 out is shorter than the last product's sheet
-   One sheet alone is returned as it was read: widened, class 0 in each cell. The
-   ranges that were written enclose: whatever matrices of numbers are picked, one
-   number from each cell of each sheet as read, their product lies in them. */
+   One sheet alone is returned as it was read: an amount sheet of its widened
+   cells, amount zero in each. A train may have sheets of both kinds. The ranges
+   that were written enclose: whatever matrices of numbers are picked, one number
+   from each cell of each sheet as read, their product lies in them. */
 uint32_t coupling_train(uint32_t method, uint32_t count, const uint8_t *sheets, size_t sheets_len, uint8_t *out, size_t out_len);
 
 /* ---- Sheets ----
 
-   Reads a sheet: its matrix, each cell widened by its wear class, goes to the
-   front of lowers and uppers. Returns 100 x rows + columns, or the first of: 6
-   for the sheet's length and head, 1 for its sizes, 2 for lowers and uppers
-   shorter than its cells, then for each cell along the chain 7, 8, 6, 10, 3, 4,
-   5. The matrix named is 0; 3, 4, 5 and 10 have the row and column. */
+   A sheet is a head and a record for each cell, of 16 bytes each. Numbers are
+   little-endian. The head is record 0:
+     bytes 0-1    index of the first cell's record, 0 where there is no cell
+     byte 2, 3    rows, columns
+     bytes 4-5    number of records, the head counted
+     byte 6       the kind: COUPLING_KIND_CLASS or COUPLING_KIND_AMOUNT
+     bytes 7-15   zero
+   A cell:
+     bytes 0-1    index of the next cell's record, 0 where there is none
+     byte 2, 3    row, column
+     bytes 4-7    lower bound
+     bytes 8-11   upper bound
+     bytes 12-15  in a class sheet the wear class, 0 to 7, in byte 12, then zeros;
+                  in an amount sheet the wear amount, finite and not below zero
+   Along the chain cells rise by row, then column. A place without a cell is [0, 0],
+   and records outside the chain are not looked at. When a sheet is read, each cell
+   is widened: its amount, or that of its class, is subtracted from the lower bound,
+   rounded down, and added to the upper bound, rounded up.
+
+   Reads a sheet: its matrix, each cell widened, goes to the front of lowers and
+   uppers. Class 0 has the amount 0, class c from 1 to 7 has 2^(c - 11). Returns
+   100 x rows + columns, or the first of: 6 for the sheet's length and head, 1 for
+   its sizes, 2 for lowers and uppers shorter than its cells, then for each cell
+   along the chain
+     7, 8         its index or place, and its order
+     6, 10        in a class sheet: bytes 13 to 15, and the class
+     14           in an amount sheet: the amount is a number below zero; minus zero
+                  is not
+     3            the amount or a bound has exponent field 255
+     4, 5         the lower bound is above the upper; widened it is too large
+   The matrix named is 0; 3, 4, 5, 10 and 14 have the row and column. */
 uint32_t coupling_read(const uint8_t *sheet, size_t sheet_len, uint32_t *lowers, size_t lowers_len, uint32_t *uppers, size_t uppers_len);
 
-/* Reads a sheet with eight wear amounts of the caller's own in place of the fixed
-   ones, which are 0 for class 0 and 2^(c - 11) for class c from 1 to 7. They are
-   loaded with each call: class c widens a cell by the number whose pattern is in
-   bytes 4 c to 4 c + 3 of amounts, little-endian. The load is checked before the
-   sheet is looked at. The first of these refuses it, with matrix, row and column 0:
+/* Reads a sheet with eight wear amounts of the caller's own in place of those that
+   the classes have above. They are loaded with each call: class c widens a cell by
+   the number whose pattern is in bytes 4 c to 4 c + 3 of amounts, little-endian. In
+   an amount sheet they are not used: its cells have their own. The load is checked
+   before the sheet is looked at, whatever its kind is. The first of these refuses
+   it, with matrix, row and column 0:
      6            amounts_len is not COUPLING_LOAD_BYTES
      3            an amount has exponent field 255
      13           the first amount is not zero, or one is below the one before it
@@ -154,10 +188,12 @@ uint32_t coupling_read(const uint8_t *sheet, size_t sheet_len, uint32_t *lowers,
 uint32_t coupling_read_with(const uint8_t *amounts, size_t amounts_len, const uint8_t *sheet, size_t sheet_len,
                             uint32_t *lowers, size_t lowers_len, uint32_t *uppers, size_t uppers_len);
 
-/* Writes the sheet of a matrix to the front of out, class 0 in each cell. Returns
+/* Writes the sheet of a matrix to the front of out: an amount sheet, whose cells
+   that are not [0, 0] stand by rows in records 1, 2, 3, .. with amount zero. Returns
    the length written, or the first of: 1, 2, then 3 and 4 cell by cell, 11. The
-   matrix named is 0. What was written, coupling_read reads as the same numbers,
-   and so does coupling_read_with, whatever load it accepts. */
+   matrix named is 0. What was written, coupling_read reads as the same numbers, and
+   so does coupling_read_with, whatever load it accepts. A reader from before there
+   were amount sheets refuses it with 6. */
 uint32_t coupling_write(size_t rows, size_t columns, const uint32_t *lowers, size_t lowers_len, const uint32_t *uppers,
                         size_t uppers_len, uint8_t *out, size_t out_len);
 

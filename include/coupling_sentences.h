@@ -14,7 +14,7 @@ static inline const char *coupling_sentence(uint32_t number)
     case 3: return "a bound or a wear amount is not a finite number";
     case 4: return "a lower bound is above the upper bound";
     case 5: return "a result is too large for binary32";
-    case 6: return "a length or the record count is wrong, or a byte that must be zero is not";
+    case 6: return "a length, the record count or the kind is wrong, or a byte that must be zero is not";
     case 7: return "an index is not below the record count, or a cell is outside the matrix";
     case 8: return "the cells of the chain do not rise by row, then column";
     case 9: return "the method is not 1, 3, 4, 5 or 7";
@@ -22,6 +22,7 @@ static inline const char *coupling_sentence(uint32_t number)
     case 11: return "the out buffer is shorter than the sheet to be written";
     case 12: return "the number of sheets is not from 1 to 8";
     case 13: return "the first wear amount is not zero, or an amount is below the one before it";
+    case 14: return "a wear amount is below zero";
     default: return "no refusal has this number";
     }
 }

@@ -1,8 +1,8 @@
 """The text form of a load of eight wear amounts, for tools/sheet. Not proved. `tools/sheet --help` describes it."""
 import binary32
 from amounts_bytes import AMOUNTS
-from sheet_text import parse_number, words_of
-from text_lines import BadText, lines_of, quoted
+from text_lines import BadText, lines_of, quoted, words_of
+from text_numbers import parse_number
 
 
 def check_order(line, word, exact, before):

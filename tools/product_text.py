@@ -14,8 +14,8 @@ METHODS = (1, 3, 4, 5, 7)
 PATTERN = re.compile("[0-9A-F]{8}")
 
 # The refusals that print_product prints, each with the matrices it is about, and those that name a cell; the others have row and column 0.
-MATRICES = {1: (1, 2), 3: (1, 2), 4: (1, 2), 5: (1, 2, 3), 6: (1, 2), 7: (1, 2), 8: (1, 2), 9: (0,), 10: (1, 2)}
-OF_A_CELL = (3, 4, 5, 10)
+MATRICES = {1: (1, 2), 3: (1, 2), 4: (1, 2), 5: (1, 2, 3), 6: (1, 2), 7: (1, 2), 8: (1, 2), 9: (0,), 10: (1, 2), 14: (1, 2)}
+OF_A_CELL = (3, 4, 5, 10, 14)
 
 
 def listed(numbers):

@@ -1,10 +1,11 @@
-"""The lines of a text, and what is said of one that is wrong, for tools/sheet. Not proved."""
+"""The lines of a text, their words, and what is said of one that is wrong, for tools/sheet. Not proved."""
 import io
 import re
 
 MOST_TEXT = 1 << 24
 BYTE_ORDER_MARK = b"\xef\xbb\xbf"
 CONTROL = re.compile(r"[\x00-\x08\x0a-\x1f\x7f-\x9f]")
+WORD = re.compile("[^ \t]+")
 SHOWN = 40
 
 
@@ -34,3 +35,8 @@ def lines_of(data, all_end=False):
         if control := CONTROL.search(text):
             raise BadText(number, f"the control character U+{ord(control[0]):04X} stands in the line")
         yield number, text
+
+
+def words_of(text):
+    """The words of a line, without its comment."""
+    return WORD.findall(text.partition("#")[0])

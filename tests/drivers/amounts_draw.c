@@ -43,11 +43,10 @@ static void draw_neighbours(uint32_t *amounts)
         amounts[i] = first + i;
 }
 
-/* The fixed amounts: 2^(class - 11) for a class from 1 on. */
 static void put_fixed(uint32_t *amounts)
 {
     for (uint32_t i = 0; i < AMOUNTS; i++)
-        amounts[i] = (127 + i - 11) << 23;
+        amounts[i] = fixed_amount(i);
 }
 
 /* Amounts without fault. The first is a zero, and some others may be; of either sign. */

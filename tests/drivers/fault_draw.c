@@ -6,11 +6,12 @@
 #include "numbers.h"
 #include "oracle.h"
 #include "records.h"
+#include "wear_draw.h"
 
-uint32_t draw_fault_number(void)
+uint32_t draw_fault_number(uint32_t sheet_kind)
 {
-    static const uint32_t numbers[] = {1, 3, 4, 5, 6, 7, 8, 10};
-    return numbers[from_to(0, 7)];
+    const uint32_t of_kind = sheet_kind == CLASS_SHEET ? 10 : 14, numbers[] = {1, 3, 4, 5, 6, 7, 8, of_kind, of_kind};
+    return numbers[from_to(0, 8)];
 }
 
 /* The index in the first two bytes of a record. */
@@ -48,16 +49,52 @@ static void put_outside(uint8_t *sheet, uint8_t *record)
         put_number(place == 1 ? sheet : record, records + any % (0x10000 - records), 2);
 }
 
+/* A kind that there is not, or another byte of the head that must be zero; or, in a class
+   sheet, such a byte of the cell. */
+static void put_byte(uint8_t *sheet, uint8_t *record)
+{
+    bool in_cell = one_in(2) && sheet[KIND_BYTE] == CLASS_SHEET;
+    int at = in_cell ? from_to(13, 15) : from_to(6, 15);
+    bool is_kind = !in_cell && at == KIND_BYTE;
+    (in_cell ? record : sheet)[at] = (uint8_t)from_to(is_kind ? 2 : 1, 255);
+}
+
+/* A wear that is refused with 3, 10 or 14; for 5, any class or amount above zero beside the
+   largest number of either sign. */
+static void put_wear(uint32_t sheet_kind, uint8_t *record, uint32_t number)
+{
+    uint8_t *wear = record + WEAR_BYTE;
+    uint32_t any = any_bits(), which = any_bits() % 2;
+    switch (number) {
+    case 3:
+        put_number(wear, draw_not_finite(), 4);
+        break;
+    case 5:
+        put_number(record + 4 + 4 * which, which ? MAX : MAX | SIGN, 4);
+        put_number(wear, 1 + any % (sheet_kind == CLASS_SHEET ? 7 : MAX), 4);
+        break;
+    case 10:
+        put_number(wear, 8 + any % 248, 4);
+        break;
+    default:
+        put_number(wear, draw_below_zero(), 4);
+    }
+}
+
 void put_fault(uint8_t *sheet, uint32_t number)
 {
     const struct kind kind = {100, 136};
     uint8_t *record = draw_record(sheet);
-    uint32_t any = any_bits(), which = any_bits() % 2, lower, upper;
+    uint32_t sheet_kind = sheet[KIND_BYTE], any = any_bits(), which = any_bits() % 2, lower, upper;
     switch (number) {
     case 1:
         sheet[2 + which] = (uint8_t)(one_in(3) ? 0 : 33 + any % 223);
         break;
     case 3:
+        if (which && sheet_kind == AMOUNT_SHEET) {
+            put_wear(sheet_kind, record, number);
+            break;
+        }
         draw_infinite(kind, &lower, &upper);
         put_bounds(record, lower, upper);
         break;
@@ -65,12 +102,8 @@ void put_fault(uint8_t *sheet, uint32_t number)
         draw_crossed(kind, &lower, &upper);
         put_bounds(record, lower, upper);
         break;
-    case 5:     /* the largest number of either sign, and a wear class */
-        put_number(record + 4 + 4 * which, which ? MAX : MAX | SIGN, 4);
-        record[12] = (uint8_t)(1 + any % 7);
-        break;
-    case 6:     /* a byte of the head or of the cell that must be zero */
-        *(which ? sheet + 6 + any % 10 : record + 13 + any % 3) = (uint8_t)from_to(1, 255);
+    case 6:
+        put_byte(sheet, record);
         break;
     case 7:
         put_outside(sheet, record);
@@ -79,7 +112,7 @@ void put_fault(uint8_t *sheet, uint32_t number)
         put_number(record, which ? index_in(sheet) : (uint32_t)((size_t)(record - sheet) / RECORD_BYTES), 2);
         break;
     default:
-        record[12] = (uint8_t)(8 + any % 248);
+        put_wear(sheet_kind, record, number);
     }
 }
 
@@ -96,8 +129,8 @@ void put_large(uint8_t *sheet)
    Nothing where an amount that is not finite or below zero gives no such number. */
 void put_limit(uint8_t *sheet, const uint8_t *load)
 {
-    uint8_t *record = draw_record(sheet);
-    const uint8_t *amount = load + 4 * record[12];
+    uint8_t *record = draw_record(sheet), *wear = record + WEAR_BYTE;
+    const uint8_t *amount = sheet[KIND_BYTE] == CLASS_SHEET ? load + 4 * *wear : wear;
     uint32_t limit, pattern = index_in(amount) | index_in(amount + 2) << 16;
     int which = from_to(0, 2), step = from_to(-1, 1);
     if (oracle_operate(SUB, NEAR, MAX, pattern, &limit) != 0)

@@ -5,8 +5,9 @@
 
 #include <stdint.h>
 
-/* One of the refusals of a sheet: 1, 3 to 8 or 10. */
-uint32_t draw_fault_number(void);
+/* One of the refusals of a sheet of this kind: 1, 3 to 8, and 10 of a class sheet or 14 of an
+   amount sheet, which are twice as frequent as the others. */
+uint32_t draw_fault_number(uint32_t sheet_kind);
 
 /* One fault, so that a read of the sheet is refused with this number. */
 void put_fault(uint8_t *sheet, uint32_t number);
@@ -15,8 +16,9 @@ void put_fault(uint8_t *sheet, uint32_t number);
    cell itself. */
 void put_large(uint8_t *sheet);
 
-/* Bounds in one cell that, widened by the amount of the cell's class in this load, are the
-   largest number or next to it, or just too large. */
+/* Bounds in one cell that are the largest number or next to it, or just too large, when they
+   are widened by the amount of the cell's class in this load or, in an amount sheet, by the
+   cell's own amount. */
 void put_limit(uint8_t *sheet, const uint8_t *load);
 
 #endif

@@ -2,6 +2,8 @@
 #include "job_draw.h"
 
 #include "draw.h"
+#include "fault_draw.h"
+#include "records.h"
 #include "sheet_draw.h"
 
 uint32_t draw_method(void)
@@ -15,7 +17,11 @@ static size_t draw_factor(uint8_t *sheet, int rows, int columns, bool moderate)
 {
     if (one_in(4))
         return draw_sheet(sheet);
-    return draw_valid_sheet(sheet, (uint32_t)rows, (uint32_t)columns, moderate);
+    size_t length = draw_valid_sheet(sheet, (uint32_t)rows, (uint32_t)columns, moderate, moderate);
+    bool has_cell = (sheet[0] | sheet[1]) != 0;
+    if (one_in(12) && has_cell)
+        put_fault(sheet, draw_fault_number(sheet[KIND_BYTE]));
+    return length;
 }
 
 void draw_job(struct job *job)

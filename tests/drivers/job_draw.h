@@ -13,8 +13,8 @@ struct job {
 /* 1, 3, 4, 5 or 7, or now and then any digit. */
 uint32_t draw_method(void);
 
-/* Draws a method and two sheets, which can be multiplied, cannot, or are damaged. The
-   sheets are put behind guard bytes, which are filled. */
+/* Draws a method and two sheets of either kind, which can be multiplied, cannot, or are
+   damaged. The sheets are put behind guard bytes, which are filled. */
 void draw_job(struct job *job);
 
 #endif

@@ -3,6 +3,8 @@
 
 #include <stdio.h>
 
+#define WIDTH 16    /* of a printed column */
+
 const char *const method_columns[] = {"method 1", "method 3", "method 4", "method 5", "method 7", "other", NULL};
 
 int method_column(uint32_t method)
@@ -67,9 +69,9 @@ static void print_outcome(const struct table *table, const struct outcome *o)
         printf("   none      -");
     for (int column = 0; table->columns[column] != NULL; column++)
         if ((o->met_by >> column & 1) != 0)
-            printf(" %13lu", o->calls[column]);
+            printf(" %*lu", WIDTH, o->calls[column]);
         else
-            printf(" %13s", "-");
+            printf(" %*s", WIDTH, "-");
     if (o->placed)
         printf(" %7d\n", fewest_places(o));
     else
@@ -80,7 +82,7 @@ void print_table(const struct table *table)
 {
     printf("refusal matrix");
     for (int column = 0; table->columns[column] != NULL; column++)
-        printf(" %13s", table->columns[column]);
+        printf(" %*s", WIDTH, table->columns[column]);
     printf("  places\n");
     for (size_t i = 0; i < table->count; i++)
         print_outcome(table, &table->outcomes[i]);

@@ -1,6 +1,6 @@
 /* Test drivers, not proved: a table of the outcomes of the calls of a run: for each
-   refusal, how often it occurred by each function or method, and at how many places
-   (row and column) at least by each. */
+   refusal, how often it occurred by each function, method or kind of sheet, and at how many
+   places (row and column) at least by each. */
 #ifndef OUTCOMES_H
 #define OUTCOMES_H
 
@@ -51,7 +51,8 @@ int method_column(uint32_t method);
 #define SHEET_REFUSALS(m, columns) \
     {.number = 6, .matrix = m, .met_by = columns}, {.number = 1, .matrix = m, .met_by = columns}, \
     {.number = 7, .matrix = m, .met_by = columns}, {.number = 8, .matrix = m, .met_by = columns}, \
-    {.number = 10, .matrix = m, .met_by = columns, .placed = true}, {.number = 3, .matrix = m, .met_by = columns, .placed = true}, \
-    {.number = 4, .matrix = m, .met_by = columns, .placed = true}, {.number = 5, .matrix = m, .met_by = columns, .placed = true}
+    {.number = 10, .matrix = m, .met_by = columns, .placed = true}, {.number = 14, .matrix = m, .met_by = columns, .placed = true}, \
+    {.number = 3, .matrix = m, .met_by = columns, .placed = true}, {.number = 4, .matrix = m, .met_by = columns, .placed = true}, \
+    {.number = 5, .matrix = m, .met_by = columns, .placed = true}
 
 #endif

@@ -7,6 +7,7 @@
 #include "fault_draw.h"
 #include "numbers.h"
 #include "oracle.h"
+#include "records.h"
 #include "sheet_draw.h"
 
 /* The length of a slice: as many words as there are cells, a few more, or too few. */
@@ -27,24 +28,36 @@ static void draw_lengths(struct sheet_call *call)
     call->uppers_length = draw_length(cells);
 }
 
+/* The column of the sheet's kind. */
+static int kind_column(const struct sheet_call *call)
+{
+    uint8_t kind = call->memory.sheet[GUARD + KIND_BYTE];
+    if (call->sheet_length <= KIND_BYTE || kind > AMOUNT_SHEET)
+        return NO_KIND_COLUMN;
+    return kind == CLASS_SHEET ? CLASS_COLUMN : AMOUNT_COLUMN;
+}
+
 int draw_read(struct sheet_call *call)
 {
     call->sheet_length = draw_sheet(call->memory.sheet + GUARD);
     draw_lengths(call);
-    return 0;
+    return kind_column(call);
 }
 
 int draw_read_with(struct sheet_call *call)
 {
     uint8_t *sheet = call->memory.sheet + GUARD, *load = call->memory.load + GUARD;
-    int column = one_in(2) ? SHEET_COLUMN : from_to(MODERATE_COLUMN, LIMIT_COLUMN);
+    int column = one_in(2) ? SHEET_COLUMN : one_in(2) ? MODERATE_COLUMN : LIMIT_COLUMN;
     call->load_length = draw_load(load);
     call->sheet_length = column == SHEET_COLUMN ? draw_sheet(sheet) : draw_any_valid_sheet(sheet, true);
     bool has_cell = (sheet[0] | sheet[1]) != 0;
     if (column == LIMIT_COLUMN && has_cell)
         put_limit(sheet, load);
     draw_lengths(call);
-    return oracle_check_amounts(load, call->load_length) != 0 ? LOAD_COLUMN : column;
+    if (oracle_check_amounts(load, call->load_length) != 0)
+        column = LOAD_COLUMN;
+    int of_kind = kind_column(call);
+    return of_kind == NO_KIND_COLUMN ? WITH_NO_KIND_COLUMN : column + of_kind;
 }
 
 /* Draws the cells of a matrix, a third of them [0, 0], and returns the length of its

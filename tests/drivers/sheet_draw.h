@@ -11,15 +11,16 @@
    product of eight matrices of such numbers is too large. */
 void draw_bounds(bool moderate, uint32_t *lower, uint32_t *upper);
 
-/* A sheet without fault, except that a bound may overflow when it is widened. The
-   records are in random order, and some are not in the chain. */
-size_t draw_valid_sheet(uint8_t *sheet, uint32_t rows, uint32_t columns, bool moderate);
+/* A class sheet or an amount sheet without fault, except that a bound may overflow when it
+   is widened. The records are in random order, and some are not in the chain. Moderate
+   amounts are below 1/4; of the other amount sheets half have them too. */
+size_t draw_valid_sheet(uint8_t *sheet, uint32_t rows, uint32_t columns, bool moderate_bounds, bool moderate_amounts);
 
-/* The same of any size, mostly up to 5 by 5. */
-size_t draw_any_valid_sheet(uint8_t *sheet, bool moderate);
+/* The same of any size, mostly up to 5 by 5, with amounts of any size. */
+size_t draw_any_valid_sheet(uint8_t *sheet, bool moderate_bounds);
 
-/* A sheet of any kind: valid, with damaged fields, with random next indices, or of
-   random bytes. */
+/* A sheet that is valid, with damaged fields, with random next indices, or of random
+   bytes. Mostly its kind is that of a class sheet or an amount sheet. */
 size_t draw_sheet(uint8_t *sheet);
 
 #endif

@@ -15,9 +15,10 @@ static size_t out_length;
 static bool has_load;
 static uint64_t sheets;
 
-/* A bit for each byte of a record that starts a field, except byte 0. */
-enum { HEAD_FIELDS = 0x5C, CELL_FIELDS = 0x311C };
+/* A bit for each byte of a record of an amount sheet that starts a field, except byte 0. */
+enum { HEAD_FIELDS = 0xDC, CELL_FIELDS = 0x111C };
 
+/* Prints a sheet that was written. */
 static void print_records(const uint8_t *bytes, size_t length)
 {
     for (size_t i = 0; i < length; i++) {

@@ -6,8 +6,9 @@
                                of the buffer that the matrix is then written to
      amounts BYTES             a load in hexadecimal, a space before each amount; without
                                this line the sheet is read with the fixed amounts
-     0300 02 03 0400 00000000000000000000        the sheet's bytes in hexadecimal,
-     0200 01 00 00000080 00000080 00 000000      a record a line, a space before each field
+     0300 02 03 0400 00 000000000000000000       the sheet's bytes in hexadecimal,
+     0200 01 00 00000080 00000080 00 000000      a record a line, a space before each field;
+                                                 the wear of an amount sheet is one field
      read ANSWER               2 by 3, or refused: NUMBER row ROW column COLUMN
      write ANSWER              48 bytes, with the bytes in the lines below, or refused
 

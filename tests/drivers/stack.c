@@ -1,8 +1,8 @@
 /* Test driver, not proved: measures the stack that the sheet job and a train of eight full
-   sheets need. Runs each by each method on a thread whose stack was filled with a fixed
-   byte, and counts the bytes from the caller's frame down to the lowest byte that was
-   changed. Prints the counts for each method; fails if one is above COUPLING_STACK, or if
-   a call refuses. */
+   sheets need, amount sheets and class sheets in turn. Runs each by each method on a thread
+   whose stack was filled with a fixed byte, and counts the bytes from the caller's frame
+   down to the lowest byte that was changed. Prints the counts for each method; fails if one
+   is above COUPLING_STACK, or if a call refuses. */
 #define _GNU_SOURCE
 #include <pthread.h>
 #include <stdio.h>
@@ -66,7 +66,7 @@ int main(void)
     const uint32_t methods[] = {1, 3, 4, 5, 7};
     size_t most_job = 0, most_train = 0;
     for (int i = 0; i < COUPLING_SHEETS_MAX; i++)
-        put_full(sheets[i]);
+        put_full_of(i % 2 == 0 ? AMOUNT_SHEET : CLASS_SHEET, sheets[i], true);
     for (int i = 0; i < 5; i++) {
         size_t job = measure(run_job, methods[i]), train = measure(run_train, methods[i]);
         printf("method %u: job %zu bytes, train %zu bytes\n", methods[i], job, train);

@@ -42,7 +42,7 @@ static size_t draw_right_sheet(uint8_t *sheet, const struct plan *plan, int posi
     if (plan->wrong == MISFIT && position == plan->position)
         rows = (rows + (uint32_t)from_to(0, COUPLING_SIZE_MAX - 2)) % COUPLING_SIZE_MAX + 1;
     do
-        length = draw_valid_sheet(sheet, rows, columns, plan->moderate);
+        length = draw_valid_sheet(sheet, rows, columns, plan->moderate, plan->moderate);
     while (length < least || (needs_cell && (sheet[0] | sheet[1]) == 0));
     return length;
 }
@@ -65,7 +65,7 @@ static size_t draw_next_sheet(uint8_t *sheet, const struct plan *plan, int posit
         return draw_sheet(sheet);
     size_t length = draw_right_sheet(sheet, plan, position, wrong == FAULT || wrong == LARGE);
     if (wrong == FAULT)
-        put_fault(sheet, draw_fault_number());
+        put_fault(sheet, draw_fault_number(sheet[KIND_BYTE]));
     else if (wrong == LARGE)
         put_large(sheet);
     else if (wrong == RECORDS)

@@ -14,8 +14,8 @@ struct train {
 };
 
 /* Draws a method, which is mostly 1, 3, 4, 5 or 7, a count, which is mostly 1 to 8, and
-   the bytes of the sheets, between guard bytes, which are filled. Of most trains one sheet
-   is wrong in some way, and of some trains a later one too. */
+   the bytes of the sheets, of either kind, between guard bytes, which are filled. Of most
+   trains one sheet is wrong in some way, and of some trains a later one too. */
 void draw_train(struct train *train);
 
 #endif

@@ -41,6 +41,8 @@ static void refuses(size_t load_len, uint32_t number)
     CHECK(read_loaded(load_len, 0) == refusal(number, 0, 0, 0));
     put_cell(sheet + 32, 0, 1, 1, COUPLING_INFINITY, ONE, 8);
     CHECK(read_loaded(load_len, LENGTH) == refusal(number, 0, 0, 0));
+    put_amount_sheet(sheet, MINUS | ONE);
+    CHECK(read_loaded(load_len, LENGTH) == refusal(number, 0, 0, 0));
     lend();
     CHECK(left(coupling_read_with(load, load_len, sheet, LENGTH, lowers + 2, 0, uppers + 2, 3)) == refusal(number, 0, 0, 0));
 }

@@ -29,9 +29,12 @@ uint32_t refusal(uint32_t number, uint32_t matrix, uint32_t row, uint32_t column
 /* Whether these words are all GUARD. */
 int untouched(const uint32_t *words, size_t count);
 
-/* A sheet of 2 by 2 with cells (0, 0) and (1, 1), both [-1, 1]. */
+/* A sheet of 2 by 2 with cells (0, 0) and (1, 1), both [-1, 1]: a class sheet, of
+   class 0, or an amount sheet, cell (0, 0) with amount 0 and cell (1, 1) with this one.
+   The latter with 0 is what is written for the matrix of both. */
 #define LENGTH 48
 void put_sheet(uint8_t *sheet);
+void put_amount_sheet(uint8_t *sheet, uint32_t amount);
 
 /* A load of the amounts by which sheets are widened where none are loaded. */
 void put_fixed_amounts(uint8_t *load);
@@ -45,10 +48,15 @@ extern uint32_t lowers[ROOM], uppers[ROOM];
 void lend(void);
 uint32_t left(uint32_t r);
 
+/* Reads a sheet into slices of these lengths, with a load and without one. Both leave
+   the same and return the same, which is returned. */
+uint32_t read_alike(const uint8_t *load, const uint8_t *sheet, size_t length, size_t lowers_len, size_t uppers_len);
+
 void test_job(void);
 void test_train(void);
 void test_sheets(void);
 void test_amounts(void);
+void test_kinds(void);
 void test_product(void);
 void test_operations(void);
 void test_conversions(void);

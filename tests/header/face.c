@@ -38,6 +38,13 @@ void put_sheet(uint8_t *sheet)
     put_cell(sheet + 32, 0, 1, 1, MINUS | ONE, ONE, 0);
 }
 
+void put_amount_sheet(uint8_t *sheet, uint32_t amount)
+{
+    put_sheet(sheet);
+    sheet[6] = COUPLING_KIND_AMOUNT;
+    put_number(sheet + 44, amount, 4);
+}
+
 void put_fixed_amounts(uint8_t *load)
 {
     memset(load, 0, 4);
@@ -61,6 +68,19 @@ uint32_t left(uint32_t r)
     return r;
 }
 
+uint32_t read_alike(const uint8_t *load, const uint8_t *sheet, size_t length, size_t lowers_len, size_t uppers_len)
+{
+    uint32_t below[ROOM], above[ROOM];
+    lend();
+    uint32_t r = left(coupling_read_with(load, COUPLING_LOAD_BYTES, sheet, length, lowers + 2, lowers_len, uppers + 2, uppers_len));
+    memcpy(below, lowers, sizeof below);
+    memcpy(above, uppers, sizeof above);
+    lend();
+    CHECK(left(coupling_read(sheet, length, lowers + 2, lowers_len, uppers + 2, uppers_len)) == r);
+    CHECK(memcmp(lowers, below, sizeof below) == 0 && memcmp(uppers, above, sizeof above) == 0);
+    return r;
+}
+
 static void test_macros(void)
 {
     const uint32_t r = refusal(10, 2, 31, 7);
@@ -73,10 +93,10 @@ static void test_macros(void)
     CHECK(COUPLING_INFINITY == COUPLING_LARGEST + 1);
     CHECK(!COUPLING_OPERATION_REFUSED(COUPLING_LARGEST) && !COUPLING_OPERATION_REFUSED(MINUS | COUPLING_LARGEST));
     CHECK(COUPLING_OPERATION_REFUSED(COUPLING_INFINITY + 5) && COUPLING_OPERATION_NUMBER(COUPLING_INFINITY + 5) == 5);
-    for (uint32_t n = COUPLING_SIZE; n <= COUPLING_AMOUNTS; n++)
+    for (uint32_t n = COUPLING_SIZE; n <= COUPLING_BELOW_ZERO; n++)
         CHECK(strcmp(coupling_sentence(n), coupling_sentence(0)) != 0);
-    CHECK(COUPLING_AMOUNTS == 13 && strcmp(coupling_sentence(14), coupling_sentence(0)) == 0);
-    CHECK(COUPLING_LOAD_BYTES == 8 * sizeof(uint32_t));
+    CHECK(COUPLING_AMOUNTS == 13 && COUPLING_BELOW_ZERO == 14 && strcmp(coupling_sentence(15), coupling_sentence(0)) == 0);
+    CHECK(COUPLING_LOAD_BYTES == 8 * sizeof(uint32_t) && COUPLING_KIND_CLASS == 0 && COUPLING_KIND_AMOUNT == 1);
 }
 
 int main(void)
@@ -86,6 +106,7 @@ int main(void)
     test_train();
     test_sheets();
     test_amounts();
+    test_kinds();
     test_product();
     test_operations();
     test_conversions();

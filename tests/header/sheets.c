@@ -1,5 +1,6 @@
 /* Tests of the C functions, not proved: reader and writer of sheets, with each
-   refusal that they can give, zero lengths, and guards around what is lent. */
+   refusal that they can give, zero lengths, and guards around what is lent. Sheets
+   that are read are class sheets here; tests/header/kinds.c has the others. */
 #include "check.h"
 
 #include <string.h>
@@ -12,16 +13,8 @@
 static uint32_t read_guarded(const uint8_t *sheet, size_t length, size_t lowers_len, size_t uppers_len)
 {
     uint8_t load[COUPLING_LOAD_BYTES];
-    uint32_t below[ROOM], above[ROOM];
     put_fixed_amounts(load);
-    lend();
-    uint32_t r = left(coupling_read_with(load, sizeof load, sheet, length, lowers + 2, lowers_len, uppers + 2, uppers_len));
-    memcpy(below, lowers, sizeof below);
-    memcpy(above, uppers, sizeof above);
-    lend();
-    CHECK(left(coupling_read(sheet, length, lowers + 2, lowers_len, uppers + 2, uppers_len)) == r);
-    CHECK(memcmp(lowers, below, sizeof below) == 0 && memcmp(uppers, above, sizeof above) == 0);
-    return r;
+    return read_alike(load, sheet, length, lowers_len, uppers_len);
 }
 
 static void test_read(void)
@@ -94,7 +87,7 @@ static void put_matrix(uint32_t lower, uint32_t upper)
 static void test_write(void)
 {
     uint8_t s[LENGTH];
-    put_sheet(s);
+    put_amount_sheet(s, 0);
     put_matrix(MINUS, 0);
     CHECK(write_guarded(2, 2, 4, 4, LENGTH) == LENGTH && memcmp(bytes + 16, s, LENGTH) == 0);
     CHECK(write_guarded(2, 2, 4, 4, LENGTH - 1) == refusal(11, 0, 0, 0) && write_guarded(2, 2, 4, 4, 0) == refusal(11, 0, 0, 0));

@@ -39,11 +39,13 @@ static uint32_t guarded(uint32_t method, uint32_t count, size_t length, size_t o
 
 static void test_counts(void)
 {
+    uint8_t expected[LENGTH];
+    put_amount_sheet(expected, 0);
     put_sheets();
     for (uint32_t count = 0; count <= MOST + 1; count++) {
         int known = count >= 1 && count <= MOST;
         CHECK(guarded(1, count, count * LENGTH, LENGTH) == (known ? LENGTH : refusal(12, 0, 0, 0)));
-        CHECK(!known || memcmp(bytes + 64, sheets, LENGTH) == 0); /* [-1, 1] times [-1, 1] is [-1, 1] */
+        CHECK(!known || memcmp(bytes + 64, expected, LENGTH) == 0); /* [-1, 1] times [-1, 1] is [-1, 1] */
     }
     CHECK(guarded(1, UINT32_MAX, LENGTH, LENGTH) == refusal(12, 0, 0, 0));
     CHECK(guarded(1, 256 + 1, LENGTH, LENGTH) == refusal(12, 0, 0, 0));
@@ -63,7 +65,7 @@ static void test_damage(void)
         int count;
     } cases[] = {
         {1, 0, 2, 33, 1}, {1, 0, 3, 0, 1}, {3, 1, 36, COUPLING_INFINITY, 4}, {4, 0, 20, COUPLING_LARGEST, 4},
-        {6, 0, 6, 1, 1},  {6, 0, 31, 1, 1}, {7, 0, 16, 3, 2}, {8, 0, 32, 1, 2}, {10, 1, 44, 8, 1},
+        {6, 0, 6, 2, 1},  {6, 0, 31, 1, 1}, {7, 0, 16, 3, 2}, {8, 0, 32, 1, 2}, {10, 1, 44, 8, 1},
     };
     for (uint32_t position = 1; position <= MOST; position++) {
         for (size_t i = 0; i < COUNT(cases); i++) {
@@ -99,7 +101,7 @@ static void test_overflow(void)
 static void test_alone(void)
 {
     uint8_t expected[LENGTH];
-    put_sheet(expected);
+    put_amount_sheet(expected, 0);
     put_cell(expected + 32, 0, 1, 1, 0x3F700000, 0x3F880000, 0);
     put_sheet(sheets);
     put_cell(sheets + 32, 0, 1, 1, ONE, ONE, 7);

@@ -39,6 +39,8 @@ void check_reading(void);
 void check_read_refusals(void);
 void check_amounts(void);
 void check_reading_with(void);
+void check_kinds(void);
+void check_plain_form(void);
 void check_writing(void);
 void check_job(void);
 void check_train(void);

@@ -14,7 +14,7 @@
 enum operation { ADD, SUB, MUL, MIDPOINT };
 enum direction { DOWN, UP, NEAR };
 
-/* number: 1 to 13, or 0 for an accepted call; then the other three are 0 too.
+/* number: 1 to 14, or 0 for an accepted call; then the other three are 0 too.
    matrix: 1 is A, 2 is B, 3 is the result, 0 is none of them; in a train it is the
    position of a sheet, 1 to 8, or 9 for a product or the writing. */
 struct refusal { uint32_t number, matrix, row, column; };
@@ -55,15 +55,16 @@ struct refusal oracle_product(uint32_t method, size_t m, size_t k, size_t n,
     uint32_t *m_b, size_t m_b_len, uint32_t *r_b, size_t r_b_len,
     uint32_t *c_lo, size_t c_lo_len, uint32_t *c_hi, size_t c_hi_len);
 
-/* Reads a coupling sheet of len bytes. When accepted, writes all rows times
-   columns cells and both sizes; otherwise touches nothing. */
+/* Reads a coupling sheet of len bytes, a class sheet or an amount sheet. When accepted,
+   writes all rows times columns cells and both sizes; otherwise touches nothing. */
 struct refusal oracle_read(const uint8_t *s, size_t len,
                            uint32_t *lo, size_t lo_len,
                            uint32_t *hi, size_t hi_len,
                            size_t *rows, size_t *columns);
 
 /* The same with a load, eight wear amounts of a mill, in place of the fixed ones. The load
-   is checked before the sheet; its refusals have matrix, row and column 0. */
+   is checked before the sheet; its refusals have matrix, row and column 0. An amount sheet
+   has its own amounts, and those of the load are not used. */
 struct refusal oracle_read_with(const uint8_t *load, size_t load_len,
                                 const uint8_t *s, size_t len,
                                 uint32_t *lo, size_t lo_len,
@@ -75,8 +76,13 @@ struct refusal oracle_read_with(const uint8_t *load, size_t load_len,
    amount is below the one before it. */
 uint32_t oracle_check_amounts(const uint8_t *load, size_t load_len);
 
-/* Writes a coupling sheet to the front of out. *written is the length of
-   that front part, 0 on a refusal, which leaves out untouched. */
+/* The check of length and head in the reader from before, which knew class sheets alone:
+   returns 0, or 6 also where one of bytes 6 to 15 of the head is not zero. */
+uint32_t oracle_check_before(const uint8_t *s, size_t len);
+
+/* Writes a coupling sheet, an amount sheet with the amount zero in each cell, to the front
+   of out. *written is the length of that front part, 0 on a refusal, which leaves out
+   untouched. */
 struct refusal oracle_write(size_t rows, size_t columns,
                             const uint32_t *lo, size_t lo_len,
                             const uint32_t *hi, size_t hi_len,

@@ -9,7 +9,6 @@
 #define SIGN_BIT 0x80000000u
 #define MAX_SIZE 32
 #define MAX_CELLS 1024
-#define RECORD 16        /* bytes of a record of a sheet */
 #define CLASSES 8        /* wear classes, from 0 on */
 
 static const struct refusal ACCEPTED = {0, 0, 0, 0};
@@ -65,8 +64,14 @@ uint32_t centre_with_parts(bool *refused, enum direction direction, const struct
 /* amounts.c: the amount of a wear class in a load that has 32 bytes */
 uint32_t amount_of(const uint8_t *load, size_t wear_class);
 
-/* sheet_read.c: a little-endian number of four bytes */
+/* sheet_read.c: a little-endian number of four bytes; whether all bytes are zero */
 uint32_t get_32(const uint8_t *bytes);
+bool all_zero(const uint8_t *bytes, size_t count);
+
+/* sheet_cell.c: checks one cell of a sheet of this kind for refusals 6 and 10, or 14, then 3,
+   4 and 5, and returns 0 or the number; on 0, gives the bounds, widened by the cell's wear.
+   `amounts` has an amount for each wear class. */
+uint32_t read_cell(uint32_t kind, const uint32_t *amounts, const uint8_t *record, uint32_t *lo, uint32_t *hi);
 
 /* sheet_read.c: the length of the first of the sheets that stand back to back in len bytes:
    16 for each of its records, or all bytes where they are fewer or end before the record

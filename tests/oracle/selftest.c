@@ -120,6 +120,8 @@ int main(void)
     check_read_refusals();
     check_amounts();
     check_reading_with();
+    check_kinds();
+    check_plain_form();
     check_writing();
     check_job();
     check_train();

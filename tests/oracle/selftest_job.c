@@ -6,12 +6,12 @@
 
 static uint8_t a[16416], b[16416], out[16401];
 
-/* Makes A and B 1 by 1 sheets of two records, with these cells. */
+/* Makes A a class sheet and B an amount sheet, 1 by 1, of two records, with these cells. */
 static void put_cells(uint32_t a_lo, uint32_t a_hi, uint32_t b_lo, uint32_t b_hi)
 {
     put_head(a, 1, 1, 1, 2);
     put_cell(a + RECORD_BYTES, 0, 0, 0, a_lo, a_hi, 0);
-    put_head(b, 1, 1, 1, 2);
+    put_head_of(AMOUNT_SHEET, b, 1, 1, 1, 2);
     put_cell(b + RECORD_BYTES, 0, 0, 0, b_lo, b_hi, 0);
 }
 
@@ -66,12 +66,12 @@ void check_job(void)
     uint8_t expected[32];
     put_cells(ONE, TWO, NEGATIVE | ONE, THREE);
     CHECK(job(4, 32, 32, 32) == 32);
-    put_head(expected, 1, 1, 1, 2);
+    put_head_of(AMOUNT_SHEET, expected, 1, 1, 1, 2);
     put_cell(expected + RECORD_BYTES, 0, 0, 0, 0xC0400000, 0x40C00000, 0);
     CHECK(memcmp(out, expected, 32) == 0 && out[32] == SPARE);
     put_head(b, 0, 1, 32, 1);
     CHECK(job(1, 32, 16, sizeof out) == 16 && out[16] == SPARE);
-    put_head(expected, 0, 1, 32, 1);
+    put_head_of(AMOUNT_SHEET, expected, 0, 1, 32, 1);
     CHECK(memcmp(out, expected, 16) == 0);
     check_job_refusals();
 }

@@ -1,4 +1,4 @@
-/* Independent implementation, not proved: self-test of reader and writer. */
+/* Independent implementation, not proved: self-test of the writer and of reads of class sheets. */
 #include <string.h>
 
 #include "check.h"
@@ -126,7 +126,7 @@ void check_writing(void)
     size_t written = 99;
     memset(out, SPARE, sizeof out);
     CHECK(is(oracle_write(2, 2, lower, 5, upper, 5, out, sizeof out, &written), 0, 0, 0, 0));
-    put_head(expected, 1, 2, 2, 4);
+    put_head_of(AMOUNT_SHEET, expected, 1, 2, 2, 4);
     put_cell(expected + RECORD_BYTES, 2, 0, 1, NEGATIVE | ONE, 0, 0);
     put_cell(expected + 2 * RECORD_BYTES, 3, 1, 0, 0, TWO, 0);
     put_cell(expected + 3 * RECORD_BYTES, 0, 1, 1, 1, 1, 0);
@@ -144,7 +144,7 @@ void check_writing(void)
     fill(lo, 1024, NEGATIVE);
     fill(hi, 1024, 0);
     CHECK(is(oracle_write(32, 32, lo, 1024, hi, 1024, out, 16, &written), 0, 0, 0, 0));
-    put_head(expected, 0, 32, 32, 1);
+    put_head_of(AMOUNT_SHEET, expected, 0, 32, 32, 1);
     CHECK(written == 16 && memcmp(out, expected, 16) == 0);
     check_write_refusals();
 }

@@ -8,11 +8,11 @@
 
 static uint8_t sheets[8 * 16400 + 16], out[16401];
 
-/* Puts the cell into the sheet at this position, from 1 on. */
+/* Puts the cell into the sheet at this position, from 1 on; odd ones are amount sheets. */
 static void put(size_t position, uint32_t lo, uint32_t hi)
 {
     uint8_t *sheet = sheets + SHEET * (position - 1);
-    put_head(sheet, 1, 1, 1, 2);
+    put_head_of(position % 2 == 1 ? AMOUNT_SHEET : CLASS_SHEET, sheet, 1, 1, 1, 2);
     put_cell(sheet + RECORD_BYTES, 0, 0, 0, lo, hi, 0);
 }
 
@@ -41,7 +41,7 @@ static bool refuses(uint32_t method, uint32_t count, size_t len, size_t out_len,
 static bool gives(uint32_t method, uint32_t count, uint32_t lo, uint32_t hi)
 {
     uint8_t expected[SHEET];
-    put_head(expected, 1, 1, 1, 2);
+    put_head_of(AMOUNT_SHEET, expected, 1, 1, 1, 2);
     put_cell(expected + RECORD_BYTES, 0, 0, 0, lo, hi, 0);
     return train(method, count, SHEET * count, SHEET) == SHEET
         && memcmp(out, expected, SHEET) == 0 && out[SHEET] == SPARE;
@@ -77,7 +77,7 @@ static void check_values(void)
     CHECK(refuses(1, 3, 3 * SHEET, SHEET, 5090000));
 }
 
-/* A sheet alone is written as it was read: widened, class 0, only cells that are not zero. */
+/* A sheet alone is written as it was read: widened, amount 0, only cells that are not zero. */
 static void check_alone(void)
 {
     put_head(sheets, 2, 1, 1, 3);
@@ -99,14 +99,14 @@ static void check_order(void)
     put(1, TWO, TWO);
     put(2, TWO, TWO);
     put(3, TWO, TWO);
-    sheets[2 * SHEET + 28] = 8;
-    CHECK(refuses(1, 3, 3 * SHEET, 0, 10030000));
+    sheets[2 * SHEET + 31] = 0xBF;                                      /* an amount of -0.5 */
+    CHECK(refuses(1, 3, 3 * SHEET, 0, 14030000));
     put_head(sheets + SHEET, 1, 1, 2, 2);
     put_cell(sheets + SHEET + RECORD_BYTES, 0, 0, 1, MAX, MAX, 0);
     CHECK(refuses(1, 3, 3 * SHEET, 0, 5090001) && refuses(7, 3, 2 * SHEET, 0, 5090001));
     sheets[SHEET + 28] = 1;
     CHECK(refuses(1, 3, 3 * SHEET, 0, 5020001));
-    sheets[6] = 1;
+    sheets[6] = 2;
     CHECK(refuses(1, 3, 3 * SHEET, 0, 6010000));
     const uint32_t sizes[4][2] = {{1, 2}, {2, 3}, {3, 4}, {4, 5}}, others[4][2] = {{1, 2}, {2, 3}, {2, 4}, {33, 5}};
     put_sizes(4, sizes);

@@ -2,6 +2,7 @@
 #include <string.h>
 
 #include "parts.h"
+#include "records.h"
 
 #define LEAST_LENGTH 16
 #define GREATEST_LENGTH 16400
@@ -22,7 +23,7 @@ uint32_t get_32(const uint8_t *bytes)
     return get_16(bytes) | get_16(bytes + 2) << 16;
 }
 
-static bool all_zero(const uint8_t *bytes, size_t count)
+bool all_zero(const uint8_t *bytes, size_t count)
 {
     for (size_t i = 0; i < count; i++)
         if (bytes[i] != 0)
@@ -30,38 +31,30 @@ static bool all_zero(const uint8_t *bytes, size_t count)
     return true;
 }
 
-/* Whether length and head pass the check for refusal 6. */
+/* Whether the length is one of a sheet, and that of its record count. */
+static bool length_is_good(const uint8_t *s, size_t len)
+{
+    return len % RECORD_BYTES == 0 && len >= LEAST_LENGTH && len <= GREATEST_LENGTH
+        && len == RECORD_BYTES * get_16(s + 4);
+}
+
+/* Whether length and head pass the check for refusal 6: zeros follow a kind that is known. */
 static bool frame_is_good(const uint8_t *s, size_t len)
 {
-    return len % RECORD == 0 && len >= LEAST_LENGTH && len <= GREATEST_LENGTH
-        && len == RECORD * (size_t)get_16(s + 4)
-        && all_zero(s + 6, 10);
+    return length_is_good(s, len) && s[KIND_BYTE] <= AMOUNT_SHEET && all_zero(s + KIND_BYTE + 1, 9);
+}
+
+uint32_t oracle_check_before(const uint8_t *s, size_t len)
+{
+    return length_is_good(s, len) && all_zero(s + 6, 10) ? 0 : 6;
 }
 
 size_t length_of_first(const uint8_t *sheets, size_t len)
 {
     if (len < 6)
         return len;
-    size_t wanted = RECORD * (size_t)get_16(sheets + 4);
+    size_t wanted = RECORD_BYTES * get_16(sheets + 4);
     return wanted < len ? wanted : len;
-}
-
-/* Checks one cell for refusals 6, 10, 3, 4, 5; when it passes, gives the bounds, widened by
-   the amount of its class. */
-static uint32_t read_cell(const uint32_t *amounts, const uint8_t *record, uint32_t *lo, uint32_t *hi)
-{
-    uint32_t lower = get_32(record + 4), upper = get_32(record + 8);
-    uint32_t wear_class = record[12];
-    if (!all_zero(record + 13, 3))
-        return 6;
-    if (wear_class >= CLASSES)
-        return 10;
-    uint32_t number = check_bounds(lower, upper);
-    if (number == 0)
-        number = oracle_operate(SUB, DOWN, lower, amounts[wear_class], lo);
-    if (number == 0)
-        number = oracle_operate(ADD, UP, upper, amounts[wear_class], hi);
-    return number;
 }
 
 /* Follows the chain and puts its cells into the matrix, whose sizes are set and whose
@@ -74,14 +67,14 @@ static struct refusal read_chain(const uint32_t *amounts, const uint8_t *s, stru
     for (uint32_t index = get_16(s); index != 0; ) {
         if (index >= records)
             return refuse(7, 0, 0, 0);
-        const uint8_t *record = s + RECORD * (size_t)index;
+        const uint8_t *record = s + RECORD_BYTES * index;
         size_t row = record[2], column = record[3];
         if (row >= cells->rows || column >= cells->columns)
             return refuse(7, 0, 0, 0);
         size_t place = row * cells->columns + column;
         if (!first && place <= last_place)
             return refuse(8, 0, 0, 0);
-        uint32_t number = read_cell(amounts, record, &cells->lo[place], &cells->hi[place]);
+        uint32_t number = read_cell(s[KIND_BYTE], amounts, record, &cells->lo[place], &cells->hi[place]);
         if (number == 6)
             return refuse(6, 0, 0, 0);
         if (number != 0)

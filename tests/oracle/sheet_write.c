@@ -1,7 +1,9 @@
-/* Independent implementation, not proved: the writer of the coupling sheet. */
+/* Independent implementation, not proved: the writer of the coupling sheet, which writes
+   amount sheets with the amount zero. */
 #include <string.h>
 
 #include "parts.h"
+#include "records.h"
 
 static void put_16(uint8_t *bytes, uint32_t value)
 {
@@ -37,10 +39,10 @@ static struct refusal check_write(size_t rows, size_t columns,
         if (number != 0)
             return refuse(number, 0, i / columns, i % columns);
     }
-    *needed = RECORD;
+    *needed = RECORD_BYTES;
     for (size_t i = 0; i < cells; i++)
         if (!is_zero_cell(lo[i], hi[i]))
-            *needed += RECORD;
+            *needed += RECORD_BYTES;
     return *needed > out_len ? refuse(11, 0, 0, 0) : ACCEPTED;
 }
 
@@ -55,16 +57,17 @@ struct refusal oracle_write(size_t rows, size_t columns,
                                          out_len, &needed);
     if (refusal.number != 0)
         return refusal;
-    uint32_t records = (uint32_t)(needed / RECORD), index = 1;
+    uint32_t records = (uint32_t)(needed / RECORD_BYTES), index = 1;
     memset(out, 0, needed);
     put_16(out, records > 1 ? 1 : 0);
     out[2] = (uint8_t)rows;
     out[3] = (uint8_t)columns;
     put_16(out + 4, records);
+    out[KIND_BYTE] = AMOUNT_SHEET;
     for (size_t i = 0; i < rows * columns; i++) {
         if (is_zero_cell(lo[i], hi[i]))
             continue;
-        uint8_t *record = out + RECORD * (size_t)index;
+        uint8_t *record = out + RECORD_BYTES * index;
         index++;
         put_16(record, index < records ? index : 0);
         record[2] = (uint8_t)(i / columns);

@@ -1,4 +1,5 @@
-//! Tests of the Rust wrapper beside job, train, loaded amounts and conversions, not proved: sheets, product, operations, each refusal.
+//! Tests of the Rust wrapper beside job, train, loaded amounts, kinds of sheets and conversions, not proved: sheets, product, operations,
+//! each refusal.
 use coupling::*;
 
 const HALF: u32 = 0x3F00_0000;
@@ -53,6 +54,7 @@ fn refusals_of_a_write() {
 fn refusals_of_a_read() {
     let mut sheet = [0; 32];
     write(matrix(1, 1, &[ONE], &[LARGEST]), &mut sheet).expect("not refused");
+    sheet[6] = KIND_CLASS;
     let answer = |at: usize, byte: u8, room: usize| {
         let (mut damaged, mut low, mut high) = (sheet, [GUARD; 1], [GUARD; 1]);
         damaged[at] = byte;

@@ -1,10 +1,10 @@
 //! Tests of the sheet job in the Rust wrapper, not proved: a success by each method, each refusal, and the codes.
-use coupling::{multiply, Method, Refusal, SHEET_MAX};
+use coupling::{multiply, Method, Refusal, KIND_AMOUNT, SHEET_MAX};
 
 const METHODS: [Method; 5] = [Method::Classical, Method::Three, Method::Four, Method::Five, Method::Seven];
 const LENGTH: usize = 48;
 
-/// 2 by 2 with cells (0, 0) and (1, 1), both [-1, 2].
+/// A class sheet, 2 by 2 with cells (0, 0) and (1, 1), both [-1, 2].
 fn sheet() -> [u8; LENGTH] {
     let mut s = [0; LENGTH];
     s[..6].copy_from_slice(&[1, 0, 2, 2, 3, 0]);
@@ -40,12 +40,13 @@ fn products() {
         let length = multiply(method, &sheet(), &sheet(), &mut out).expect("not refused");
         let zeros_widened = matches!(method, Method::Three | Method::Five);
         assert_eq!(length, if zeros_widened { 80 } else { LENGTH });
-        assert_eq!(out[2..6], [2, 2, (length / 16) as u8, 0]);
+        assert_eq!(out[2..7], [2, 2, (length / 16) as u8, 0, KIND_AMOUNT]);
     }
     let mut out = [0; LENGTH];
     assert_eq!(multiply(Method::Classical, &sheet(), &sheet(), &mut out), Ok(LENGTH));
     assert_eq!(out, {
         let mut product = with(20, &[0, 0, 0, 0xC0, 0, 0, 0x80, 0x40]);
+        product[6] = KIND_AMOUNT;
         product[36..44].copy_from_slice(&[0, 0, 0, 0xC0, 0, 0, 0x80, 0x40]);
         product
     });
@@ -60,7 +61,7 @@ fn refusals_of_a_sheet() {
         (36, &infinite, [3, 1, 1]),
         (20, &largest, [4, 0, 0]),
         (40, &[0xFF, 0xFF, 0x7F, 0x7F, 1], [5, 1, 1]),
-        (6, &[1], [6, 0, 0]),
+        (6, &[2], [6, 0, 0]),
         (45, &[1], [6, 0, 0]),
         (34, &[2], [7, 0, 0]),
         (32, &[1], [8, 0, 0]),

@@ -1,5 +1,5 @@
 //! Tests of the train in the Rust wrapper, not proved: a success by each method and count, and each refusal at each position.
-use coupling::{train, Method, Refusal, SHEETS_MAX, SHEET_MAX};
+use coupling::{train, Method, Refusal, KIND_AMOUNT, SHEETS_MAX, SHEET_MAX};
 
 const METHODS: [Method; 5] = [Method::Classical, Method::Three, Method::Four, Method::Five, Method::Seven];
 const LENGTH: usize = 32;
@@ -7,13 +7,20 @@ const ONE: u32 = 0x3F80_0000;
 const TWO: u32 = 0x4000_0000;
 const LARGEST: u32 = coupling::LARGEST;
 
-/// 1 by 1 with this cell.
+/// A class sheet, 1 by 1 with this cell.
 fn sheet(lower: u32, upper: u32, wear_class: u8) -> [u8; LENGTH] {
     let mut s = [0; LENGTH];
     s[..6].copy_from_slice(&[1, 0, 1, 1, 2, 0]);
     s[20..24].copy_from_slice(&lower.to_le_bytes());
     s[24..28].copy_from_slice(&upper.to_le_bytes());
     s[28] = wear_class;
+    s
+}
+
+/// What is written for a matrix of 1 by 1: an amount sheet, the amount zero.
+fn written(lower: u32, upper: u32) -> [u8; LENGTH] {
+    let mut s = sheet(lower, upper, 0);
+    s[6] = KIND_AMOUNT;
     s
 }
 
@@ -52,7 +59,7 @@ fn products() {
             assert!(out[LENGTH..].iter().all(|&byte| byte == 0xA5));
             let power = TWO + ((count - 1) << 23);
             let exact = !matches!(method, Method::Three | Method::Five) || count == 1;
-            assert_eq!(out[..LENGTH] == sheet(power, power, 0), exact);
+            assert_eq!(out[..LENGTH] == written(power, power), exact);
         }
     }
 }
@@ -61,7 +68,7 @@ fn products() {
 fn a_sheet_alone_is_written_as_it_was_read() {
     let mut out = [0; LENGTH];
     assert_eq!(train(Method::Seven, 1, &sheet(ONE, ONE, 7), &mut out), Ok(LENGTH));
-    assert_eq!(out, sheet(0x3F70_0000, 0x3F88_0000, 0)); // 1 -+ 1/16
+    assert_eq!(out, written(0x3F70_0000, 0x3F88_0000)); // 1 -+ 1/16
 }
 
 #[test]
@@ -72,7 +79,7 @@ fn refusals_of_a_sheet() {
         (26, &[0x80, 0x7F], 3),
         (20, &[0xFF, 0xFF, 0x7F, 0x7F], 4),
         (24, &[0xFF, 0xFF, 0x7F, 0x7F, 1], 5),
-        (6, &[1], 6),
+        (6, &[2], 6),
         (31, &[1], 6),
         (18, &[1], 7),
         (16, &[1], 8),

@@ -6,22 +6,29 @@
 import pathlib
 import sys
 
-from sheets import FULL, GOOD, INFINITY, MAX, NEGATIVE, ONE, TWO, cell, head, patched
+from records import (AMOUNT, CLASS, FULL, GOOD, GOOD_AMOUNTS, INFINITY, KIND_BYTE, MAX, NAN, NEGATIVE, ONE, SIXTEENTH, TENTH, TWO, cell, good,
+                     head, patched)
 
 # 1 by 1: [1, 2] and [-1, 3]
 A = head(1, 1, 1, 2) + cell(0, 0, 0, ONE, TWO)
 B = head(1, 1, 1, 2) + cell(0, 0, 0, ONE | NEGATIVE, 0x40400000)
 # 1 by 1, [0, 0], in 16,400 bytes: 1,024 records outside the chain
 LONG = head(0, 1, 1, 1025) + bytes(16384)
-# 3 by 2: wide, worn and point cells, one of them negative; its second row has no cell
-THREE = head(1, 3, 2, 4) + cell(2, 0, 0, ONE, TWO) + cell(3, 0, 1, TWO | NEGATIVE, ONE, 7) + cell(0, 2, 0, 0x3DCCCCCD, 0x3DCCCCCD)
 
 
-def one(**changes):
-    """B, its cell changed."""
+def three(kind, wear):
+    """3 by 2: wide, worn and point cells, one of them negative; its second row has no cell."""
+    return head(1, 3, 2, 4, kind) + cell(2, 0, 0, ONE, TWO) + cell(3, 0, 1, TWO | NEGATIVE, ONE, wear) + cell(0, 2, 0, TENTH, TENTH)
+
+
+THREE, THREE_AMOUNTS = three(CLASS, 7), three(AMOUNT, SIXTEENTH)
+
+
+def one(kind=CLASS, **changes):
+    """B, its cell changed, or an amount sheet of this one cell."""
     fields = dict(link=0, row=0, column=0, lower=ONE, upper=TWO)
     fields.update(changes)
-    return head(1, 1, 1, 2) + cell(**fields)
+    return head(1, 1, 1, 2, kind) + cell(**fields)
 
 
 # 1 by 1: [1 - 2^-24, 1 + 2^-23], whose midpoint has to be rounded, and [1, 1]
@@ -62,9 +69,17 @@ CASES = {
     "overflow-5": b"5" + one(lower=MAX, upper=MAX) + one(upper=ONE), "wide-in-A": b"5" + WIDE_ROW + SMALL, "wide-in-A-4": b"4" + WIDE_ROW + SMALL,
     "wide-in-B": b"5" + SMALL + WIDE_COLUMN,
     "overflow-in-row-2": b"4" + THREE[:48] + cell(0, 2, 0, MAX, MAX) + head(1, 2, 1, 2) + cell(0, 0, 0, TWO, TWO),
-    "layout-in-A": b"1" + patched(A, 6, [1]) + B, "layout-in-B": b"1" + A + one(spare=b"\1\0\0"),
+    "layout-in-A": b"1" + patched(A, 7, [1]) + B, "layout-in-B": b"1" + A + one(wear=0x100),
     "index-in-A": b"1" + patched(A, 0, [2]) + B, "index-in-B": b"1" + A + one(row=1), "unordered-in-A": b"1" + one(link=1) + B, "unordered-in-B": b"1" + A + one(link=1),
     "class-in-A": b"1" + one(wear=8) + B, "class-in-B": b"1" + A + one(wear=255), "class-at-1-2": b"1" + patched(GOOD, 44, [8]) + B,
+    # the kinds of sheets, and 14
+    "amounts-by-amounts": b"1" + THREE_AMOUNTS + GOOD_AMOUNTS, "classes-by-amounts": b"4" + THREE + GOOD_AMOUNTS, "amounts-by-classes": b"7" + THREE_AMOUNTS + GOOD,
+    "plain-form": b"5" + one(AMOUNT) + one(AMOUNT), "minus-zero": b"3" + one(AMOUNT, wear=NEGATIVE) + B, "kind-1": b"1" + patched(A, KIND_BYTE, [1]) + B,
+    "kind-2-in-A": b"1" + patched(A, KIND_BYTE, [2]) + B, "kind-255-in-B": b"1" + A + patched(B, KIND_BYTE, [255]),
+    "below-zero-in-A": b"1" + one(AMOUNT, wear=ONE | NEGATIVE) + B, "below-zero-in-B": b"4" + A + one(AMOUNT, wear=1 | NEGATIVE),
+    "below-zero-at-1-2": b"1" + good(AMOUNT, ONE | NEGATIVE) + B, "14-before-3": b"1" + one(AMOUNT, lower=NAN, wear=ONE | NEGATIVE) + B,
+    "amount-infinite-in-A": b"1" + one(AMOUNT, wear=INFINITY) + B, "amount-infinite-in-B": b"7" + A + one(AMOUNT, lower=TWO, upper=ONE, wear=INFINITY | NEGATIVE),
+    "amount-overflow-in-A": b"1" + one(AMOUNT, upper=MAX, wear=1) + B, "amount-overflow-in-B": b"5" + A + one(AMOUNT, wear=MAX),
 }
 
 if __name__ == "__main__":

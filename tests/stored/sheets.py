@@ -1,38 +1,11 @@
 #!/usr/bin/env python3
-"""Stored sheets, good and damaged: prints them to standard output as text, without answers. tests/drivers/sheet_stored.h has the form."""
-ONE, TWO, MAX, NEGATIVE, INFINITY, NAN = 0x3F800000, 0x40000000, 0x7F7FFFFF, 0x80000000, 0x7F800000, 0x7FC00001
+"""Stored sheets, good and damaged: prints them to standard output as text, without answers. tests/drivers/sheet_stored.h has the form.
 
-
-def number(n, count):
-    return n.to_bytes(count, "little")
-
-
-def head(first, rows, columns, records, rest=bytes(10)):
-    return number(first, 2) + bytes([rows, columns]) + number(records, 2) + rest
-
-
-def cell(link, row, column, lower, upper, wear=0, spare=bytes(3)):
-    return number(link, 2) + bytes([row, column]) + number(lower, 4) + number(upper, 4) + bytes([wear]) + spare
-
-
-def patched(sheet, at, new):
-    return sheet[:at] + bytes(new) + sheet[at + len(new):]
-
-
-# 2 by 3, cells (0,1), (1,0), (1,2) in records 3, 1, 2
-GOOD = (head(3, 2, 3, 4) + cell(2, 1, 0, NEGATIVE, NEGATIVE) + cell(0, 1, 2, ONE, ONE, 7) + cell(1, 0, 1, ONE, TWO))
-# 32 by 32, all 1,024 cells in order: 16,400 bytes
-FULL = head(1, 32, 32, 1025) + b"".join(
-    cell((i + 2) % 1025, i // 32, i % 32, ONE + i, TWO + i, i % 8) for i in range(1024))
-ONE_CELL = head(1, 1, 1, 2)
-
-
-def last(**changes):
-    """GOOD, its last cell (1,2) changed."""
-    fields = dict(link=0, row=1, column=2, lower=ONE, upper=TWO, wear=0, spare=bytes(3))
-    fields.update(changes)
-    return GOOD[:32] + cell(**fields) + GOOD[48:]
-
+The cases here are class sheets; those of amount_sheets.py, which has the amount sheets, follow them.
+"""
+import amount_sheets
+from records import (AMOUNT, FIXED, FULL, GOOD, INFINITY, KIND_BYTE, LARGE, MAX, NAN, NEGATIVE, ONE, ONE_CELL, TWO, cell, head, last, load, number,
+                     patched)
 
 # read into slices of 1,026 words, and written to a buffer of 16,416 bytes
 CASES = [
@@ -43,16 +16,16 @@ CASES = [
     ("one byte less", GOOD[:-1]), ("one byte more", GOOD + b"\0"), ("a record less", GOOD[:-16]), ("a record more", GOOD + bytes(16)),
     ("all ones", b"\xFF" * 64), ("all ones, one record", b"\xFF" * 16), ("all zeros", bytes(16)),
     ("record count 0", patched(GOOD, 4, number(0, 2))), ("record count too high", patched(GOOD, 4, number(5, 2))),
-] + [("head byte %d" % i, patched(GOOD, i, [1])) for i in (6, 7, 12, 15)] + [
+] + [("head byte %d" % i, patched(GOOD, i, [1])) for i in (7, 12, 15)] + [
     ("rows 0", patched(GOOD, 2, [0])), ("rows 33", patched(GOOD, 2, [33])), ("columns 0", patched(GOOD, 3, [0])), ("columns 33", patched(GOOD, 3, [33])),
     ("6 before 1", patched(patched(GOOD, 2, [0]), 15, [1])), ("1 before 7", patched(patched(GOOD, 2, [0]), 0, [9])),
     ("first index at the count", patched(GOOD, 0, [4])), ("first index past it", patched(GOOD, 0, [0xFF, 0xFF])),
     ("next at the count", last(link=4)), ("next past it", last(link=0xFFFF)), ("an index is looked at when it is followed", last(link=4, wear=9)),
     ("row at the size", last(row=2)), ("column at the size", last(column=3)), ("7 before 8", patched(last(row=0, column=3), 45, [1])),
     ("an equal place", last(column=0)), ("an earlier place", last(row=0, column=2)), ("a link to itself", last(link=2)), ("a loop", last(link=3)),
-    ("a loop from the first cell", ONE_CELL + cell(1, 0, 0, ONE, TWO)), ("8 before 6", last(column=0, spare=b"\1\0\0")),
+    ("a loop from the first cell", ONE_CELL + cell(1, 0, 0, ONE, TWO)), ("8 before 6", last(column=0, wear=0x100)),
 ] + [("cell byte %d" % i, patched(GOOD, 32 + i, [1])) for i in (13, 14, 15)] + [
-    ("6 before 10", last(spare=b"\1\0\0", wear=8)), ("class 8", last(wear=8)), ("class 255", last(wear=255)), ("10 before 3", last(wear=8, lower=NAN)),
+    ("6 before 10", last(wear=0x108)), ("class 8", last(wear=8)), ("class 255", last(wear=255)), ("10 before 3", last(wear=8, lower=NAN)),
     ("lower infinite", last(lower=INFINITY | NEGATIVE)), ("upper infinite", last(upper=INFINITY)), ("lower no number", last(lower=NAN)),
     ("upper no number", last(upper=NAN | NEGATIVE)), ("3 before 4", last(lower=INFINITY)), ("lower above upper", last(lower=TWO, upper=ONE)),
     ("lower above upper, negative", last(lower=ONE | NEGATIVE, upper=TWO | NEGATIVE)), ("zeros of both signs", last(lower=0, upper=NEGATIVE)),
@@ -65,20 +38,11 @@ CASES = [
 # sheet, words of the two slices, bytes of the buffer
 LENT = [
     ("lowers too short", GOOD, 5, 6, 16400), ("uppers too short", GOOD, 6, 5, 16400), ("2 before 7", patched(GOOD, 0, [9]), 0, 0, 16400),
+    ("2 before 14", last(AMOUNT, wear=ONE | NEGATIVE), 6, 5, 16400),
     ("1 before 2", patched(GOOD, 2, [33]), 0, 0, 16400), ("just long enough", GOOD, 6, 6, 64), ("an out buffer too short", GOOD, 6, 6, 47),
     ("a head's room", head(0, 2, 3, 1), 6, 6, 16), ("less than a head's room", head(0, 2, 3, 1), 6, 6, 15),
     ("1,024 cells, an out buffer a byte too short", FULL, 1024, 1024, 16399),
 ]
-
-TENTH, LARGE = 0x3DCCCCCD, 0x7F000000  # the number nearest to 0.1, and 2^127
-FIXED = [0] + [(117 + c) << 23 for c in range(7)]
-OWN = [0, TENTH, ONE, ONE, TWO, TWO + 1, LARGE, MAX]
-
-
-def load(changes=(), amounts=OWN):
-    """The bytes of a load: these amounts, those of the classes in changes replaced."""
-    return b"".join(number(dict(changes).get(c, amount), 4) for c, amount in enumerate(amounts))
-
 
 # load, sheet: read with the amounts of the load
 WITH = [
@@ -102,7 +66,7 @@ WITH = [
     ("amounts, widened past MAX, negative", load(), last(lower=(LARGE - 1) | NEGATIVE, upper=0, wear=6)),
 ]
 
-HEAD_FIELDS, CELL_FIELDS = (2, 3, 4, 6), (2, 3, 4, 8, 12, 13)
+HEAD_FIELDS, CLASS_FIELDS, AMOUNT_FIELDS = (2, 3, 4, 6, 7), (2, 3, 4, 8, 12, 13), (2, 3, 4, 8, 12)
 
 
 def text_of(record, starts):
@@ -114,6 +78,8 @@ def stored():
     yield from ((name, None, sheet, 1026, 1026, 16416) for name, sheet in CASES)
     yield from ((name, None, sheet, lowers, uppers, room) for name, sheet, lowers, uppers, room in LENT)
     yield from ((name, amounts, sheet, 1026, 1026, 16416) for name, amounts, sheet in WITH)
+    yield from ((name, None, sheet, 1026, 1026, 16416) for name, sheet in amount_sheets.CASES)
+    yield from ((name, amounts, sheet, 1026, 1026, 16416) for name, amounts, sheet in amount_sheets.WITH)
 
 
 def main():
@@ -123,7 +89,8 @@ def main():
         if amounts is not None:
             print("amounts" + text_of(amounts, range(0, len(amounts), 4)))
         for at in range(0, len(sheet), 16):
-            print(text_of(sheet[at:at + 16], CELL_FIELDS if at else HEAD_FIELDS))
+            cell_fields = AMOUNT_FIELDS if at and sheet[KIND_BYTE] == AMOUNT else CLASS_FIELDS
+            print(text_of(sheet[at:at + 16], cell_fields if at else HEAD_FIELDS))
 
 
 if __name__ == "__main__":

@@ -1,5 +1,5 @@
 """Tests of tools/sheet on texts of wear amounts, not proved: amounts.py LIBRARY SEED. Texts and loads by name, there and back by the commands, and
-decimals beside exact fractions. tests/tools/loads.py has random loads."""
+decimals, in loads and in cells, beside exact fractions. tests/tools/loads.py has random loads."""
 import os
 import random
 import sys
@@ -13,6 +13,7 @@ from draws import random_decimal, random_neighbour
 from library import Library
 import binary32
 from amounts_text import read_amounts
+from sheet_text import read_sheet
 
 
 def test_named(library, folder):
@@ -57,11 +58,13 @@ def random_words(draw):
 
 
 def test_rounding(draw, count):
-    """Each packed pattern is that of the least number not below the decimal."""
+    """Each packed pattern is that of the least number not below the decimal, in a load and in the cells of a sheet."""
     for _ in range(count):
         words = random_words(draw)
         first, *patterns = read_amounts("".join(word + draw.choice(" \t\n") for word in ["0", *words]).encode())
         assert first == 0 and len(patterns) == 7
+        cells = read_sheet(("sheet 1 7\n" + "".join(f"0 {i} 0 0 +{word}\n" for i, word in enumerate(words))).encode()).records
+        assert [cell.wear for cell in cells] == patterns, words
         for word, pattern in zip(words, patterns):
             exact = Fraction(Decimal(word))
             assert exact <= binary32.value(pattern) and (pattern == 0 or binary32.value(pattern - 1) < exact), word

@@ -7,7 +7,7 @@ import tempfile
 from support import TOOL, check_all, in_file, ok, ran
 from sheet_bytes import SENTENCES
 
-USAGE = "usage: tools/sheet pack TEXT, or show SHEET, or show --hex SHEET, or amounts TEXT, or show --amounts LOAD, or table, or --help"
+USAGE = "usage: tools/sheet pack TEXT, or show SHEET, or show --hex SHEET, or convert SHEET [LOAD], or amounts TEXT, or show --amounts LOAD, or table, or --help"
 BAD = "Bad file descriptor"
 FULL = "standard output: No space left on device"
 CLOSED = f"standard output: {BAD}"
@@ -23,6 +23,8 @@ CASES = [
     ("show without a file", "sheet show", 2, USAGE),
     ("show with two files", "sheet show packed packed", 2, USAGE),
     ("show with three words", "sheet show --hex packed packed", 2, USAGE),
+    ("convert without a file", "sheet convert", 2, USAGE),
+    ("convert with three files", "sheet convert packed load load", 2, USAGE),
     ("amounts without a file", "sheet amounts", 2, USAGE),
     ("amounts with two files", "sheet amounts worn worn", 2, USAGE),
     ("show --amounts with two files", "sheet show --amounts load load", 2, USAGE),
@@ -30,6 +32,8 @@ CASES = [
     ("--help with a word", "sheet --help pack", 2, USAGE),
     ("pack, no such file", "sheet pack none", 2, "none: No such file or directory"),
     ("show, no such file", "sheet show none", 2, "none: No such file or directory"),
+    ("convert, no such file", "sheet convert none load", 2, "none: No such file or directory"),
+    ("convert, no such load", "sheet convert packed none", 2, "none: No such file or directory"),
     ("amounts, no such file", "sheet amounts none", 2, "none: No such file or directory"),
     ("show --amounts, no such file", "sheet show --amounts none", 2, "none: No such file or directory"),
     ("pack, directory", "sheet pack .", 2, ".: Is a directory"),
@@ -47,6 +51,7 @@ CASES = [
     ("show, no permission", "sheet show closed", 2, "closed: Permission denied"),
     ("pack, endless file", "sheet pack /dev/zero", 2, f"/dev/zero: {LONG}"),
     ("show, endless file", "sheet show /dev/zero", 1, f"/dev/zero: refusal 6: {SENTENCES[6]} (the length is above 16400 bytes)"),
+    ("convert, a sheet as load", "sheet convert packed packed", 1, f"packed: refusal 13: {SENTENCES[13]} (class 0: 01010001)"),
     ("amounts, endless file", "sheet amounts /dev/zero", 2, f"/dev/zero: {LONG}"),
     ("show --amounts, endless file", "sheet show --amounts /dev/zero", 1, f"/dev/zero: refusal 6: {SENTENCES[6]} (the length is above 32 bytes)"),
     ("table, endless input", "sheet table </dev/zero", 2, f"standard input: {LONG}"),
@@ -58,6 +63,7 @@ CASES = [
     ("--help, output closed", "sheet --help >&-", 1, CLOSED),
     ("pack, disk full", "sheet pack text >/dev/full", 1, FULL),
     ("show, disk full", "sheet show packed >/dev/full", 1, FULL),
+    ("convert, disk full", "sheet convert packed load >/dev/full", 1, FULL),
     ("amounts, disk full", "sheet amounts worn >/dev/full", 1, FULL),
     ("show --amounts, disk full", "sheet show --amounts load >/dev/full", 1, FULL),
     ("table, disk full", "sheet table <product >/dev/full", 1, FULL),
@@ -76,7 +82,7 @@ CASES = [
 ]
 
 # Name and words of the tool; its standard input is 'product', its standard output a pipe that nobody reads.
-UNREAD = [("pack", "pack", "text"), ("show", "show", "packed"), ("show --hex", "show", "--hex", "packed"), ("amounts", "amounts", "worn"),
+UNREAD = [("pack", "pack", "text"), ("show", "show", "packed"), ("show --hex", "show", "--hex", "packed"), ("convert", "convert", "packed", "load"), ("amounts", "amounts", "worn"),
           ("show --amounts", "show", "--amounts", "load"), ("table", "table"), ("--help", "--help")]
 
 

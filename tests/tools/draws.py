@@ -1,9 +1,10 @@
-"""For the tests of tools/sheet, not proved: random decimals and patterns, and texts that are damaged and read. Imported after support, which has
-the tool's modules found."""
+"""For the tests of tools/sheet, not proved: random decimals, patterns and sheets, and texts that are damaged and read. Imported after support,
+which has the tool's modules found."""
 from decimal import Context, Decimal
 
-from support import EDGES, ok
+from support import EDGES, KINDS, ok
 import binary32
+from sheet_bytes import CLASS_SHEET, MOST_CLASS, Cell, Sheet, widens_beyond
 from text_lines import BadText
 
 
@@ -27,6 +28,25 @@ def random_pattern(draw):
         pattern = draw.choice([draw.choice(EDGES) | draw.getrandbits(1) << 31, draw.getrandbits(32), 0x3F000000 + draw.getrandbits(25)])
         if binary32.is_finite(pattern):
             return pattern
+
+
+def random_amount(draw):
+    """A pattern that is not below zero; zeros have either sign."""
+    return draw.choice([random_pattern(draw) & ~binary32.MINUS_ZERO, 0]) or draw.choice([0, binary32.MINUS_ZERO])
+
+
+def random_sheet(draw, kind=None):
+    """A sheet of this kind or of either, with records in any order, some of them outside the chain. A cell that would be widened too far has wear 0."""
+    rows, columns, kind = draw.randint(1, 6), draw.randint(1, 6), draw.choice(KINDS) if kind is None else kind
+    records = [draw.randbytes(16) for _ in range(draw.randint(0, 2))]
+    for place in range(rows * columns):
+        if draw.random() < 0.6:
+            bounds = sorted((random_pattern(draw), random_pattern(draw)), key=binary32.value)
+            wear = draw.randint(0, MOST_CLASS) if kind == CLASS_SHEET else random_amount(draw)
+            cell = Cell(*divmod(place, columns), *bounds, wear)
+            records.append(cell._replace(wear=0) if widens_beyond(kind, cell) else cell)
+    draw.shuffle(records)
+    return Sheet(rows, columns, kind, records)
 
 
 def damage_text(draw, data):

@@ -3,6 +3,7 @@ which has the tool's modules found."""
 import ctypes
 import os
 
+from support import KINDS
 from sheet_bytes import MOST_BYTES, MOST_CELLS, Sheet, encode
 
 
@@ -43,7 +44,7 @@ class Library:
         return returned, list(zip(lowers[:cells], uppers[:cells]))
 
     def load_number(self, load):
-        """The number of the refusal of a load, or 0. The sheet has one cell, [0, 0], so nothing else is refused."""
-        returned, _ = self.read_with(load, encode(Sheet(1, 1, [])))
-        assert returned == 101 or returned % 1000000 == 0, returned
+        """The number of the refusal of a load, or 0. The sheet, of either kind, has one cell, [0, 0], so nothing else is refused."""
+        returned, other = (self.read_with(load, encode(Sheet(1, 1, kind, [])))[0] for kind in KINDS)
+        assert returned == other and (returned == 101 or returned % 1000000 == 0), (returned, other)
         return returned // 1000000

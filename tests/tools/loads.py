@@ -3,13 +3,13 @@ loads and damaged texts, all beside the library."""
 import random
 import sys
 
-from support import ok
-from draws import check_damaged_texts, random_pattern
+from support import KINDS, ok
+from draws import check_damaged_texts, random_pattern, random_sheet
 from library import Library
 import binary32
 from amounts_bytes import LOAD_BYTES, decode_amounts, encode_amounts
 from amounts_text import read_amounts, text_of_amounts
-from sheet_bytes import Cell, Refused, Sheet, encode
+from sheet_bytes import AMOUNT_SHEET, CLASS_SHEET, FIXED_AMOUNTS, Cell, Refused, Sheet, decode, encode, with_amounts
 
 
 def random_amounts(draw):
@@ -35,20 +35,47 @@ def widened(cell, amount):
 
 
 def test_read(library, draw, count):
-    """A cell of class c is widened by amount c, outward; the first that is widened too far is refused."""
+    """A cell of class c is widened by amount c, outward, and one with an amount by that; the first that is widened too far is refused."""
     refused = 0
     for _ in range(count):
-        patterns = random_amounts(draw)
-        cells = [Cell(0, c, *sorted((random_pattern(draw), random_pattern(draw)), key=binary32.value), c) for c in range(8)]
-        expected = [widened(cell, binary32.value(patterns[cell.wear])) for cell in cells]
-        code, met = library.read_with(encode_amounts(patterns), encode(Sheet(1, 8, cells)))
+        loaded, own, kind = random_amounts(draw), random_amounts(draw), draw.choice(KINDS)
+        wear, amounts = (range(8), loaded) if kind == CLASS_SHEET else (own, own)
+        cells = [Cell(0, i, *sorted((random_pattern(draw), random_pattern(draw)), key=binary32.value), wear[i]) for i in range(8)]
+        expected = [widened(cell, binary32.value(amount)) for cell, amount in zip(cells, amounts)]
+        code, met = library.read_with(encode_amounts(loaded), encode(Sheet(1, 8, kind, cells)))
         if None in expected:
             refused += 1
-            assert code == 5000000 + expected.index(None), (code, patterns, cells)
+            assert code == 5000000 + expected.index(None), (code, loaded, kind, cells)
         else:
-            assert (code, met) == (108, expected), (code, patterns, cells)
+            assert (code, met) == (108, expected), (code, loaded, kind, cells)
     assert count / 20 < refused < count * 19 / 20, refused
-    ok("reads with a load", f"{count} sheets with all classes, {refused} refused with 5, the others widened as by exact fractions")
+    ok("reads with a load", f"{count} sheets of both kinds, {refused} refused with 5, the others widened as by exact fractions")
+
+
+def converted(data, amounts):
+    """What convert makes of a sheet with these amounts, or the code of the refusal."""
+    try:
+        return 0, encode(with_amounts(decode(data, amounts), amounts))
+    except Refused as refused:
+        return 1000000 * refused.number + 100 * refused.row + refused.column, None
+
+
+def test_convert(library, draw, count):
+    """A converted sheet is read without its load as the sheet is with it: the library refuses it where the tool does, and an amount sheet stays."""
+    refused = 0
+    for _ in range(count):
+        amounts = draw.choice([FIXED_AMOUNTS, random_amounts(draw)])
+        data = encode(random_sheet(draw))
+        code, other = converted(data, amounts)
+        expected = library.read_with(encode_amounts(amounts), data)
+        if other is None:
+            refused += 1
+            assert expected[0] == code, (code, expected, amounts, data.hex())
+        else:
+            assert library.read_with(encode_amounts(FIXED_AMOUNTS), other) == expected and other[6] == AMOUNT_SHEET, (amounts, data.hex())
+            assert data[6] == CLASS_SHEET or other == data, data.hex()
+    assert count / 200 < refused < count / 2, refused
+    ok("tools/sheet, converted sheets", f"{count} of both kinds, {refused} refused as with their load, the others read as with it")
 
 
 def damage(draw, amounts):
@@ -94,6 +121,7 @@ def main(library, seed):
     draw = random.Random(seed)
     test_round_trips(library, draw, 1000)
     test_read(library, draw, 2000)
+    test_convert(library, draw, 2000)
     test_damage(library, draw, 10000)
     texts = (text_of_amounts(random_amounts(draw)) for _ in range(5000))
     check_damaged_texts("tools/sheet, damaged texts of loads", draw, texts, read_amounts, lambda patterns: library.load_number(encode_amounts(patterns)) == 0)

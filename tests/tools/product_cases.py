@@ -11,7 +11,7 @@ INDEX = f"is not a whole number from 0 to 1, {PLAIN}"
 DIGITS = "is not eight hexadecimal digits in capitals"
 NO_LINE_FEED = "the line does not end with a line feed"
 TOO_MANY = "the line is one too many"
-NUMBER = "is not 1, 3, 4, 5, 6, 7, 8, 9 or 10"
+NUMBER = "is not 1, 3, 4, 5, 6, 7, 8, 9, 10 or 14"
 
 # Name, text, line and sentence.
 BAD = [
@@ -90,6 +90,7 @@ BAD = [
     ("refusal 11", "refused 11 3 0 0\n", 1, f"refusal '11' {NUMBER}"),
     ("refusal 12", "refused 12 0 0 0\n", 1, f"refusal '12' {NUMBER}"),
     ("refusal 13", "refused 13 0 0 0\n", 1, f"refusal '13' {NUMBER}"),
+    ("refusal 15", "refused 15 1 0 0\n", 1, f"refusal '15' {NUMBER}"),
     ("refusal 09", "refused 09 0 0 0\n", 1, f"refusal '09' {NUMBER}"),
     ("refusal -9", "refused -9 0 0 0\n", 1, f"refusal '-9' {NUMBER}"),
     ("refusal of a million digits", "refused " + "9" * 10**6 + " 0 0 0\n", 1, f"refusal '{'9' * 40}...' {NUMBER}"),
@@ -97,8 +98,10 @@ BAD = [
     ("refusal 5 of a train's product", "refused 5 9 0 0\n", 1, "in refusal 5, matrix '9' is not 1, 2 or 3"),
     ("refusal 6 of a train's third sheet", "refused 6 3 0 0\n", 1, "in refusal 6, matrix '3' is not 1 or 2"),
     ("refusal 4 of the product", "refused 4 3 0 0\n", 1, "in refusal 4, matrix '3' is not 1 or 2"),
+    ("refusal 14 of the product", "refused 14 3 0 0\n", 1, "in refusal 14, matrix '3' is not 1 or 2"),
     ("refusal 9 of a matrix", "refused 9 1 0 0\n", 1, "in refusal 9, matrix '1' is not 0"),
     ("refusal in row 32", "refused 4 1 32 0\n", 1, f"in refusal 4, row '32' is not a whole number from 0 to 31, {PLAIN}"),
+    ("refusal 14 in row 32", "refused 14 1 32 0\n", 1, f"in refusal 14, row '32' is not a whole number from 0 to 31, {PLAIN}"),
     ("refusal in column 01", "refused 4 1 0 01\n", 1, f"in refusal 4, column '01' is not a whole number from 0 to 31, {PLAIN}"),
     ("refusal 6 with a row", "refused 6 1 1 0\n", 1, "in refusal 6, row '1' is not 0"),
     ("refusal 9 with a column", "refused 9 0 0 1\n", 1, "in refusal 9, column '1' is not 0"),

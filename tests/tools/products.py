@@ -30,6 +30,7 @@ GOOD = [
     ("-MAX and the least number", ONE + EDGES, 0, EDGES_TABLE, ""),
     ("method 5", ONE.replace("7", "5") + EDGES, 0, EDGES_TABLE.replace("7", "5", 1), ""),
     ("refusal 10 of a cell", "refused 10 2 1 0\n", 1, "", f"refusal 10: {SENTENCES[10]} (matrix 2, row 1, column 0)\n"),
+    ("refusal 14 of a cell", "refused 14 1 31 2\n", 1, "", f"refusal 14: {SENTENCES[14]} (matrix 1, row 31, column 2)\n"),
     ("refusal 9", "refused 9 0 0 0\r\n", 1, "", f"refusal 9: {SENTENCES[9]} (matrix 0, row 0, column 0)\n"),
     ("refusal 5 of the product", "refused 5 3 31 31\n", 1, "", f"refusal 5: {SENTENCES[5]} (matrix 3, row 31, column 31)\n"),
 ]

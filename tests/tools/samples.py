@@ -1,18 +1,21 @@
 """Test of the sample sheets, not proved: samples.py LIBRARY PROGRAM, where PROGRAM is the independent implementation of the program that prints
-a product. Both are asked for the product of two samples, and the decimals that tools/sheet prints enclose it. A train of three samples is two
-jobs in a row."""
+a product. Both are asked for the product of two class sheets and of two amount sheets, and the decimals that tools/sheet prints enclose it. A train
+of three samples, of both kinds, is two jobs in a row."""
 import os
 import re
 import subprocess
 import sys
 from fractions import Fraction
 
-from support import ROOT, ok, tool
+from support import KINDS, ROOT, ok, tool
 from library import Library
 import binary32
-from sheet_bytes import decode
+from sheet_bytes import AMOUNT_SHEET, CLASS_SHEET, decode
 
 CELL = re.compile(r"row (\d+), column (\d+): \[(.*), (.*)\]")
+
+# Two samples of each kind that fit.
+PAIRS = {CLASS_SHEET: ("motor_to_lever.txt", "lever_to_bar.txt"), AMOUNT_SHEET: ("lever_to_rocker.txt", "rocker_to_bar.txt")}
 
 
 def packed(name):
@@ -21,23 +24,26 @@ def packed(name):
     return data
 
 
-def test_product(library, program, method):
-    a, b = packed("motor_to_lever.txt"), packed("lever_to_bar.txt")
+def test_product(library, program, method, kind):
+    a, b = map(packed, PAIRS[kind])
+    assert decode(a).kind == decode(b).kind == kind
     printed = subprocess.run([program], input=b"%d" % method + a + b, capture_output=True, check=True).stdout
     status, table, message = tool("table", given=printed)
-    assert (status, message) == (0, "")
+    assert (status, message) == (0, ""), message
     title, *lines = table.decode().splitlines()
-    assert title == f"method {method}, 2 by 2"
-    records = decode(library.job(method, a, b)[1]).records
-    assert len(records) == len(lines) == 4
-    for record, line in zip(records, lines):
-        row, column, lower, upper = CELL.fullmatch(line).groups()
-        assert (int(row), int(column)) == record[:2]
-        assert Fraction(lower) <= binary32.value(record.lower) and binary32.value(record.upper) <= Fraction(upper)
+    sheet = decode(library.job(method, a, b)[1])
+    assert title == f"method {method}, {sheet.rows} by {sheet.columns}" and sheet.kind == AMOUNT_SHEET
+    cells = {record[:2]: record[2:] for record in sheet.records}
+    assert len(lines) == sheet.rows * sheet.columns
+    for line in lines:
+        row, column, least, most = CELL.fullmatch(line).groups()
+        lower, upper, wear = cells.get((int(row), int(column)), (0, 0, 0))
+        assert Fraction(least) <= binary32.value(lower) and binary32.value(upper) <= Fraction(most) and wear == 0
 
 
 def test_train(library, method):
     sheets = [packed(name) for name in ("motor_to_lever.txt", "lever_to_rocker.txt", "rocker_to_bar.txt")]
+    assert {decode(sheet).kind for sheet in sheets} == set(KINDS)
     met = library.train(method, sheets)
     first, last = library.job(method, sheets[0], sheets[1])[1], sheets[2]
     assert met[0] == 80 and met == library.job(method, first, last), met
@@ -45,7 +51,8 @@ def test_train(library, method):
 
 def main(library, program):
     for method in (1, 3, 4, 5, 7):
-        test_product(library, program, method)
+        for kind in KINDS:
+            test_product(library, program, method, kind)
         test_train(library, method)
     ok("sample sheets", "multiplied by each method; the decimals enclose the patterns; a train of three is two jobs in a row")
 

@@ -9,6 +9,9 @@ TOOL = os.path.join(ROOT, "tools", "sheet")
 sys.path.insert(0, os.path.join(ROOT, "tools"))
 
 import binary32
+from sheet_bytes import AMOUNT_SHEET, CLASS_SHEET
+
+KINDS = (CLASS_SHEET, AMOUNT_SHEET)
 
 LARGEST_SUBNORMAL, LEAST_NORMAL, ONE = 0x007FFFFF, 0x00800000, 0x3F800000
 

@@ -34,5 +34,11 @@ pub const SHEETS_MAX: u32 = 8;
 /// Bytes of a load of eight wear amounts, for [`read_with`].
 pub const LOAD_BYTES: usize = 32;
 
+/// The kind, byte 6 of the head, of a class sheet: byte 12 of each cell is its wear class, and bytes 13 to 15 are zero.
+pub const KIND_CLASS: u8 = 0;
+
+/// The kind of an amount sheet: bytes 12 to 15 of each cell are its wear amount, a pattern, little-endian.
+pub const KIND_AMOUNT: u8 = 1;
+
 /// The pattern of the largest number.
 pub const LARGEST: u32 = 0x7F7F_FFFF;

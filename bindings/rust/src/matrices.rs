@@ -46,16 +46,16 @@ pub struct Work<'a> {
 // SAFETY, of all six calls: slices are never null and valid for their lengths, those for writing are borrowed alone, and no
 // pointer is kept.
 
-/// Multiplies sheet `a` by sheet `b` and writes the product's sheet to the front of `out`: the length written, or the first
-/// refusal.
+/// Multiplies sheet `a` by sheet `b` and writes the product's sheet to the front of `out`, as [`write`] does: the length written,
+/// or the first refusal.
 pub fn multiply(method: Method, a: &[u8], b: &[u8], out: &mut [u8]) -> Result<usize, Refusal> {
     let code = unsafe { coupling_multiply(method as u32, a.as_ptr(), a.len(), b.as_ptr(), b.len(), out.as_mut_ptr(), out.len()) };
     Refusal::unless(code).map(|length| length as usize)
 }
 
 /// Multiplies the `count` sheets, 1 to [`SHEETS_MAX`](crate::SHEETS_MAX), that stand back to back in `sheets`, from the left, and
-/// writes the last product's sheet to the front of `out`: the length written, or the first refusal. One sheet alone is written as
-/// it was read.
+/// writes the last product's sheet to the front of `out`, as [`write`] does: the length written, or the first refusal. One sheet
+/// alone is written as it was read.
 pub fn train(method: Method, count: u32, sheets: &[u8], out: &mut [u8]) -> Result<usize, Refusal> {
     let code = unsafe { coupling_train(method as u32, count, sheets.as_ptr(), sheets.len(), out.as_mut_ptr(), out.len()) };
     Refusal::unless(code).map(|length| length as usize)
@@ -66,24 +66,25 @@ fn sizes(code: u32) -> Result<(usize, usize), Refusal> {
     Refusal::unless(code).map(|sizes| (sizes as usize / 100, sizes as usize % 100))
 }
 
-/// Reads a sheet's matrix, each cell widened by its wear class, into the front of `lowers` and `uppers`: rows and columns, or the
-/// first refusal.
+/// Reads a sheet's matrix, each cell widened by its wear amount or by that of its wear class, into the front of `lowers` and
+/// `uppers`: rows and columns, or the first refusal.
 pub fn read(sheet: &[u8], lowers: &mut [u32], uppers: &mut [u32]) -> Result<(usize, usize), Refusal> {
     let (l, u) = (lowers.len(), uppers.len());
     sizes(unsafe { coupling_read(sheet.as_ptr(), sheet.len(), lowers.as_mut_ptr(), l, uppers.as_mut_ptr(), u) })
 }
 
 /// Reads a sheet as [`read`] does, with eight wear amounts of the caller's own: class c widens its cell by the number whose pattern
-/// is in bytes 4c to 4c + 3 of `amounts`, little-endian. Before the sheet is looked at, the load is refused with 6 where it has not
-/// [`LOAD_BYTES`](crate::LOAD_BYTES) bytes, 3 where an amount has exponent field 255, and 13 where the first is not zero or one is
-/// below the one before it; minus zero counts as zero, and equal amounts pass.
+/// is in bytes 4c to 4c + 3 of `amounts`, little-endian. An amount sheet is widened by its own amounts all the same. Before the sheet
+/// is looked at, the load is refused with 6 where it has not [`LOAD_BYTES`](crate::LOAD_BYTES) bytes, 3 where an amount has exponent
+/// field 255, and 13 where the first is not zero or one is below the one before it; minus zero counts as zero, and equal amounts pass.
 pub fn read_with(amounts: &[u8], sheet: &[u8], lowers: &mut [u32], uppers: &mut [u32]) -> Result<(usize, usize), Refusal> {
     let (l, u) = (lowers.len(), uppers.len());
     let (load, n) = (amounts.as_ptr(), amounts.len());
     sizes(unsafe { coupling_read_with(load, n, sheet.as_ptr(), sheet.len(), lowers.as_mut_ptr(), l, uppers.as_mut_ptr(), u) })
 }
 
-/// Writes a matrix's sheet to the front of `out`, class 0 in each cell: the length written, or the first refusal.
+/// Writes a matrix's sheet, an amount sheet with amount zero in each cell, to the front of `out`: the length written, or the first
+/// refusal.
 pub fn write(matrix: Matrix, out: &mut [u8]) -> Result<usize, Refusal> {
     let Matrix { rows, columns, lowers, uppers } = matrix;
     let (l, u) = (lowers.len(), uppers.len());

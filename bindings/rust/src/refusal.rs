@@ -5,12 +5,12 @@ use std::fmt;
 /// Why a call was turned down, and where.
 #[derive(Clone, Copy, Debug, PartialEq, Eq)]
 pub struct Refusal {
-    /// 1 to 13.
+    /// 1 to 14.
     pub number: u32,
     /// 1 is A, 2 is B, 3 is the result, 0 is none of them; in a train it is the sheet's position, 1 to 8, or 9 for a product or the
     /// writing.
     pub matrix: u32,
-    /// From 0; the place of a cell for numbers 3, 4, 5 and 10, but 0 where 3 is about a wear amount, and 0 for the other numbers.
+    /// From 0; the place of a cell for numbers 3, 4, 5, 10 and 14, but 0 where 3 is about a load, and 0 for the other numbers.
     pub row: u32,
     /// As `row`.
     pub column: u32,
@@ -45,7 +45,7 @@ impl Refusal {
             3 => "a bound or a wear amount is not a finite number",
             4 => "a lower bound is above the upper bound",
             5 => "a result is too large for binary32",
-            6 => "a length or the record count is wrong, or a byte that must be zero is not",
+            6 => "a length, the record count or the kind is wrong, or a byte that must be zero is not",
             7 => "an index is not below the record count, or a cell is outside the matrix",
             8 => "the cells of the chain do not rise by row, then column",
             9 => "the method is not 1, 3, 4, 5 or 7",
@@ -53,6 +53,7 @@ impl Refusal {
             11 => "the out buffer is shorter than the sheet to be written",
             12 => "the number of sheets is not from 1 to 8",
             13 => "the first wear amount is not zero, or an amount is below the one before it",
+            14 => "a wear amount is below zero",
             _ => "no refusal has this number",
         }
     }

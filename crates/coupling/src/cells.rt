@@ -21,7 +21,7 @@ fn sizes_code(s: Shape) -> u32
     }
 }
 
-// Reads the matrix of a sheet, each cell widened by its wear class, into the front of the two slices; a refusal leaves both as they were.
+// Reads the matrix of a sheet, each cell widened by its wear, into the front of the two slices; a refusal leaves both as they were.
 #[no_mangle]
 pub extern "C" fn coupling_read(sheet: &[u8], lowers: &mut [u32], uppers: &mut [u32]) -> u32
     ensures answer { λ r. ⌜ r ≡ coded sizesCode (readOf (now (sheet .entry)) (length (now (lowers .entry))) (length (now (uppers .entry)))) ⌝ }
@@ -33,7 +33,7 @@ pub extern "C" fn coupling_read(sheet: &[u8], lowers: &mut [u32], uppers: &mut [
     sizes_code(sheets::read(sheet, lowers, uppers))
 }
 
-// The same with a mill's own wear amounts, eight patterns in 32 bytes, in the place of the fixed ones.
+// The same with a mill's own amounts for the wear classes, eight patterns in 32 bytes, in the place of the fixed ones.
 #[no_mangle]
 pub extern "C" fn coupling_read_with(
     amounts: &[u8],

@@ -18,7 +18,7 @@ pub record Factor : Type 0 where
 
 -- ---- from a sheet
 
--- the matrix of the sheet s, each cell widened by its wear class
+-- the matrix of the sheet s, each cell widened by its wear
 abbrev pub matrixIn : List ℕ → Factor
 matrixIn s = record { rows = rowsOf s; columns = columnsOf s; lowers = matrixOf cellLower s; uppers = matrixOf cellUpper s }
 

@@ -1,19 +1,20 @@
 -- What is printed depends on the first 32,802 bytes alone: more only makes a sheet too long. Assumes nothing.
 use mathlib.Core.Path.{_≡_, refl, sym, ap, ap₂, _∙_}
-use mathlib.Core.Bool.{Bool, true, false, cond}
+use mathlib.Core.Bool.{Bool, true, false}
 use mathlib.Core.List.{List, [], _∷_}
-use Prim.Native.Nat.{ℕ, _+_, _*_, _%_, _≤_, _<_, min}
+use Prim.Native.Nat.{ℕ, _+_, _*_, _≤_, _<_, min}
 use native.Mathlib.Omega.{arith}
-use lib.Dec.{leb, eqb}
+use lib.Dec.{leb}
 use lib.ListN.{length, take, drop, length-drop}
 use lib.Seq.{take-all, take-take, getD-take, length-take-le}
-use borrow.Author.Tests.{leb-true, leb-false, lt-leb}
+use borrow.Author.Tests.{leb-true, leb-false}
 use Rattle.refusals.specs.declared.Refusal.{Refusal}
 use Rattle.refusals.specs.Refusal.{ofMatrix, named}
 use Rattle.refusals.specs.Answer.{refuses, refuse, then, andThen}
-use Rattle.sheets.specs.Layout.{u16At, framed, countOf}
+use Rattle.sheets.specs.Layout.{u16At, countOf}
 use Rattle.sheets.specs.Reading.{readOf}
 use Rattle.sheets.specs.Cut.{firstLength}
+use Rattle.sheets.proofs.Frames.{unframed-long}
 use Rattle.sheets.proofs.Cuts.{length-long}
 use Rattle.matrices.specs.Checks.{checkMethod}
 use Rattle.job.specs.Factor.{sheetRead, readAs}
@@ -24,18 +25,9 @@ use Rattle.print_product.specs.Printed.{answerText, sheetsText, printedO
 
 -- ---- a sheet of more than 16,400 bytes is refused
 
-not-framed : (s : List ℕ) → 16400 < length s → framed s ≡ false
-unfolding framed
-not-framed s h = rw (lt-leb (length s) 16400 h) (go (eqb (length s % 16) 0) (leb 16 (length s)))
-  where
-    go : (a b : Bool) → cond a (cond b false false) false ≡ false
-    go true true = refl
-    go true false = refl
-    go false b = refl
-
 too-long : (s : List ℕ) → 16400 < length s → sheetRead s ≡ refuse 6
 unfolding readOf
-too-long s h = rw (not-framed s h)
+too-long s h = rw (unframed-long s h)
 
 -- ---- the answer where a sheet is refused does not depend on what comes after that sheet
 

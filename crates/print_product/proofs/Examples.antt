@@ -16,10 +16,11 @@ use Rattle.binary32.specs.Number.{valueOf}
 use Rattle.binary32.specs.Operations.{answer}
 use Rattle.intervals.specs.Conversion.{faultOf}
 use Rattle.sheets.specs.AllFrom.{allFrom}
-use Rattle.sheets.specs.Layout.{u16At, u32At, blank, recordOf, framed}
+use Rattle.sheets.specs.Layout.{u16At, u32At, blank, recordOf, whole, framed}
 use Rattle.sheets.specs.Cut.{firstLength}
 use Rattle.sheets.specs.Wear.{unitsOf, amountOf, fixedAmounts}
-use Rattle.sheets.specs.Cell.{widenedOf}
+use Rattle.sheets.specs.Amount.{wearFault, wearAmount, cellAmount}
+use Rattle.sheets.specs.Cell.{wornFault, widenedOf}
 use Rattle.sheets.specs.Chain.{judgeOf, visitOf, walk, chainOf}
 use Rattle.sheets.specs.Reading.{readOf, putIn, sliceAfter}
 use Rattle.sheets.specs.Sheet.{recordBytes}
@@ -50,7 +51,7 @@ four : printedOf (52 ∷ sheet 0x3F800000 0x40000000 ++ sheet 0xBF800000 0x40400
     ≡ (112 ∷ 114 ∷ 111 ∷ 100 ∷ 117 ∷ 99 ∷ 116 ∷ 32 ∷ 52 ∷ 32 ∷ 49 ∷ 32 ∷ 49 ∷ 10 ∷ [])
     ++ (48 ∷ 32 ∷ 48 ∷ 32 ∷ 67 ∷ 48 ∷ 52 ∷ 48 ∷ 48 ∷ 48 ∷ 48 ∷ 48 ∷ 32 ∷ 52 ∷ 48 ∷ 67 ∷ 48 ∷ 48 ∷ 48 ∷ 48 ∷ 48 ∷ 10 ∷ [])
 unfolding printedOf sheetsText digitValue firstLength productLine cellLine cellLines digit digits digitCountTo jobProduct sheetsProduct foldFrom stepOf timesOf readAs
-    u16At u32At allFrom blank recordOf framed checkFit checkSize checkLengths unitsOf amountOf fixedAmounts widenedOf judgeOf visitOf walk chainOf readOf putIn sliceAfter recordBytes
+    u16At u32At allFrom blank recordOf whole framed checkFit checkSize checkLengths unitsOf amountOf fixedAmounts wearFault wearAmount cellAmount wornFault widenedOf judgeOf visitOf walk chainOf readOf putIn sliceAfter recordBytes
     productOf resultAfter checkOf checkShapes checkMethod methodOf checkSizes checkSlices checkOperands checkLent checkBoth checkCells first
     stopOf tabulate entryAt entryOf cellAt entry radius₄ centre total sum innerTerm outerRadius outerTerm midTerm faultOf answer valueOf mid rad maxℤ up down near lo hi nr ceil expo size MAX val encode ends bind
 four = refl

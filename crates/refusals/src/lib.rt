@@ -5,7 +5,7 @@ ghost use Rattle.refusals.specs.Answer.{outcome, then, coded};
 
 pub mod sizes;
 
-// The number, 1 to 13, which says why; the matrix: 1 A, 2 B, 3 the result, 0 none of them, and in a train the sheet's position, 1 to 8, or 9 for a
+// The number, 1 to 14, which says why; the matrix: 1 A, 2 B, 3 the result, 0 none of them, and in a train the sheet's position, 1 to 8, or 9 for a
 // product or the writing; and the row and column of a cell, 0 where no cell is named.
 pub struct Refusal {
     pub number: u8,

@@ -21,7 +21,7 @@ use Rattle.binary32.proofs.Held.{finites-first, finites-second}
 use Rattle.intervals.specs.Conversion.{faultOf, outwardOf}
 use Rattle.intervals.proofs.Faults.{fine-tells}
 use Rattle.sheets.specs.declared.cell.HandedIn.the-variants as H
-use Rattle.sheets.specs.Cell.{canonicalOf, bothZero, handedOf, widenedOf}
+use Rattle.sheets.specs.Cell.{canonicalOf, bothZero, handedOf, wornFault, widenedOf}
 
 -- ---- the pattern of the same number
 
@@ -80,6 +80,21 @@ pub answer-is : (op : ℤ → ℤ → Option ℤ) (a b : ℕ) → finite a ≡ t
 unfolding answer
 answer-is op a b e f = ap₂ (λ s t. cond (cond s t false) (answerOf (op (valueOf a) (valueOf b))) (refuse 3)) e f
 
-pub widened-tells : (a b w : ℕ) (x : ℕ × ℕ) → widenedOf a b w ≡ gives x → (faultOf a b ≡ 0) × (outwardOf a b w ≡ gives x)
+-- ---- a cell that is read with an amount
+
+pub worn-by : (a b w : ℕ) (t : Bool) → finite w ≡ t → cond t (faultOf a b) 3 ≡ wornFault a b w
+unfolding wornFault
+worn-by a b w t e = ap (λ s. cond s (faultOf a b) 3) (sym e)
+
+-- amount and bounds are numbers, and the bounds are in order
+pub worn-tells : (a b w : ℕ) → wornFault a b w ≡ 0 → (finite w ≡ true) × (faultOf a b ≡ 0)
+unfolding wornFault
+worn-tells a b w e = go (finite w) refl e
+  where
+    go : (t : Bool) → finite w ≡ t → cond t (faultOf a b) 3 ≡ 0 → (finite w ≡ true) × (faultOf a b ≡ 0)
+    go true p h = (p, h)
+    go false p h = absurd (omega arith)
+
+pub widened-tells : (a b w : ℕ) (x : ℕ × ℕ) → widenedOf a b w ≡ gives x → (wornFault a b w ≡ 0) × (outwardOf a b w ≡ gives x)
 unfolding widenedOf
-widened-tells a b w x e = passing-tells (faultOf a b) (outwardOf a b w) x e
+widened-tells a b w x e = passing-tells (wornFault a b w) (outwardOf a b w) x e

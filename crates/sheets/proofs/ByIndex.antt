@@ -9,12 +9,13 @@ use lib.Dec.{ltb}
 use lib.ListN.{length, getD, set, replicate, length-set, length-replicate, getD-replicate, List·getD-eq-default}
 use lib.Seq.{getD-set-same, getD-set-other}
 use borrow.Author.Tests.{ltb-true, ltb-false}
-use Rattle.refusals.specs.Answer.{gives}
+use Rattle.refusals.specs.Answer.{Answer, gives}
 use Rattle.refusals.proofs.Answers.{both-tell}
 use Rattle.binary32.specs.Operations.{subDown, addUp}
+use Rattle.sheets.specs.declared.layout.Record.{Record}
 use Rattle.sheets.specs.declared.chain.Cell.{Cell}
-use Rattle.sheets.specs.Layout.{recordOf, countOf, rowsOf, columnsOf, firstOf}
-use Rattle.sheets.specs.Wear.{amountIn}
+use Rattle.sheets.specs.Layout.{recordOf, countOf, rowsOf, columnsOf, firstOf, kindOf}
+use Rattle.sheets.specs.Amount.{cellAmount}
 use Rattle.sheets.specs.Chain.{judgeOf, walk, chainOf}
 use Rattle.sheets.specs.Reading.{cellLower, cellUpper, putIn, matrixBy}
 use Rattle.sheets.proofs.Judging.{Passed, judge-passed}
@@ -54,44 +55,45 @@ module _ (b : Cell → ℕ) where
 
 -- ---- the cells of a chain
 
--- c is record i of the sheet s, widened by its class
-pub record Widens (amounts s : List ℕ) (rows columns i : ℕ) (c : Cell) : Type 0 where
+-- c is record i of the sheet s, widened by the amount that the rule gives
+pub record Widens (rule : Record → Answer ℕ) (s : List ℕ) (rows columns i : ℕ) (c : Cell) : Type 0 where
   pub linked : (i ≡ 0 → ⊥) × (i < countOf s)
   pub inside : (recordOf s i .row < rows) × (recordOf s i .column < columns)
   pub position : c .position ≡ recordOf s i .row * columns + recordOf s i .column
-  pub class : recordOf s i .wear ≤ 7
-  pub lower : subDown (recordOf s i .lower) (amountIn amounts (recordOf s i .wear)) ≡ gives (c .lower)
-  pub upper : addUp (recordOf s i .upper) (amountIn amounts (recordOf s i .wear)) ≡ gives (c .upper)
+  pub amount : ℕ
+  pub ruled : rule (recordOf s i) ≡ gives amount
+  pub lower : subDown (recordOf s i .lower) amount ≡ gives (c .lower)
+  pub upper : addUp (recordOf s i .upper) amount ≡ gives (c .upper)
 
-module _ (amounts : List ℕ) (s : List ℕ) (rows columns : ℕ) where
-  pub walk-rises : (t i l : ℕ) → Rising (rows * columns) l (walk amounts s rows columns t i l .cells)
+module _ (rule : Record → Answer ℕ) (s : List ℕ) (rows columns : ℕ) where
+  pub walk-rises : (t i l : ℕ) → Rising (rows * columns) l (walk rule s rows columns t i l .cells)
   unfolding walk
   walk-rises zero i l = tt
   walk-rises (suc t) i l =
-      turn amounts s rows columns (λ w. Rising (rows * columns) l (w .cells)) t i l (λ z. tt) (λ x z e. tt)
-      (λ c z e. let j = visit-position amounts s rows columns i l c e in (j .0, j .1, walk-rises t (c .next) (c .position + 1)))
+      turn rule s rows columns (λ w. Rising (rows * columns) l (w .cells)) t i l (λ z. tt) (λ x z e. tt)
+      (λ c z e. let j = visit-position rule s rows columns i l c e in (j .0, j .1, walk-rises t (c .next) (c .position + 1)))
 
-  pub walk-widens : (t i l : ℕ) (c : Cell) → Among c (walk amounts s rows columns t i l .cells) → (k : ℕ) × Widens amounts s rows columns k c
+  pub walk-widens : (t i l : ℕ) (c : Cell) → Among c (walk rule s rows columns t i l .cells) → (k : ℕ) × Widens rule s rows columns k c
   unfolding walk
   walk-widens zero i l c = λ h. absurd h
   walk-widens (suc t) i l c =
-      turn amounts s rows columns (λ w. Among c (w .cells) → (k : ℕ) × Widens amounts s rows columns k c) t i l (λ z h. absurd h) (λ x z e h. absurd h)
+      turn rule s rows columns (λ w. Among c (w .cells) → (k : ℕ) × Widens rule s rows columns k c) t i l (λ z h. absurd h) (λ x z e h. absurd h)
       (λ d z e h.
-      ⊎-elim (λ (m : c ≡ d). (i, subst (λ (x : Cell). Widens amounts s rows columns i x) (sym m) (widens i l d z (visit-tells amounts s rows columns i l d e))))
+      ⊎-elim (λ (m : c ≡ d). (i, subst (λ (x : Cell). Widens rule s rows columns i x) (sym m) (widens i l d z (visit-tells rule s rows columns i l d e))))
       (λ k. walk-widens t (d .next) (d .position + 1) c k) h)
     where
-      widens : (i l : ℕ) (c : Cell) → (i ≡ 0 → ⊥) → (i < countOf s) × (judgeOf amounts rows columns l (recordOf s i) ≡ gives c) → Widens amounts s rows columns i c
+      widens : (i l : ℕ) (c : Cell) → (i ≡ 0 → ⊥) → (i < countOf s) × (judgeOf rule rows columns l (recordOf s i) ≡ gives c) → Widens rule s rows columns i c
       widens i l c z h =
-          let p : Passed amounts rows columns l (recordOf s i) c = judge-passed amounts rows columns l (recordOf s i) c (h .1) in
+          let p : Passed rule rows columns l (recordOf s i) c = judge-passed rule rows columns l (recordOf s i) c (h .1) in
           let w = both-tell _ _ _ (p .outward) in
-          record { linked = (z, h .0); inside = (p .row, p .column); position = sym (p .position); class = p .class; lower = w .0; upper = w .1 }
+          record { linked = (z, h .0); inside = (p .row, p .column); position = sym (p .position); amount = p .amount; ruled = p .ruled; lower = w .0; upper = w .1 }
 
 -- ---- the matrix of any sheet, whatever the amounts
 
 pub record ByIndex (amounts s : List ℕ) : Type 0 where
   -- the chain's cells rise strictly by position, and each is a record, widened
   pub rising : Rising (rowsOf s * columnsOf s) 0 (chainOf amounts s .cells)
-  pub widened : (c : Cell) → Among c (chainOf amounts s .cells) → (i : ℕ) × Widens amounts s (rowsOf s) (columnsOf s) i c
+  pub widened : (c : Cell) → Among c (chainOf amounts s .cells) → (i : ℕ) × Widens (cellAmount (kindOf s) amounts) s (rowsOf s) (columnsOf s) i c
   -- at a cell's position stand its bounds
   pub lower-at : (c : Cell) → Among c (chainOf amounts s .cells) → getD (matrixBy amounts cellLower s) (c .position) 0 ≡ c .lower
   pub upper-at : (c : Cell) → Among c (chainOf amounts s .cells) → getD (matrixBy amounts cellUpper s) (c .position) 0 ≡ c .upper
@@ -110,10 +112,10 @@ pub by-index : (amounts s : List ℕ) → ByIndex amounts s
 unfolding chainOf
 by-index amounts s =
     let n : ℕ = rowsOf s * columnsOf s in
-    let r : Rising n 0 (chainOf amounts s .cells) = walk-rises amounts s (rowsOf s) (columnsOf s) (n + 1) (firstOf s) 0 in
+    let r : Rising n 0 (chainOf amounts s .cells) = walk-rises (cellAmount (kindOf s) amounts) s (rowsOf s) (columnsOf s) (n + 1) (firstOf s) 0 in
     record {
       rising = r;
-      widened = λ c k. walk-widens amounts s (rowsOf s) (columnsOf s) (n + 1) (firstOf s) 0 c k;
+      widened = λ c k. walk-widens (cellAmount (kindOf s) amounts) s (rowsOf s) (columnsOf s) (n + 1) (firstOf s) 0 c k;
       lower-at = λ c k. put-same cellLower n 0 (chainOf amounts s .cells) (replicate n 0) c (length-replicate n 0) r k;
       upper-at = λ c k. put-same cellUpper n 0 (chainOf amounts s .cells) (replicate n 0) c (length-replicate n 0) r k;
       lower-off = λ q h. put-other cellLower (chainOf amounts s .cells) (replicate n 0) q h ∙ zero-at n q;

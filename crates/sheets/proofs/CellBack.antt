@@ -10,14 +10,14 @@ use Rattle.sheets.specs.declared.cell.HandedIn.{HandedIn}
 use Rattle.sheets.specs.declared.cell.HandedIn.the-variants as H
 use Rattle.sheets.specs.Cell.{canonicalOf, bothZero, handedOf, widenedOf}
 use Rattle.sheets.proofs.Bounding.{fine-finite}
-use Rattle.sheets.proofs.Exact.{Zero, canonical-fits, widened-none}
+use Rattle.sheets.proofs.Exact.{zero-is, canonical-fits, widened-none}
 
 pub record Back (a b x y : ℕ) : Type 0 where
   pub lower : x ≡ canonicalOf a
   pub upper : y ≡ canonicalOf b
   pub lower-fits : x < 4294967296
   pub upper-fits : y < 4294967296
-  pub read : (w : ℕ) → Zero w → widenedOf x y w ≡ gives (x, y)
+  pub read : widenedOf x y 0 ≡ gives (x, y)
 
 -- what it tells that a and b are handed in as h
 abbrev pub Tells : ℕ → ℕ → HandedIn → Type 0
@@ -34,7 +34,7 @@ module _ (a b : ℕ) where
         upper = refl;
         lower-fits = canonical-fits a (f .0);
         upper-fits = canonical-fits b (f .1);
-        read = λ w z. widened-none a b w e z;
+        read = widened-none a b 0 e zero-is;
       }
 
   pub handed-tells : Tells a b (handedOf a b)

@@ -1,17 +1,16 @@
 -- An amount of zero widens by nothing: a number less 0, down, and plus 0, up, is itself, as the pattern of its value. Assumes nothing.
-use mathlib.Core.Path.{_≡_, refl, sym, ap, ap₂, subst, _∙_}
+use mathlib.Core.Path.{_≡_, refl, sym, ap, ap₂, _∙_}
 use mathlib.Core.Bool.{true, false, cond}
 use mathlib.Core.List.{[], _∷_}
 use Prim.Native.Nat.{ℕ, _<_}
 use native.Mathlib.Omega.{arith}
 use lib.Dec.{lit<}
-use lib.Ieee.{size}
 use lib.IntN.{ℤ, pos, negsuc, _+ℤ_, _-ℤ_, _*ℤ_}
 use lib.Signed.{leZ}
 use Rattle.algebra.proofs.Linear.{reading}
 use Rattle.algebra.proofs.Reading.{by-ring}
-use Rattle.rounding.specs.Format.{binary32, Num, expo}
-use Rattle.rounding.specs.Pattern.{val, encode}
+use Rattle.rounding.specs.Format.{binary32, Num}
+use Rattle.rounding.specs.Pattern.{val}
 use Rattle.rounding.specs.Rounding.{up, down}
 use Rattle.rounding.proofs.DirectedLaws.{up-exact, down-exact}
 use Rattle.rounding.proofs.Encoding.{encode-limit}
@@ -21,9 +20,8 @@ use Rattle.binary32.specs.Number.{finite, finites, valueOf, patternOf}
 use Rattle.binary32.specs.Operations.{add, sub, answerOf, subDown, addUp}
 use Rattle.binary32.proofs.Held.{finite-is, is-finite, pattern-value, pattern-finite, value-num}
 use Rattle.intervals.specs.Conversion.{faultOf, outwardOf}
-use Rattle.sheets.specs.Wear.{unitsOf, amountOf, fixedAmounts, amountIn}
 use Rattle.sheets.specs.Cell.{canonicalOf, widenedOf}
-use Rattle.sheets.proofs.Bounding.{fine-finite, answer-is}
+use Rattle.sheets.proofs.Bounding.{fine-finite, answer-is, worn-by}
 
 -- w is zero, of either sign
 abbrev pub Zero : ℕ → Type 0
@@ -32,14 +30,6 @@ Zero w = (finite w ≡ true) × (valueOf w ≡ pos 0)
 pub zero-is : Zero 0
 unfolding valueOf val
 zero-is = (refl, refl)
-
-amount-none : amountOf 0 ≡ 0
-unfolding amountOf unitsOf encode expo size
-amount-none = refl
-
-pub fixed-none : Zero (amountIn fixedAmounts 0)
-unfolding fixedAmounts
-fixed-none = subst Zero (sym amount-none) zero-is
 
 -- ---- the pattern of a number's value
 
@@ -99,5 +89,6 @@ pub widened-none : (a b w : ℕ) → faultOf a b ≡ 0 → Zero w → widenedOf 
 unfolding widenedOf
 widened-none a b w e z =
     let f = fine-finite a b e in
-    sym (passing-on _ _ (canonical-fine a b e)) ∙ outward-none (canonicalOf a) (canonicalOf b) (canonical-fine a b e) w z
+    let g = canonical-fine a b e in
+    sym (passing-on _ _ (sym (worn-by (canonicalOf a) (canonicalOf b) w true (z .0)) ∙ g)) ∙ outward-none (canonicalOf a) (canonicalOf b) g w z
     ∙ ap₂ (λ x y. gives (x, y)) (canonical-twice a (f .0)) (canonical-twice b (f .1))

@@ -18,9 +18,10 @@ use Rattle.rounding.proofs.Sign.{neg-le, neg-le-pos}
 use Rattle.refusals.specs.Answer.{gives, both}
 use Rattle.binary32.specs.Number.{signedBy, valueOf, finite}
 use Rattle.binary32.specs.Operations.{add, sub, answerOf}
-use Rattle.binary32.specs.Order.{magnitudeOf}
+use Rattle.binary32.specs.Order.{magnitudeOf, atMost}
 use Rattle.binary32.proofs.Held.{is-finite}
-use Rattle.intervals.specs.Conversion.{outwardOf}
+use Rattle.intervals.specs.Conversion.{faultOf, outwardOf}
+use Rattle.sheets.specs.Cell.{wornFault, widenedOf}
 use Rattle.sheets.proofs.Bounding.{answer-is}
 
 -- p is below 2^127 in magnitude
@@ -62,7 +63,7 @@ difference-le x y m n h k e =
 
 -- ---- two bounds and an amount
 
-pub outward-half : (a b w : ℕ) → Half a → Half b → Half w → (x : ℕ × ℕ) × (outwardOf a b w ≡ gives x)
+outward-half : (a b w : ℕ) → Half a → Half b → Half w → (x : ℕ × ℕ) × (outwardOf a b w ≡ gives x)
 unfolding down
 outward-half a b w ha hb hw =
     let y = half-value w hw .1 in
@@ -72,3 +73,10 @@ outward-half a b w ha hb hw =
       ap₂ both (answer-is (sub down) a w (half-finite a ha) (half-finite w hw) ∙ ap (λ o. answerOf (negate o)) (l .1))
           (answer-is (add up) b w (half-finite b hb) (half-finite w hw) ∙ ap answerOf (u .1)),
     )
+
+-- and in order: a cell that is not refused
+pub widened-half : (a b w : ℕ) → Half a → Half b → Half w → atMost a b ≡ true → (x : ℕ × ℕ) × (widenedOf a b w ≡ gives x)
+unfolding widenedOf wornFault faultOf
+widened-half a b w ha hb hw e =
+    let x = outward-half a b w ha hb hw in
+    (x .0, rw (half-finite a ha, half-finite b hb, half-finite w hw, e) (x .1))

@@ -4,6 +4,7 @@ pub mod Frames
 pub mod Cuts
 pub mod Amounts
 pub mod Bounding
+pub mod CellAmounts
 pub mod Judging
 pub mod Walking
 pub mod Putting
@@ -25,5 +26,8 @@ pub mod MatrixBack
 pub mod RoundTrip
 pub mod Order
 pub mod ByIndex
+pub mod Before
+pub mod Worked
 pub mod Examples
 pub mod LoadExamples
+pub mod AmountExamples

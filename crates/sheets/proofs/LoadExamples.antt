@@ -1,7 +1,7 @@
 -- Worked loads, computed: the fixed table as a load, each refusal with its order, zeros of either sign, and a cell widened by a mill's own amount. Assumes nothing.
 use mathlib.Core.Path.{_≡_, refl, sym, ap, _∙_}
 use mathlib.Core.List.{List, [], _∷_, _++_}
-use Prim.Native.Nat.{ℕ, _/_, _%_}
+use Prim.Native.Nat.{ℕ}
 use lib.Ieee.{size}
 use Rattle.rounding.specs.Format.{MAX, expo}
 use Rattle.rounding.specs.Pattern.{val, encode}
@@ -14,17 +14,16 @@ use Rattle.binary32.specs.Operations.{answer}
 use Rattle.intervals.specs.Conversion.{faultOf}
 use Rattle.sheets.specs.declared.chain.Cell.{Cell}
 use Rattle.sheets.specs.AllFrom.{allFrom}
-use Rattle.sheets.specs.Layout.{u16At, u32At, blank, recordOf, framed}
+use Rattle.sheets.specs.Layout.{u16At, u32At, blank, recordOf, whole, framed}
 use Rattle.sheets.specs.Wear.{unitsOf, amountOf, fixedAmounts}
 use Rattle.sheets.specs.Load.{patternsOf, allFinite, rising, ascending, amountsFault, loadFault, loadOf}
-use Rattle.sheets.specs.Cell.{widenedOf}
+use Rattle.sheets.specs.Amount.{belowZero, wearFault, wearAmount, cellAmount}
+use Rattle.sheets.specs.Cell.{wornFault, widenedOf}
 use Rattle.sheets.specs.Chain.{judgeOf, visitOf, walk, chainOf}
 use Rattle.sheets.specs.Reading.{readBy, readOf, readWith, putIn, sliceBy, sliceAfter, sliceWith, lowersWith, uppersWith}
 use Rattle.sheets.specs.Sheet.{recordBytes}
 use Rattle.sheets.proofs.Loads.{with-loaded}
-
-abbrev word : ℕ → List ℕ
-word p = p % 256 ∷ p / 256 % 256 ∷ p / 65536 % 256 ∷ p / 16777216 % 256 ∷ []
+use Rattle.sheets.proofs.Worked.{word, cellSheet}
 
 -- a load of eight amounts: the first, the second, three of 1 and the last three
 abbrev load : ℕ → ℕ → ℕ → ℕ → ℕ → List ℕ
@@ -78,21 +77,30 @@ abbrev own : List ℕ
 own = load 0 0x3F000000 0x3F800000 0x3F800000 0x7F7FFFFF
 
 abbrev worn : ℕ → List ℕ
-worn class = recordBytes 1 1 1 2 0 ++ (0 ∷ 0 ∷ 0 ∷ 0 ∷ []) ++ word 0x3F800000 ++ word 0x3F800000 ++ (class ∷ 0 ∷ 0 ∷ 0 ∷ [])
+worn class = cellSheet 0 0x3F800000 0x3F800000 class
 
 worn-lower : lowersWith own (worn 1) (gives (1, 1)) (7 ∷ 8 ∷ []) ≡ 0x3F000000 ∷ 8 ∷ []
-unfolding u16At u32At allFrom blank recordOf patternsOf faultOf widenedOf judgeOf visitOf walk chainOf putIn sliceWith recordBytes valueOf val encode expo size MAX ceil lo hi up down answer
+unfolding u16At u32At allFrom blank recordOf patternsOf faultOf wearFault wearAmount cellAmount wornFault widenedOf judgeOf visitOf walk chainOf putIn sliceWith recordBytes valueOf val encode expo size MAX ceil lo hi up down answer
 worn-lower = refl
 
 worn-upper : uppersWith own (worn 1) (gives (1, 1)) (7 ∷ 8 ∷ []) ≡ 0x3FC00000 ∷ 8 ∷ []
-unfolding u16At u32At allFrom blank recordOf patternsOf faultOf widenedOf judgeOf visitOf walk chainOf putIn sliceWith recordBytes valueOf val encode expo size MAX ceil lo hi up down answer
+unfolding u16At u32At allFrom blank recordOf patternsOf faultOf wearFault wearAmount cellAmount wornFault widenedOf judgeOf visitOf walk chainOf putIn sliceWith recordBytes valueOf val encode expo size MAX ceil lo hi up down answer
 worn-upper = refl
 
 far : readWith own (worn 7) 1 1 ≡ refuses (ofCell 5 0 0 0)
-unfolding u16At u32At allFrom blank recordOf framed checkSize checkLengths checkFit patternsOf allFinite rising ascending amountsFault loadFault loadOf faultOf widenedOf judgeOf visitOf walk chainOf readWith recordBytes valueOf val encode expo size MAX ceil lo hi up down answer
+unfolding u16At u32At allFrom blank recordOf whole framed checkSize checkLengths checkFit patternsOf allFinite rising ascending amountsFault loadFault loadOf faultOf wearFault wearAmount cellAmount wornFault widenedOf judgeOf visitOf walk chainOf readWith recordBytes valueOf val encode expo size MAX ceil lo hi up down answer
 far = refl
 
 -- a load is refused before the sheet is looked at, here one of no bytes
 first : readWith (load 1 1 0x3F800000 0x3F800000 0x3F800000) [] 0 0 ≡ refuse 13
 unfolding u32At patternsOf allFrom allFinite ascending amountsFault loadFault loadOf readWith
 first = refl
+
+-- and whatever the sheet's kind; a cell with an amount of its own, here 1/2, is not widened by the load
+first-too : readWith (load 1 1 0x3F800000 0x3F800000 0x3F800000) (cellSheet 1 0x3F800000 0x3F800000 0x3F000000) 1 1 ≡ refuse 13
+unfolding u32At patternsOf allFrom allFinite ascending amountsFault loadFault loadOf readWith
+first-too = refl
+
+own-upper : uppersWith own (cellSheet 1 0x3F800000 0x3F800000 0x3F000000) (gives (1, 1)) (7 ∷ []) ≡ 0x3FC00000 ∷ []
+unfolding u16At u32At recordOf patternsOf faultOf belowZero wearFault wearAmount cellAmount wornFault widenedOf judgeOf visitOf walk chainOf putIn sliceWith recordBytes valueOf val encode expo size MAX ceil lo hi up down answer
+own-upper = refl

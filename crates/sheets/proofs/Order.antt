@@ -7,24 +7,24 @@ use mathlib.Core.Option.{Option, none, some}
 use Prim.Native.Nat.{ℕ, _+_, _*_, _≤_, _<_}
 use native.Mathlib.Omega.{arith}
 use lib.Arith.{digits-lt}
-use lib.Dec.{ltb}
+use lib.Dec.{eqb, ltb}
 use lib.IntN.{ℤ}
-use borrow.Author.Tests.{lt-leb, lt-ltb, ltb-true, ltb-false, le-ltb}
+use borrow.Author.Tests.{lt-leb, lt-ltb, ltb-true, ltb-false}
 use Rattle.rounding.specs.Rounding.{up, down}
 use Rattle.refusals.specs.declared.Refusal.{Refusal}
-use Rattle.refusals.specs.Refusal.{ofMatrix, ofCell}
-use Rattle.refusals.specs.Answer.{Answer, gives, refuses, refuse, passing, both}
+use Rattle.refusals.specs.Refusal.{ofMatrix}
+use Rattle.refusals.specs.Answer.{Answer, gives, refuses, refuse, passing, andThen, both}
 use Rattle.refusals.proofs.Answers.{not-both}
-use Rattle.binary32.specs.Number.{valueOf, finites}
+use Rattle.binary32.specs.Number.{valueOf, finite, finites}
 use Rattle.binary32.specs.Operations.{add, sub, answerOf, answer, subDown, addUp}
 use Rattle.binary32.specs.Order.{atMost}
 use Rattle.intervals.specs.Conversion.{faultOf, outwardOf}
 use Rattle.sheets.specs.declared.layout.Record.{Record}
 use Rattle.sheets.specs.declared.chain.Cell.{Cell}
-use Rattle.sheets.specs.Wear.{amountIn}
-use Rattle.sheets.specs.Cell.{widenedOf}
-use Rattle.sheets.specs.Chain.{positionOf, cellFrom, judgeOf}
-use Rattle.sheets.proofs.Judging.{judge-by}
+use Rattle.sheets.specs.Amount.{belowZero, wearFault, wearAmount, wearRefusal, cellAmount}
+use Rattle.sheets.specs.Cell.{wornFault, widenedOf}
+use Rattle.sheets.specs.Chain.{positionOf, cellFrom, wornCell, judgeOf}
+use Rattle.sheets.proofs.Judging.{judge-by, judge-ruled}
 
 -- the cell in row i and column j comes before that in row k and column l
 abbrev pub Before : ℕ → ℕ → ℕ → ℕ → Type 0
@@ -68,44 +68,63 @@ both-low (gives v) (refuses r) h k = k
 both-low (refuses r) b h k = h
 
 widened-low : (a b w : ℕ) → Low (widenedOf a b w)
-unfolding widenedOf faultOf
-widened-low a b w = go (finites a b) (atMost a b) (both-low (subDown a w) (addUp b w) (answer-low (sub down) a w) (answer-low (add up) b w))
+unfolding widenedOf wornFault faultOf
+widened-low a b w = go (finite w) (finites a b) (atMost a b) (both-low (subDown a w) (addUp b w) (answer-low (sub down) a w) (answer-low (add up) b w))
   where
-    go : (s t : Bool) → Low (outwardOf a b w) → Low (passing (cond s (cond t 0 4) 3) (outwardOf a b w))
-    go true true h = h
-    go true false h = omega arith
-    go false t h = omega arith
+    go : (r s t : Bool) → Low (outwardOf a b w) → Low (passing (cond r (cond s (cond t 0 4) 3) 3) (outwardOf a b w))
+    go true true true h = h
+    go true true false h = omega arith
+    go true false t h = omega arith
+    go false s t h = omega arith
+
+-- nor is it said of an amount: 6, 10 and 14 are other numbers too
+abbrev No8 : {A : Type 0} → Answer A → Type 0
+No8 (gives v) = Unit {0}
+No8 (refuses x) = x .number ≡ 8 → ⊥
+
+amount-no8 : (kind : ℕ) (amounts : List ℕ) (r : Record) → No8 (cellAmount kind amounts r)
+unfolding wearFault cellAmount
+amount-no8 kind amounts r = go (eqb kind 0) (ltb 255 (r .wear)) (ltb 7 (r .wear)) (belowZero (r .wear))
+  where
+    go : (s t u v : Bool) → let n : ℕ = cond s (cond t 6 (cond u 10 0)) (cond v 14 0) in No8 (cond (eqb n 0) (gives (wearAmount kind amounts (r .wear))) (refuses (wearRefusal n r)))
+    go true true u v = λ e. omega arith
+    go true false true v = λ e. omega arith
+    go true false false v = tt
+    go false t u true = λ e. omega arith
+    go false t u false = tt
 
 -- a record r after q, both in the matrix: 8 exactly where q does not come before r
-module _ (amounts : List ℕ) (rows columns : ℕ) (q r : Record) (hq : q .column < columns) (hr : r .row < rows) (hc : r .column < columns) where
+module _ (kind : ℕ) (amounts : List ℕ) (rows columns : ℕ) (q r : Record) (hq : q .column < columns) (hr : r .row < rows) (hc : r .column < columns) where
+  abbrev rule : Record → Answer ℕ
+  rule = cellAmount kind amounts
+
   abbrev Later : Type 0
   Later = Before (q .row) (q .column) (r .row) (r .column)
 
-  unordered : (Later → ⊥) → judgeOf amounts rows columns (positionOf columns q + 1) r ≡ refuse 8
+  unordered : (Later → ⊥) → judgeOf rule rows columns (positionOf columns q + 1) r ≡ refuse 8
   unordered h =
-      sym (judge-by amounts rows columns (positionOf columns q + 1) r false false true _ _ _ (lt-leb rows (r .row) hr) (lt-leb columns (r .column) hc)
-      (lt-ltb (positionOf columns r) (positionOf columns q + 1) (below (ltb (positionOf columns q) (positionOf columns r)) refl)) refl refl refl)
+      sym (judge-by rule rows columns (positionOf columns q + 1) r false false true (lt-leb rows (r .row) hr) (lt-leb columns (r .column) hc)
+      (lt-ltb (positionOf columns r) (positionOf columns q + 1) (below (ltb (positionOf columns q) (positionOf columns r)) refl)))
     where
       below : (t : Bool) → ltb (positionOf columns q) (positionOf columns r) ≡ t → positionOf columns r < positionOf columns q + 1
       below true e = absurd (h (to columns (q .row) (q .column) (r .row) (r .column) hq hc (ltb-true _ _ e)))
       below false e = omega (arith, ltb-false (positionOf columns q) (positionOf columns r) e)
 
-  ordered : judgeOf amounts rows columns (positionOf columns q + 1) r ≡ refuse 8 → Later → ⊥
+  ordered : judgeOf rule rows columns (positionOf columns q + 1) r ≡ refuse 8 → Later → ⊥
   ordered e h =
       let f : positionOf columns q < positionOf columns r = from columns (q .row) (q .column) (r .row) (r .column) hq hc h in
-      go (r .spare) (ltb 7 (r .wear)) (widenedOf (r .lower) (r .upper) (amountIn amounts (r .wear))) (widened-low _ _ _)
-      (judge-by amounts rows columns (positionOf columns q + 1) r false false false _ _ _ (lt-leb rows (r .row) hr) (lt-leb columns (r .column) hc)
-      (le-ltb (positionOf columns r) (positionOf columns q + 1) (omega arith)) refl refl refl ∙ e)
+      go (cellAmount kind amounts r) (amount-no8 kind amounts r) (judge-ruled rule rows columns (positionOf columns q + 1) r hr hc (omega arith) ∙ e)
     where
       no : (x : Refusal) → refuses x ≡ refuse {A = Cell} 8 → (x .number ≡ 8 → ⊥) → ⊥
       no x k n = n (let z : x ≡ ofMatrix 8 0 = cc in ap (λ (y : Refusal). y .number) z)
 
-      go : (s t : Bool) (w : Answer (ℕ × ℕ)) → Low w
-          → cond s (cond t (refuses (ofCell 10 0 (r .row) (r .column))) (cellFrom columns r w)) (refuse 6) ≡ refuse 8 → ⊥
-      go false t w l h = no _ h (λ e. omega arith)
-      go true true w l h = no _ h (λ e. omega arith)
-      go true false (gives x) l h = not-both (sym h)
-      go true false (refuses x) l h = no _ h (λ e. omega arith)
+      bounds : (x : Answer (ℕ × ℕ)) → Low x → cellFrom columns r x ≡ refuse 8 → ⊥
+      bounds (gives x) l k = not-both (sym k)
+      bounds (refuses x) l k = no _ k (λ n. omega arith)
 
-  pub unordered-is : (judgeOf amounts rows columns (positionOf columns q + 1) r ≡ refuse 8) ↔ (Later → ⊥)
+      go : (a : Answer ℕ) → No8 a → andThen a (wornCell columns r) ≡ refuse 8 → ⊥
+      go (refuses x) n k = no x k n
+      go (gives w) n k = bounds (widenedOf (r .lower) (r .upper) w) (widened-low (r .lower) (r .upper) w) k
+
+  pub unordered-is : (judgeOf rule rows columns (positionOf columns q + 1) r ≡ refuse 8) ↔ (Later → ⊥)
   unordered-is = (ordered, unordered)

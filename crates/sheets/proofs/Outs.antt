@@ -9,7 +9,7 @@ use Rattle.refusals.specs.declared.Refusal.{Refusal}
 use Rattle.refusals.specs.Answer.{gives}
 use Rattle.sheets.specs.declared.Written.{Written}
 use Rattle.sheets.specs.declared.Written.the-variants.{Bytes, Refused}
-use Rattle.sheets.specs.Sheet.{recordBytes, over, countTo, nextOf, recordsTo, sheetOf}
+use Rattle.sheets.specs.Sheet.{headBytes, over, countTo, nextOf, recordsTo, sheetOf}
 use Rattle.sheets.specs.Writing.{written, writeOf, outAfter, frontOf}
 use Rattle.sheets.proofs.Rooms.{Granted, answered, granted}
 use Rattle.sheets.proofs.CellBytes.{record-length}
@@ -19,19 +19,19 @@ pub sheet-length : (rows columns : ℕ) (lo up : List ℕ) → length (sheetOf r
 unfolding sheetOf
 sheet-length rows columns lo up =
     let t : ℕ = countTo lo up (rows * columns) in
-    length-append (recordBytes (nextOf t 0) rows columns (t + 1) 0) (recordsTo columns t lo up (rows * columns))
-    ∙ rw (record-length (nextOf t 0) rows columns (t + 1) 0, records-length columns t lo up (rows * columns)) (omega arith)
+    length-append (headBytes (nextOf t 0) rows columns (t + 1)) (recordsTo columns t lo up (rows * columns))
+    ∙ rw (record-length (nextOf t 0) rows columns (t + 1 + 65536 * 1) 0, records-length columns t lo up (rows * columns)) (omega arith)
 
 module _ (rows columns n : ℕ) (lo up d : List ℕ) (a : Granted rows columns lo up (length d) n) where
   -- the head, then the cells' records
-  pub put-done : (total x : ℕ) (out₁ out₂ : List ℕ) → total ≡ n / 16 - 1 → x ≡ nextOf total 0 → out₁ ≡ over 0 (recordBytes x rows columns (total + 1) 0) d
+  pub put-done : (total x : ℕ) (out₁ out₂ : List ℕ) → total ≡ n / 16 - 1 → x ≡ nextOf total 0 → out₁ ≡ over 0 (headBytes x rows columns (total + 1)) d
       → out₂ ≡ take 16 out₁ ++ recordsTo columns total lo up (rows * columns) ++ drop (16 * (total + 1)) out₁ → out₂ ≡ outAfter rows columns lo up (gives n) d
   unfolding outAfter sheetOf over
   put-done total x out₁ out₂ t g h k =
       let c : total ≡ countTo lo up (rows * columns) = omega (arith, a .bytes) in
       let m : 16 * (total + 1) ≡ n = omega (arith, a .bytes) in
-      let b : List ℕ = recordBytes x rows columns (total + 1) 0 in
-      let l : length b ≡ 16 = record-length x rows columns (total + 1) 0 in
+      let b : List ℕ = headBytes x rows columns (total + 1) in
+      let l : length b ≡ 16 = record-length x rows columns (total + 1 + 65536 * 1) 0 in
       let j : out₁ ≡ b ++ drop 16 d = h ∙ rw l in
       let o : drop n out₁ ≡ drop n d = let s : 16 + (n - 16) ≡ n = omega (arith, a .bytes) in
       rw j (subst (λ (y : ℕ). drop y (b ++ drop 16 d) ≡ drop y d) s (sym (drop-drop (n - 16) 16 (b ++ drop 16 d)) ∙ rw (drop-at b (drop 16 d) 16 l) (drop-drop (n - 16) 16 d))) in

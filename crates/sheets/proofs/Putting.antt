@@ -6,6 +6,7 @@ use native.Mathlib.Omega.{arith}
 use lib.ListN.{length, set, length-set, length-replicate}
 use lib.Seq.{set-append-left}
 use Rattle.refusals.specs.Answer.{Answer}
+use Rattle.sheets.specs.declared.layout.Record.{Record}
 use Rattle.sheets.specs.declared.chain.Cell.{Cell}
 use Rattle.sheets.specs.Layout.{rowsOf, columnsOf}
 use Rattle.sheets.specs.Wear.{fixedAmounts}
@@ -23,18 +24,18 @@ module _ (b : Cell → ℕ) where
   put-more w c w′ a e = rw e
 
   -- the cells of a walk are put in front of what lies past the matrix
-  pub put-front : (amounts : List ℕ) (s : List ℕ) (rows columns t i l : ℕ) (a d : List ℕ) → length a ≡ rows * columns
-      → putIn b (a ++ d) (walk amounts s rows columns t i l .cells) ≡ putIn b a (walk amounts s rows columns t i l .cells) ++ d
+  pub put-front : (rule : Record → Answer ℕ) (s : List ℕ) (rows columns t i l : ℕ) (a d : List ℕ) → length a ≡ rows * columns
+      → putIn b (a ++ d) (walk rule s rows columns t i l .cells) ≡ putIn b a (walk rule s rows columns t i l .cells) ++ d
   unfolding walk putIn
-  put-front amounts s rows columns zero i l a d n = refl
-  put-front amounts s rows columns (suc t) i l a d n =
-      turn amounts s rows columns (λ w. putIn b (a ++ d) (w .cells) ≡ putIn b a (w .cells) ++ d) t i l
+  put-front rule s rows columns zero i l a d n = refl
+  put-front rule s rows columns (suc t) i l a d n =
+      turn rule s rows columns (λ w. putIn b (a ++ d) (w .cells) ≡ putIn b a (w .cells) ++ d) t i l
       (λ z. refl)
       (λ x z e. refl)
       (λ c z e.
-      let j : (l ≤ c .position) × (c .position < rows * columns) = visit-position amounts s rows columns i l c e in
-      ap (λ (x : List ℕ). putIn b x (walk amounts s rows columns t (c .next) (c .position + 1) .cells)) (set-append-left a d (c .position) (b c) (omega arith))
-      ∙ put-front amounts s rows columns t (c .next) (c .position + 1) (set a (c .position) (b c)) d (length-set a (c .position) (b c) ∙ n))
+      let j : (l ≤ c .position) × (c .position < rows * columns) = visit-position rule s rows columns i l c e in
+      ap (λ (x : List ℕ). putIn b x (walk rule s rows columns t (c .next) (c .position + 1) .cells)) (set-append-left a d (c .position) (b c) (omega arith))
+      ∙ put-front rule s rows columns t (c .next) (c .position + 1) (set a (c .position) (b c)) d (length-set a (c .position) (b c) ∙ n))
 
   -- a matrix has as many bounds as cells
   put-length : (cs : List Cell) (a : List ℕ) → length (putIn b a cs) ≡ length a

@@ -13,8 +13,8 @@ use Rattle.sheets.specs.declared.layout.Record.{Record}
 use Rattle.sheets.specs.declared.cell.HandedIn.{HandedIn}
 use Rattle.sheets.specs.declared.cell.HandedIn.the-variants as H
 use Rattle.sheets.specs.AllFrom.{allFrom}
-use Rattle.sheets.specs.Layout.{u16At, u32At, blank, recordOf, countOf, firstOf, rowsOf, columnsOf}
-use Rattle.sheets.specs.Sheet.{recordBytes, cellAt, countTo, nextOf, cellBytes, recordsTo, sheetOf}
+use Rattle.sheets.specs.Layout.{u16At, u32At, blank, recordOf, countOf, firstOf, rowsOf, columnsOf, kindOf}
+use Rattle.sheets.specs.Sheet.{recordBytes, headBytes, cellAt, countTo, nextOf, cellBytes, recordsTo, sheetOf}
 use Rattle.sheets.proofs.CellBytes.{record-length}
 use Rattle.sheets.proofs.Counting.{count-le, records-length}
 use Rattle.sheets.proofs.CellBack.{Back, cell-back}
@@ -25,7 +25,7 @@ at : (a e : List ℕ) (m j k : ℕ) → length a ≡ m → k ≡ m + j → getD 
 at a e m j k h g = rw (g, ← h) (getD-append-add a e j 0)
 
 abbrev pub fieldsOf : ℕ → ℕ → ℕ → ℕ → ℕ → Record
-fieldsOf x r c l u = record { next = x; row = r; column = c; lower = l; upper = u; wear = 0; spare = true }
+fieldsOf x r c l u = record { next = x; row = r; column = c; lower = l; upper = u; wear = 0 }
 
 four : (l : ℕ) → l < 4294967296 → l % 256 + 256 * (l / 256 % 256) + 65536 * (l / 65536 % 256) + 16777216 * (l / 16777216 % 256) ≡ l
 four l h =
@@ -39,7 +39,7 @@ four l h =
 
 pub record-back : (a d : List ℕ) (i x r c l u : ℕ) → length a ≡ 16 * i → x < 65536 → l < 4294967296 → u < 4294967296
     → recordOf (a ++ (recordBytes x r c l u ++ d)) i ≡ fieldsOf x r c l u
-unfolding recordOf u16At u32At allFrom blank recordBytes
+unfolding recordOf u16At u32At recordBytes
 record-back a d i x r c l u h hx hl hu =
     let e : List ℕ = recordBytes x r c l u ++ d in
     let f : (j k : ℕ) → k ≡ 16 * i + j → getD (a ++ e) k 0 ≡ getD e j 0 = λ j k g. at a e (16 * i) j k h g in
@@ -60,9 +60,9 @@ record-back a d i x r c l u h hx hl hu =
       f 10 (16 * i + 8 + 2) (omega arith),
       f 11 (16 * i + 8 + 3) (omega arith),
       f 12 (16 * i + 12) (omega arith),
-      f 13 (16 * i + 13) (omega arith),
-      f 14 (16 * i + 13 + 1) (omega arith),
-      f 15 (16 * i + 13 + 1 + 1) (omega arith),
+      f 13 (16 * i + 12 + 1) (omega arith),
+      f 14 (16 * i + 12 + 2) (omega arith),
+      f 15 (16 * i + 12 + 3) (omega arith),
       e0,
       e1,
       e2,
@@ -89,11 +89,11 @@ next-small t j h = go (ltb j t) refl
     go true g = let l : j < t = ltb-true _ _ g in omega arith
     go false g = omega arith
 
-pub head-blank : (rows columns : ℕ) (lo up : List ℕ) → countTo lo up (rows * columns) ≤ 1024 → blank (sheetOf rows columns lo up) 6 10 ≡ true
+pub head-blank : (rows columns : ℕ) (lo up : List ℕ) → countTo lo up (rows * columns) ≤ 1024 → blank (sheetOf rows columns lo up) 7 9 ≡ true
 unfolding allFrom blank sheetOf recordBytes
 head-blank rows columns lo up h =
-    let n : ℕ = countTo lo up (rows * columns) + 1 in
-    rw (eq-eqb (n / 65536 % 256) 0 (omega arith), eq-eqb (n / 16777216 % 256) 0 (omega arith))
+    let n : ℕ = countTo lo up (rows * columns) + 1 + 65536 * 1 in
+    rw (eq-eqb (n / 16777216 % 256) 0 (omega arith))
 
 module _ (rows columns : ℕ) (lo up : List ℕ) (few : rows * columns ≤ 1024) where
   -- the record of the cell at position p
@@ -105,14 +105,14 @@ module _ (rows columns : ℕ) (lo up : List ℕ) (few : rows * columns ≤ 1024)
       let t : ℕ = countTo lo up n in
       let s = records-split columns t lo up p (n - suc p) in
       let m : suc p + (n - suc p) ≡ n = omega arith in
-      let hd : List ℕ = recordBytes (nextOf t 0) rows columns (t + 1) 0 in
+      let hd : List ℕ = headBytes (nextOf t 0) rows columns (t + 1) in
       let k : ℕ = nextOf t (countTo lo up p + 1) in
       let g : recordsTo columns t lo up n ≡ recordsTo columns t lo up p ++ (recordBytes k (p / columns) (p % columns) x y ++ s .0) =
       subst (λ (v : ℕ). recordsTo columns t lo up v ≡ recordsTo columns t lo up p ++ (recordBytes k (p / columns) (p % columns) x y ++ s .0)) m
       (s .1 ∙ ap (λ (b : HandedIn). recordsTo columns t lo up p ++ (cellBytes k (p / columns) (p % columns) b ++ s .0)) e) in
       let a : hd ++ recordsTo columns t lo up n ≡ (hd ++ recordsTo columns t lo up p) ++ (recordBytes k (p / columns) (p % columns) x y ++ s .0) = ap (λ (l : List ℕ). hd ++ l) g ∙ sym (append-assoc hd _ _) in
       let len : length (hd ++ recordsTo columns t lo up p) ≡ 16 * (countTo lo up p + 1) =
-      length-append hd (recordsTo columns t lo up p) ∙ rw (record-length (nextOf t 0) rows columns (t + 1) 0, records-length columns t lo up p) (omega arith) in
+      length-append hd (recordsTo columns t lo up p) ∙ rw (record-length (nextOf t 0) rows columns (t + 1 + 65536 * 1) 0, records-length columns t lo up p) (omega arith) in
       let tl : t ≤ n = count-le lo up n in
       let q : Back (getD lo p 0) (getD up p 0) x y = cell-back (getD lo p 0) (getD up p 0) x y e in
       rw a (record-back (hd ++ recordsTo columns t lo up p) (s .0) (countTo lo up p + 1) k (p / columns) (p % columns) x y len (next-small t (countTo lo up p + 1) (omega arith)) (q .lower-fits) (q .upper-fits))
@@ -122,6 +122,10 @@ module _ (rows columns : ℕ) (lo up : List ℕ) (few : rows * columns ≤ 1024)
   pub count-back : countOf (sheetOf rows columns lo up) ≡ countTo lo up (rows * columns) + 1
   unfolding sheetOf recordBytes u16At
   count-back = let t : countTo lo up (rows * columns) ≤ rows * columns = count-le lo up (rows * columns) in omega arith
+
+  pub kind-back : kindOf (sheetOf rows columns lo up) ≡ 1
+  unfolding sheetOf recordBytes
+  kind-back = let t : countTo lo up (rows * columns) ≤ rows * columns = count-le lo up (rows * columns) in omega arith
 
   pub first-back : firstOf (sheetOf rows columns lo up) ≡ nextOf (countTo lo up (rows * columns)) 0
   unfolding sheetOf recordBytes u16At

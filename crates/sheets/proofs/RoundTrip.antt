@@ -10,7 +10,7 @@ use Rattle.sheets.specs.declared.cell.HandedIn.{HandedIn}
 use Rattle.sheets.specs.declared.cell.HandedIn.the-variants as H
 use Rattle.sheets.specs.declared.chain.Cell.{Cell}
 use Rattle.sheets.specs.Cell.{canonicalOf, handedOf}
-use Rattle.sheets.specs.Wear.{fixedAmounts, amountIn}
+use Rattle.sheets.specs.Wear.{fixedAmounts}
 use Rattle.sheets.specs.Load.{patternsOf, loadFault, loadOf}
 use Rattle.sheets.specs.Reading.{readBy, readOf, cellLower, cellUpper, sliceBy, sliceAfter, readWith, sliceWith, lowersWith, uppersWith}
 use Rattle.sheets.specs.Sheet.{cellAt, countTo, sheetOf}
@@ -19,8 +19,6 @@ use Rattle.sheets.specs.Trip.{canonicals, ReadsBack, TripOf}
 use Rattle.sheets.proofs.Rooms.{Granted}
 use Rattle.sheets.proofs.Outs.{part-is}
 use Rattle.sheets.proofs.Loads.{with-loaded}
-use Rattle.sheets.proofs.Exact.{Zero, fixed-none}
-use Rattle.sheets.proofs.Valid.{accepted-is}
 use Rattle.sheets.proofs.CellBack.{Tells, handed-tells}
 use Rattle.sheets.proofs.RecordBack.{rows-back, columns-back}
 use Rattle.sheets.proofs.WalkBack.{read-back, chain-back}
@@ -35,18 +33,18 @@ holds a b e = go (handedOf a b) (handed-tells a b)
     go (H.Cell x y) t = (λ n p. t .lower, λ n p. t .upper)
     go (H.Faulty n) t = absurd (t e)
 
--- ---- for every matrix that a write accepts, slices that are long enough, and amounts of which that of class 0 is zero
+-- ---- for every matrix that a write accepts, slices that are long enough, and any amounts of the classes
 
-module _ (amounts : List ℕ) (none : Zero (amountIn amounts 0)) (rows columns : ℕ) (lo up : List ℕ) {room n : ℕ} (g : Granted rows columns lo up room n) where
+module _ (amounts : List ℕ) (rows columns : ℕ) (lo up : List ℕ) {room n : ℕ} (g : Granted rows columns lo up room n) where
   answer-back : (l u : List ℕ) → rows * columns ≤ length l → rows * columns ≤ length u
       → readBy amounts (sheetOf rows columns lo up) (length l) (length u) ≡ gives (rows, columns)
-  answer-back l u hl hu = read-back amounts none rows columns lo up (g .sized) (g .few) (length l) (length u) hl hu
+  answer-back l u hl hu = read-back amounts rows columns lo up (g .sized) (g .few) (length l) (length u) hl hu
 
   slice-back : (b : Cell → ℕ) (m d : List ℕ) → ((q : ℕ) → q < 0 + rows * columns → Holds b (canonicalOf (getD m q 0)) (cellAt lo up q))
       → sliceBy amounts b (sheetOf rows columns lo up) (gives (rows, columns)) d ≡ canonicals m (rows * columns) 0 ++ drop (rows * columns) d
   slice-back b m d h =
       let few = g .few in
-      rw (rows-back rows columns lo up few, columns-back rows columns lo up few, chain-back amounts none rows columns lo up (g .sized) few)
+      rw (rows-back rows columns lo up few, columns-back rows columns lo up few, chain-back amounts rows columns lo up (g .sized) few)
       (ap (λ (k : List ℕ). k ++ drop (rows * columns) d)
       (put-back b (countTo lo up (rows * columns)) m lo up (rows * columns) 0 (replicate (rows * columns) 0) (length-replicate (rows * columns) 0 ∙ omega arith) refl h))
 
@@ -62,9 +60,9 @@ pub round-trip : (rows columns : ℕ) (lo up : List ℕ) (room n : ℕ) → Gran
 unfolding readOf sliceAfter
 round-trip rows columns lo up room n g l u hl hu =
     record {
-      answer = answer-back fixedAmounts fixed-none rows columns lo up g l u hl hu;
-      lowers = lowers-back fixedAmounts fixed-none rows columns lo up g l;
-      uppers = uppers-back fixedAmounts fixed-none rows columns lo up g u;
+      answer = answer-back fixedAmounts rows columns lo up g l u hl hu;
+      lowers = lowers-back fixedAmounts rows columns lo up g l;
+      uppers = uppers-back fixedAmounts rows columns lo up g u;
     }
 
 -- by a read with any load that is accepted
@@ -75,10 +73,9 @@ pub trip-with : (load : List ℕ) → loadFault load ≡ 0 → (rows columns : �
     × (uppersWith load (sheetOf rows columns lo up) (gives (rows, columns)) u ≡ canonicals up (rows * columns) 0 ++ drop (rows * columns) u))
 unfolding loadOf sliceWith
 trip-with load e rows columns lo up room n g l u hl hu =
-    let none = accepted-is load .0 e .1 .first in
     let amounts : List ℕ = patternsOf load in (
-      sym (with-loaded load amounts (loadFault load) refl _ _ _ e) ∙ answer-back amounts none rows columns lo up g l u hl hu,
-      (lowers-back amounts none rows columns lo up g l, uppers-back amounts none rows columns lo up g u),
+      sym (with-loaded load amounts (loadFault load) refl _ _ _ e) ∙ answer-back amounts rows columns lo up g l u hl hu,
+      (lowers-back amounts rows columns lo up g l, uppers-back amounts rows columns lo up g u),
     )
 
 -- of the buffer that `put` leaves

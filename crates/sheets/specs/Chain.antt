@@ -1,17 +1,17 @@
--- The chain of a sheet, followed record by record with all checks, over the eight wear amounts that the read is held against.
--- Definitions only (01, "The coupling sheet" and "When a call is turned down").
+-- The chain of a sheet, followed record by record with all checks, over a rule that gives the wear amount of a record or its refusal.
+-- Definitions only (01, "The coupling sheet" and "When a call is turned down"; 02, P6).
 use mathlib.Core.Bool.{cond}
 use mathlib.Core.List.{List, [], _∷_}
 use Prim.Native.Nat.{ℕ, zero, suc, _+_, _*_}
 use lib.Dec.{leb, ltb, eqb}
-use Rattle.refusals.specs.Refusal.{ofCell, placed}
-use Rattle.refusals.specs.Answer.{Answer, gives, refuses, done, refuse}
+use Rattle.refusals.specs.Refusal.{placed}
+use Rattle.refusals.specs.Answer.{Answer, gives, refuses, done, refuse, andThen}
 use Rattle.sheets.specs.declared.layout.Record.{Record}
 use Rattle.sheets.specs.declared.chain.Cell.{Cell}
 use Rattle.sheets.specs.declared.chain.Step.{Step}
 use Rattle.sheets.specs.declared.chain.Step.the-variants as S
-use Rattle.sheets.specs.Layout.{recordOf, firstOf, rowsOf, columnsOf, countOf}
-use Rattle.sheets.specs.Wear.{amountIn}
+use Rattle.sheets.specs.Layout.{recordOf, firstOf, rowsOf, columnsOf, countOf, kindOf}
+use Rattle.sheets.specs.Amount.{cellAmount}
 use Rattle.sheets.specs.Cell.{widenedOf}
 
 -- ---- one record
@@ -30,17 +30,18 @@ abbrev pub cellFrom : ℕ → Record → Answer (ℕ × ℕ) → Answer Cell
 cellFrom columns r (gives x) = gives (record { next = r .next; position = positionOf columns r; lower = x .0; upper = x .1 })
 cellFrom columns r (refuses x) = refuses (placed (r .row) (r .column) x)
 
--- the checks of one record: 7, 8, 6, 10, then 3, 4, 5. `least` is one past the position of the cell before, 0 for the first cell, so that
--- a position of `least` or more comes later by row, then column (proofs/Order, `unordered-is`)
-unfoldable pub judgeOf : List ℕ → ℕ → ℕ → ℕ → Record → Answer Cell
-judgeOf amounts rows columns least r =
+-- a record with its amount w, its bounds widened
+abbrev pub wornCell : ℕ → Record → ℕ → Answer Cell
+wornCell columns r w = cellFrom columns r (widenedOf (r .lower) (r .upper) w)
+
+-- the checks of one record: 7, 8, those of the rule (6 and 10, or 14), then 3, 4, 5. `least` is one past the position of the cell before, 0 for the
+-- first cell, so that a position of `least` or more comes later by row, then column (proofs/Order, `unordered-is`)
+unfoldable pub judgeOf : (Record → Answer ℕ) → ℕ → ℕ → ℕ → Record → Answer Cell
+judgeOf rule rows columns least r =
     cond (leb rows (r .row)) (refuse 7)
     (cond (leb columns (r .column)) (refuse 7)
     (cond (ltb (positionOf columns r) least) (refuse 8)
-    (cond (r .spare)
-    (cond (ltb 7 (r .wear)) (refuses (ofCell 10 0 (r .row) (r .column)))
-    (cellFrom columns r (widenedOf (r .lower) (r .upper) (amountIn amounts (r .wear)))))
-    (refuse 6))))
+    (andThen (rule r) (wornCell columns r))))
 
 -- ---- the chain
 
@@ -63,20 +64,20 @@ onward (gives c) f = more c (f c)
 onward (refuses r) f = stopped (refuses r)
 
 -- the checks of the record at an index: 7 where the index is not below the record count, then those of the record
-unfoldable pub visitOf : List ℕ → List ℕ → ℕ → ℕ → ℕ → ℕ → Answer Cell
-visitOf amounts s rows columns index least = cond (leb (countOf s) index) (refuse 7) (judgeOf amounts rows columns least (recordOf s index))
+unfoldable pub visitOf : (Record → Answer ℕ) → List ℕ → ℕ → ℕ → ℕ → ℕ → Answer Cell
+visitOf rule s rows columns index least = cond (leb (countOf s) index) (refuse 7) (judgeOf rule rows columns least (recordOf s index))
 
 -- the walk from record `index` on; index 0 ends the chain. Positions rise, so rows × columns + 1 turns are enough (proofs/Walking, `enough`)
-unfoldable pub walk : List ℕ → List ℕ → ℕ → ℕ → ℕ → ℕ → ℕ → Walk
-walk amounts s rows columns zero index least = stopped done
-walk amounts s rows columns (suc turns) index least =
+unfoldable pub walk : (Record → Answer ℕ) → List ℕ → ℕ → ℕ → ℕ → ℕ → ℕ → Walk
+walk rule s rows columns zero index least = stopped done
+walk rule s rows columns (suc turns) index least =
     cond (eqb index 0) (stopped done)
-    (onward (visitOf amounts s rows columns index least) (λ c. walk amounts s rows columns turns (c .next) (c .position + 1)))
+    (onward (visitOf rule s rows columns index least) (λ c. walk rule s rows columns turns (c .next) (c .position + 1)))
 
 -- the whole walk, for a matrix with this many rows and columns and a chain that starts at record `first`
-abbrev pub walkAll : List ℕ → List ℕ → ℕ → ℕ → ℕ → Walk
-walkAll amounts s rows columns first = walk amounts s rows columns (rows * columns + 1) first 0
+abbrev pub walkAll : (Record → Answer ℕ) → List ℕ → ℕ → ℕ → ℕ → Walk
+walkAll rule s rows columns first = walk rule s rows columns (rows * columns + 1) first 0
 
--- the walk of a sheet, by its head
+-- the walk of a sheet, by its head, over the eight wear amounts that the read is held against
 unfoldable pub chainOf : List ℕ → List ℕ → Walk
-chainOf amounts s = walkAll amounts s (rowsOf s) (columnsOf s) (firstOf s)
+chainOf amounts s = walkAll (cellAmount (kindOf s) amounts) s (rowsOf s) (columnsOf s) (firstOf s)

@@ -1,4 +1,4 @@
--- A coupling sheet as a list of bytes. Definitions only (01, "The coupling sheet").
+-- A coupling sheet as a list of bytes. Definitions only (01, "The coupling sheet"; 02, P6).
 use mathlib.Core.Bool.{Bool, false, cond}
 use mathlib.Core.List.{List}
 use Prim.Native.Nat.{ℕ, _+_, _*_, _%_}
@@ -18,7 +18,7 @@ u32At s p = getD s p 0 + 256 * getD s (p + 1) 0 + 65536 * getD s (p + 2) 0 + 167
 unfoldable pub blank : List ℕ → ℕ → ℕ → Bool
 blank s = allFrom (λ i. eqb (getD s i 0) 0)
 
--- record i, read as a cell: next, row, column, the two bounds, wear class, and whether bytes 13 to 15 are zero
+-- record i, read as a cell: next, row, column, the two bounds, and bytes 12 to 15 as one number, the wear, whose meaning depends on the sheet's kind
 unfoldable pub recordOf : List ℕ → ℕ → Record
 recordOf s i = record {
   next = u16At s (16 * i);
@@ -26,11 +26,10 @@ recordOf s i = record {
   column = getD s (16 * i + 3) 0;
   lower = u32At s (16 * i + 4);
   upper = u32At s (16 * i + 8);
-  wear = getD s (16 * i + 12) 0;
-  spare = blank s (16 * i + 13) 3;
+  wear = u32At s (16 * i + 12);
 }
 
--- the head: index of the first cell, rows, columns, number of records
+-- the head: index of the first cell, rows, columns, number of records, kind
 abbrev pub firstOf : List ℕ → ℕ
 firstOf s = u16At s 0
 
@@ -43,10 +42,14 @@ columnsOf s = getD s 3 0
 abbrev pub countOf : List ℕ → ℕ
 countOf s = u16At s 4
 
--- whether length and head pass refusal 6: the length is a multiple of 16 from 16 to 16,400 and fits the record count; the rest of the head is zero
+-- 0 for a class sheet, whose cells hold a wear class; 1 for an amount sheet, whose cells hold the amount itself
+abbrev pub kindOf : List ℕ → ℕ
+kindOf s = getD s 6 0
+
+-- whether the length is a multiple of 16 from 16 to 16,400 and fits the record count
+unfoldable pub whole : List ℕ → Bool
+whole s = cond (eqb (length s % 16) 0) (cond (leb 16 (length s)) (cond (leb (length s) 16400) (eqb (16 * countOf s) (length s)) false) false) false
+
+-- whether length and head pass refusal 6: the sheet is whole, of one of the two kinds, and the rest of the head is zero
 unfoldable pub framed : List ℕ → Bool
-framed s =
-    cond (eqb (length s % 16) 0)
-    (cond (leb 16 (length s))
-    (cond (leb (length s) 16400)
-    (cond (eqb (16 * countOf s) (length s)) (blank s 6 10) false) false) false) false
+framed s = cond (whole s) (cond (leb (kindOf s) 1) (blank s 7 9) false) false

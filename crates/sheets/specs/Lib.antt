@@ -1,6 +1,7 @@
 pub mod AllFrom
 pub mod Layout
 pub mod Wear
+pub mod Amount
 pub mod Cell
 pub mod Load
 pub mod Chain
@@ -9,3 +10,4 @@ pub mod Sheet
 pub mod Writing
 pub mod Trip
 pub mod Cut
+pub mod Before

@@ -1,4 +1,4 @@
--- The bytes of the sheet that is written for a matrix. Definitions only (01, "The coupling sheet").
+-- The bytes of the sheet that is written for a matrix. Definitions only (01, "The coupling sheet"; 02, P6).
 use mathlib.Core.Bool.{cond}
 use mathlib.Core.List.{List, [], _∷_, _++_}
 use Prim.Native.Nat.{ℕ, zero, suc, _+_, _*_, _/_, _%_}
@@ -10,14 +10,17 @@ use Rattle.sheets.specs.Cell.{handedOf}
 
 -- ---- bytes
 
--- a record: next index, row, column, lower and upper bound, then zeros (wear class 0 and bytes 13 to 15).
--- The head has the same form: index of the first cell, rows, columns, number of records and 0
+-- the record of a cell: next index, row, column, lower and upper bound, and the amount zero
 unfoldable pub recordBytes : ℕ → ℕ → ℕ → ℕ → ℕ → List ℕ
 recordBytes n r c l u =
     n % 256 ∷ n / 256 % 256 ∷ r ∷ c
     ∷ l % 256 ∷ l / 256 % 256 ∷ l / 65536 % 256 ∷ l / 16777216 % 256
     ∷ u % 256 ∷ u / 256 % 256 ∷ u / 65536 % 256 ∷ u / 16777216 % 256
     ∷ 0 ∷ 0 ∷ 0 ∷ 0 ∷ []
+
+-- the head, in the same form: index of the first cell, rows, columns, number of records in bytes 4 and 5, the kind 1 in byte 6, then zeros
+abbrev pub headBytes : ℕ → ℕ → ℕ → ℕ → List ℕ
+headBytes first rows columns count = recordBytes first rows columns (count + 65536 * 1) 0
 
 -- `out` with `bytes` written from index m on
 unfoldable pub over : ℕ → List ℕ → List ℕ → List ℕ
@@ -56,8 +59,8 @@ recordsTo columns total lo up zero = []
 recordsTo columns total lo up (suc p) =
     recordsTo columns total lo up p ++ cellBytes (nextOf total (countTo lo up p + 1)) (p / columns) (p % columns) (cellAt lo up p)
 
--- the whole sheet: the head, then the cells that are not [0, 0] in records 1, 2, 3, ..
+-- the whole sheet, an amount sheet: the head, then the cells that are not [0, 0] in records 1, 2, 3, ..
 unfoldable pub sheetOf : ℕ → ℕ → List ℕ → List ℕ → List ℕ
 sheetOf rows columns lo up =
     let total = countTo lo up (rows * columns) in
-    recordBytes (nextOf total 0) rows columns (total + 1) 0 ++ recordsTo columns total lo up (rows * columns)
+    headBytes (nextOf total 0) rows columns (total + 1) ++ recordsTo columns total lo up (rows * columns)

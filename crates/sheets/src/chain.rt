@@ -1,15 +1,17 @@
-// Follows the chain of a sheet's cells and checks each record for refusals 7, 8, 6, 10, 3, 4 and 5, in this order; `amounts` are the eight wear
-// amounts that the read is held against. Writes nothing.
+// Follows the chain of a sheet's cells and checks each record: 7, 8, then 6 and 10 in a class sheet or 14 in an amount sheet, then 3, 4, 5. `kind` is that
+// of the sheet, and `amounts` are the eight wear amounts that the read is held against. Writes nothing.
 ghost use mathlib.Core.Path.{_≡_};
 ghost use Prim.Native.Nat.{_+_, _*_, _≤_};
 ghost use lib.ListN.{length};
 ghost use Rattle.refusals.specs.Answer.{done, outcome, then};
 ghost use Rattle.sheets.specs.Layout.{countOf};
+ghost use Rattle.sheets.specs.Amount.{cellAmount};
 ghost use Rattle.sheets.specs.Chain.{judgeOf, walkAll};
-use crate::cell::check_widen;
+use crate::amount::wear_amount;
+use crate::amount::wear_fault;
+use crate::cell::check_worn;
 use crate::layout::Record;
 use crate::layout::record_at;
-use intervals::check;
 use refusals::Outcome;
 use refusals::Refusal;
 
@@ -27,10 +29,17 @@ pub enum Step {
     Refused(Refusal),
 }
 
-// Checks one record of the chain: 7, 8, 6, 10, 3, 4, 5. Its position must be `least` or more, one past that of the cell before it.
-fn judge(amounts: &[u32; 8], rows: usize, columns: usize, least: usize, r: Record) -> Outcome
+// Checks one record of the chain. Its position must be `least` or more, one past that of the cell before it.
+fn judge(
+    kind: usize,
+    amounts: &[u32; 8],
+    rows: usize,
+    columns: usize,
+    least: usize,
+    r: Record,
+) -> Outcome
     requires { ⌜ (rows ≤ 32) × (columns ≤ 32) ⌝ }
-    ensures { λ v. ⌜ outcome v ≡ then (judgeOf (now (amounts .entry)) rows columns least r) done ⌝ }
+    ensures { λ v. ⌜ outcome v ≡ then (judgeOf (cellAmount kind (now (amounts .entry))) rows columns least r) done ⌝ }
 {
     let row = r.row;
     let column = r.column;
@@ -44,29 +53,32 @@ fn judge(amounts: &[u32; 8], rows: usize, columns: usize, least: usize, r: Recor
     if position < least {
         return Outcome::Refused(Refusal::of_matrix(8, 0));
     }
-    if !r.spare {
-        return Outcome::Refused(Refusal::of_matrix(6, 0));
-    }
-    let wear = r.wear;
     let i = row as u8;
     let j = column as u8;
-    if wear > 7 {
-        return Outcome::Refused(Refusal::of_cell(10, 0, i, j));
+    let fault = wear_fault(kind, r.wear);
+    if fault == 6 {
+        return Outcome::Refused(Refusal::of_matrix(6, 0));
     }
-    let fault = check(r.lower, r.upper);
     if fault != 0 {
         return Outcome::Refused(Refusal::of_cell(fault, 0, i, j));
     }
-    match check_widen(r.lower, r.upper, amounts[wear]) {
+    match check_worn(r.lower, r.upper, wear_amount(kind, amounts, r.wear)) {
         Outcome::Done => Outcome::Done,
         Outcome::Refused(x) => Outcome::Refused(Refusal::of_cell(x.number, x.matrix, i, j)),
     }
 }
 
 // Checks the whole chain, whose first record has the index `first`. Index 0 ends the chain.
-pub fn follow(amounts: &[u32; 8], s: &[u8], rows: usize, columns: usize, first: usize) -> Outcome
+pub fn follow(
+    kind: usize,
+    amounts: &[u32; 8],
+    s: &[u8],
+    rows: usize,
+    columns: usize,
+    first: usize,
+) -> Outcome
     requires { ⌜ (rows ≤ 32) × (columns ≤ 32) × (16 * countOf (now s) ≡ length (now s)) ⌝ }
-    ensures { λ v. ⌜ outcome v ≡ walkAll (now (amounts .entry)) (now (s .entry)) rows columns first .verdict ⌝ }
+    ensures { λ v. ⌜ outcome v ≡ walkAll (cellAmount kind (now (amounts .entry))) (now (s .entry)) rows columns first .verdict ⌝ }
 {
     let mut index = first;
     let mut least = 0;
@@ -75,7 +87,7 @@ pub fn follow(amounts: &[u32; 8], s: &[u8], rows: usize, columns: usize, first: 
             return Outcome::Refused(Refusal::of_matrix(7, 0));
         }
         let r = record_at(s, index);
-        match judge(amounts, rows, columns, least, r) {
+        match judge(kind, amounts, rows, columns, least, r) {
             Outcome::Done => {
                 index = r.next;
                 least = r.row * columns + r.column + 1;

@@ -4,15 +4,14 @@ ghost use Prim.Native.Nat.{_+_, _*_, _≤_, _<_};
 ghost use lib.ListN.{length, getD};
 ghost use Rattle.sheets.specs.Layout.{u16At, u32At, blank, recordOf, framed};
 
-// A record read as a cell. `wear` is its wear class, and `spare` says whether its last three bytes are zero.
+// A record read as a cell. `wear`, its last four bytes, is a wear class or a wear amount, by the kind of the sheet.
 pub struct Record {
     pub next: usize,
     pub row: usize,
     pub column: usize,
     pub lower: u32,
     pub upper: u32,
-    pub wear: usize,
-    pub spare: bool,
+    pub wear: u32,
 }
 
 // Byte p of s.
@@ -67,8 +66,7 @@ pub fn record_at(s: &[u8], i: usize) -> Record
     let column = byte(s, at + 3);
     let lower = u32_at(s, at + 4);
     let upper = u32_at(s, at + 8);
-    let wear = byte(s, at + 12);
-    let spare = is_blank(s, at + 13, 3);
+    let wear = u32_at(s, at + 12);
     Record {
         next: next,
         row: row,
@@ -76,7 +74,6 @@ pub fn record_at(s: &[u8], i: usize) -> Record
         lower: lower,
         upper: upper,
         wear: wear,
-        spare: spare,
     }
 }
 
@@ -97,5 +94,8 @@ pub fn is_framed(s: &[u8]) -> bool
     if 16 * u16_at(s, 4) != n {
         return false;
     }
-    is_blank(s, 6, 10)
+    if byte(s, 6) > 1 {
+        return false;
+    }
+    is_blank(s, 7, 9)
 }

@@ -5,6 +5,7 @@ ghost use Rattle.sheets.specs.Reading.{shape, readOf, lowersAfter, upper
 ghost use Rattle.sheets.specs.Writing.{written, writeOf, outAfter, frontOf};
 ghost use Rattle.sheets.specs.Trip.{TripOf};
 
+mod amount;
 mod cell;
 mod chain;
 pub mod cut;
@@ -33,7 +34,7 @@ pub enum Written {
     Refused(Refusal),
 }
 
-// Reads the matrix of a sheet, each cell widened by its wear class, into the front of the two slices; a refusal leaves both as they were.
+// Reads the matrix of a sheet, each cell widened by its wear, into the front of the two slices; a refusal leaves both as they were.
 pub fn read(s: &[u8], lowers: &mut [u32], uppers: &mut [u32]) -> Shape
     ensures answer { λ r. ⌜ shape r ≡ readOf (now (s .entry)) (length (now (lowers .entry))) (length (now (uppers .entry))) ⌝ }
     ensures below { λ r. ⌜ now (lowers .exit) ≡ lowersAfter (now (s .entry)) (shape r) (now (lowers .entry)) ⌝ }
@@ -43,7 +44,7 @@ pub fn read(s: &[u8], lowers: &mut [u32], uppers: &mut [u32]) -> Shape
     reading::read(&fixed, s, lowers, uppers)
 }
 
-// The same with a mill's own amounts, eight patterns in 32 bytes, in the place of the fixed table. They are checked first: 6, 3, 13.
+// The same with a mill's own amounts for the wear classes, eight patterns in 32 bytes, in the place of the fixed table. They are checked first: 6, 3, 13.
 pub fn read_with(amounts: &[u8], s: &[u8], lowers: &mut [u32], uppers: &mut [u32]) -> Shape
     ensures answer { λ r. ⌜ shape r ≡ readWith (now (amounts .entry)) (now (s .entry)) (length (now (lowers .entry))) (length (now (uppers .entry))) ⌝ }
     ensures below { λ r. ⌜ now (lowers .exit) ≡ lowersWith (now (amounts .entry)) (now (s .entry)) (shape r) (now (lowers .entry)) ⌝ }
@@ -98,7 +99,7 @@ pub fn put(rows: usize, columns: usize, lowers: &[u32], uppers: &[u32], out: &mu
                 records::next_of(total, 0),
                 rows,
                 columns,
-                (total + 1) as u32,
+                (total + 1) as u32 + records::KIND,
                 0,
             );
             records::put_cells(out, columns, rows * columns, total, lowers, uppers);

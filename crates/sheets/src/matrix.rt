@@ -3,12 +3,12 @@ ghost use mathlib.Core.Path.{_≡_};
 ghost use Prim.Native.Nat.{_+_, _*_, _≤_, _<_};
 ghost use lib.ListN.{length};
 ghost use Rattle.refusals.specs.Answer.{done};
-ghost use Rattle.intervals.specs.Conversion.{faultOf};
 ghost use Rattle.sheets.specs.Layout.{countOf};
-ghost use Rattle.sheets.specs.Wear.{amountIn};
-ghost use Rattle.sheets.specs.Cell.{widenedOf};
-ghost use Rattle.sheets.specs.Chain.{stepped, cellFrom, walkAll};
+ghost use Rattle.sheets.specs.Amount.{wearFault, wearAmount, cellAmount};
+ghost use Rattle.sheets.specs.Cell.{wornFault};
+ghost use Rattle.sheets.specs.Chain.{stepped, wornCell, walkAll};
 ghost use Rattle.sheets.specs.Reading.{putIn, cellLower, cellUpper};
+use crate::amount::wear_amount;
 use crate::chain::Cell;
 use crate::chain::Step;
 use crate::layout::Record;
@@ -16,15 +16,15 @@ use crate::layout::record_at;
 use intervals::Bounded;
 use refusals::Refusal;
 
-// The widened cell of a record that passed all checks.
-fn passed(amounts: &[u32; 8], columns: usize, r: Record) -> Step
-    requires { ⌜ (columns ≤ 32) × (r .row < 32) × (r .column < 32) × (r .wear < 8) × (faultOf (r .lower) (r .upper) ≡ 0) ⌝ }
-    ensures { λ s. ⌜ stepped s ≡ cellFrom columns r (widenedOf (r .lower) (r .upper) (amountIn (now (amounts .entry)) (r .wear))) ⌝ }
+// The cell of a record that passed all checks, widened by its amount.
+fn passed(kind: usize, amounts: &[u32; 8], columns: usize, r: Record) -> Step
+    requires { ⌜ (columns ≤ 32) × (r .row < 32) × (r .column < 32) × (wearFault kind (r .wear) ≡ 0)
+        × (wornFault (r .lower) (r .upper) (wearAmount kind (now amounts) (r .wear)) ≡ 0) ⌝ }
+    ensures { λ s. ⌜ stepped s ≡ wornCell columns r (wearAmount kind (now (amounts .entry)) (r .wear)) ⌝ }
 {
     let row = r.row;
     let column = r.column;
-    let wear = r.wear;
-    match crate::cell::widen(r.lower, r.upper, amounts[wear]) {
+    match crate::cell::widen(r.lower, r.upper, wear_amount(kind, amounts, r.wear)) {
         Bounded::Bounds(a, b) => Step::Cell(Cell {
             next: r.next,
             position: row * columns + column,
@@ -41,6 +41,7 @@ fn passed(amounts: &[u32; 8], columns: usize, r: Record) -> Step
 
 // Puts the cells of the chain at their positions. The loop ends because positions rise; `least` serves only that proof.
 pub fn fill(
+    kind: usize,
     amounts: &[u32; 8],
     s: &[u8],
     rows: usize,
@@ -51,15 +52,17 @@ pub fn fill(
 )
     requires { ⌜ (rows ≤ 32) × (columns ≤ 32) × (16 * countOf (now s) ≡ length (now s))
         × (rows * columns ≤ length (now lowers)) × (rows * columns ≤ length (now uppers))
-        × (walkAll (now amounts) (now s) rows columns first .verdict ≡ done) ⌝ }
+        × (walkAll (cellAmount kind (now amounts)) (now s) rows columns first .verdict ≡ done) ⌝ }
     ensures { λ _. ⌜
-        (now (lowers .exit) ≡ putIn cellLower (now (lowers .entry)) (walkAll (now (amounts .entry)) (now (s .entry)) rows columns first .cells))
-        × (now (uppers .exit) ≡ putIn cellUpper (now (uppers .entry)) (walkAll (now (amounts .entry)) (now (s .entry)) rows columns first .cells)) ⌝ }
+        (now (lowers .exit) ≡ putIn cellLower (now (lowers .entry))
+        (walkAll (cellAmount kind (now (amounts .entry))) (now (s .entry)) rows columns first .cells))
+        × (now (uppers .exit) ≡ putIn cellUpper (now (uppers .entry))
+        (walkAll (cellAmount kind (now (amounts .entry))) (now (s .entry)) rows columns first .cells)) ⌝ }
 {
     let mut index = first;
     let mut least = 0;
     while index != 0 {
-        match passed(amounts, columns, record_at(s, index)) {
+        match passed(kind, amounts, columns, record_at(s, index)) {
             Step::Cell(c) => {
                 let position = c.position;
                 lowers[position] = c.lower;

@@ -20,9 +20,10 @@ fn check(amounts: &[u32; 8], s: &[u8], lowers: usize, uppers: usize) -> Shape
     }
     let rows = layout::byte(s, 2);
     let columns = layout::byte(s, 3);
+    let kind = layout::byte(s, 6);
     match check_fit(0, rows, columns, lowers, uppers) {
         Outcome::Refused(r) => Shape::Refused(r),
-        Outcome::Done => match follow(amounts, s, rows, columns, layout::u16_at(s, 0)) {
+        Outcome::Done => match follow(kind, amounts, s, rows, columns, layout::u16_at(s, 0)) {
             Outcome::Done => Shape::Sizes(rows, columns),
             Outcome::Refused(r) => Shape::Refused(r),
         },
@@ -40,6 +41,7 @@ pub fn read(amounts: &[u32; 8], s: &[u8], lowers: &mut [u32], uppers: &mut [u32]
             clear(rows * columns, lowers);
             clear(rows * columns, uppers);
             fill(
+                layout::byte(s, 6),
                 amounts,
                 s,
                 rows,

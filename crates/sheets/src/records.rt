@@ -8,7 +8,10 @@ ghost use Rattle.sheets.specs.Sheet.{recordBytes, over, tally, countTo, 
 use crate::cell::HandedIn;
 use crate::cell::handed;
 
-// The 16 bytes of a record with wear class 0. The head has the same form, with the record count in place of the lower bound.
+// The kind of the sheets that are written, 1, where a head has it: in byte 6, the third of the four that a cell has its lower bound in.
+pub const KIND: u32 = 65536;
+
+// The 16 bytes of a cell's record, with the amount 0. The head has the same form, with the record count and the kind in place of the lower bound.
 fn record_bytes(next: usize, row: usize, column: usize, lower: u32, upper: u32) -> [u8; 16]
     requires { ⌜ (row < 256) × (column < 256) ⌝ }
     ensures { λ r. ⌜ r ≡ recordBytes next row column lower upper ⌝ }

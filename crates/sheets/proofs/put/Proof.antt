@@ -35,6 +35,9 @@ add-put-record c = let g = passed (c .before .before) in omega (arith, g .bytes,
 cast-put-record : tie.Need-cast-put-record
 cast-put-record c = let g = passed (c .before .before) in omega (arith, g .bytes, g .few, g .counted)
 
+add-put-record-2 : tie.Need-add-put-record-2
+add-put-record-2 c = let g = passed (c .before .before) in omega (arith, g .bytes, g .few, g .counted)
+
 put-record-requires : tie.Need-put-record-requires
 put-record-requires c κs =
     let g = passed (c .before .before) in
@@ -79,6 +82,7 @@ put-spec =
     next-of-requires
     add-put-record
     cast-put-record
+    add-put-record-2
     put-record-requires
     mul-put-cells
     put-cells-requires

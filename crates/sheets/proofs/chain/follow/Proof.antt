@@ -6,17 +6,18 @@ use lib.Arith.{digits-lt}
 use borrow.Author.Needs.{needs}
 use Rattle.refusals.specs.Answer.{refuses, outcome}
 use Rattle.refusals.proofs.SizeLaws.{small}
+use Rattle.sheets.specs.Amount.{cellAmount}
 use Rattle.sheets.specs.Chain.{positionOf, Walk, walk}
 use Rattle.sheets.proofs.Walking.{walk-end, walk-turn, visit-past, turn-refused, turn-passed}
 use Rattle.sheets.proofs.chain.follow.Statement.{statement}
 use Rattle.sheets.proofs.chain.follow.Tie as tie
 
 abbrev Inv-loop : tie.InvT-loop
-Inv-loop amounts s rows columns first index₀ least₀ index least =
-    (t : ℕ) × (rows * columns < t + least) × (least ≤ rows * columns) × (walk amounts s rows columns (rows * columns + 1) first 0 .verdict ≡ walk amounts s rows columns t index least .verdict)
+Inv-loop kind amounts s rows columns first index₀ least₀ index least =
+    (t : ℕ) × (rows * columns < t + least) × (least ≤ rows * columns) × (walk (cellAmount kind amounts) s rows columns (rows * columns + 1) first 0 .verdict ≡ walk (cellAmount kind amounts) s rows columns t index least .verdict)
 
 abbrev μ-loop : tie.MeasureT-loop
-μ-loop amounts s rows columns first index₀ least₀ index least = rows * columns - least
+μ-loop kind amounts s rows columns first index₀ least₀ index least = rows * columns - least
 
 loop-holds : tie.Need-loop-holds Inv-loop μ-loop
 loop-holds c = (c .before .args .rows * c .before .args .columns + 1, omega arith, omega arith, refl)
@@ -47,12 +48,12 @@ turned : (c : tie.After-enum-told Inv-loop μ-loop) →
     let a = h .before .before .args in
     let r = k .record-at .result in
     (h .loop .least ≤ positionOf (a .columns) r) × (positionOf (a .columns) r < a .rows * a .columns) × (a .rows * a .columns ≤ 1024)
-    × (walk (a .amounts .now) (a .s .now) (a .rows) (a .columns) (h .loop .inv .0) (h .loop .index) (h .loop .least) .verdict ≡ walk (a .amounts .now) (a .s .now) (a .rows) (a .columns) (h .loop .inv .0 - 1) (r .next) (positionOf (a .columns) r + 1) .verdict)
+    × (walk (cellAmount (a .kind) (a .amounts .now)) (a .s .now) (a .rows) (a .columns) (h .loop .inv .0) (h .loop .index) (h .loop .least) .verdict ≡ walk (cellAmount (a .kind) (a .amounts .now)) (a .s .now) (a .rows) (a .columns) (h .loop .inv .0 - 1) (r .next) (positionOf (a .columns) r + 1) .verdict)
 turned c =
     let k = c .before .before .before in
     let h = k .before .before .before in
     let a = h .before .before .args in
-    let j = turn-passed (a .amounts .now) (a .s .now) (a .rows) (a .columns) (h .loop .inv .0) (h .loop .inv .0 - 1) (h .loop .index) (h .loop .least) (omega arith) (omega arith) (k .record-at .result) _ (omega arith) (k .record-at .ensures) (c .before .before .judge .ensures) (ap outcome (c .enum-told .given .1)) in
+    let j = turn-passed (cellAmount (a .kind) (a .amounts .now)) (a .s .now) (a .rows) (a .columns) (h .loop .inv .0) (h .loop .inv .0 - 1) (h .loop .index) (h .loop .least) (omega arith) (omega arith) (k .record-at .result) _ (omega arith) (k .record-at .ensures) (c .before .before .judge .ensures) (ap outcome (c .enum-told .given .1)) in
     (j .1 .free, digits-lt (j .1 .row) (j .1 .column), small (a .rows) (a .columns) (omega arith) (omega arith), j .2)
 
 mul-least : tie.Need-mul-least Inv-loop μ-loop

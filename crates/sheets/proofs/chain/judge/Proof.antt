@@ -5,20 +5,20 @@ use Prim.Native.Nat.{ℕ}
 use native.Mathlib.Omega.{arith}
 use lib.Arith.{digits-lt}
 use borrow.Author.Needs.{needs}
-use borrow.Author.Tests.{le-leb, lt-leb, lt-ltb, le-ltb, not-true, not-false}
+use borrow.Author.Tests.{le-leb, lt-leb, lt-ltb}
 use Rattle.refusals.specs.declared.Outcome.{Outcome}
-use Rattle.refusals.specs.declared.Outcome.the-variants.{Done, Refused}
-use Rattle.refusals.specs.Refusal.{ofCell, placed}
-use Rattle.refusals.specs.Answer.{Answer, gives, refuses, done, outcome, then}
-use Rattle.refusals.proofs.Answers.{passing-on, passing-not, said}
+use Rattle.refusals.specs.declared.Outcome.the-variants as O
+use Rattle.refusals.specs.Refusal.{placed}
+use Rattle.refusals.specs.Answer.{Answer, gives, refuses, done, outcome, andThen, then}
+use Rattle.refusals.proofs.Answers.{said}
 use Rattle.refusals.proofs.SizeLaws.{small}
-use Rattle.intervals.specs.Conversion.{faultOf, outwardOf}
 use Rattle.sheets.specs.declared.layout.Record.{Record}
 use Rattle.sheets.specs.declared.chain.Cell.{Cell}
-use Rattle.sheets.specs.Wear.{amountIn}
+use Rattle.sheets.specs.Amount.{wearFault, cellAmount}
 use Rattle.sheets.specs.Cell.{widenedOf}
-use Rattle.sheets.specs.Chain.{cellFrom, judgeOf}
-use Rattle.sheets.proofs.Judging.{judge-by, judge-cell}
+use Rattle.sheets.specs.Chain.{cellFrom, wornCell, judgeOf}
+use Rattle.sheets.proofs.CellAmounts.{amount-given, amount-unnamed, amount-named}
+use Rattle.sheets.proofs.Judging.{judge-by, judge-ruled}
 use Rattle.sheets.proofs.chain.judge.Statement.{statement}
 use Rattle.sheets.proofs.chain.judge.Tie as tie
 
@@ -38,8 +38,7 @@ of-matrix-requires : tie.Need-of-matrix-requires
 of-matrix-requires c κs = search needs
 
 returns : tie.Need-returns
-returns c =
-    ap refuses (c .of-matrix .ensures) ∙ ap verdict (judge-by _ _ _ _ _ true _ _ _ _ _ (le-leb _ _ (c .before .if1 .taken)) refl refl refl refl refl)
+returns c = ap refuses (c .of-matrix .ensures) ∙ ap verdict (judge-by _ _ _ _ _ true _ _ (le-leb _ _ (c .before .if1 .taken)) refl refl)
 
 of-matrix-requires-2 : tie.Need-of-matrix-requires-2
 of-matrix-requires-2 c κs = search needs
@@ -47,8 +46,7 @@ of-matrix-requires-2 c κs = search needs
 returns-2 : tie.Need-returns-2
 returns-2 c =
     let k = c .before in
-    ap refuses (c .of-matrix2 .ensures)
-    ∙ ap verdict (judge-by _ _ _ _ _ false true _ _ _ _ (lt-leb _ _ (k .before .if1 .left)) (le-leb _ _ (k .if2 .taken)) refl refl refl refl)
+    ap refuses (c .of-matrix2 .ensures) ∙ ap verdict (judge-by _ _ _ _ _ false true _ (lt-leb _ _ (k .before .if1 .left)) (le-leb _ _ (k .if2 .taken)) refl)
 
 mul-position : tie.Need-mul-position
 mul-position c =
@@ -67,18 +65,7 @@ returns-3 : tie.Need-returns-3
 returns-3 c =
     let k = c .before in
     ap refuses (c .of-matrix3 .ensures)
-    ∙ ap verdict (judge-by _ _ _ _ _ false false true _ _ _ (lt-leb _ _ (k .before .before .if1 .left)) (lt-leb _ _ (k .before .if2 .left)) (lt-ltb _ _ (k .if3 .taken)) refl refl refl)
-
-of-matrix-requires-4 : tie.Need-of-matrix-requires-4
-of-matrix-requires-4 c κs = search needs
-
-returns-4 : tie.Need-returns-4
-returns-4 c =
-    let k = c .before in
-    let p = k .before .before in
-    ap refuses (c .of-matrix4 .ensures)
-    ∙ ap verdict
-    (judge-by _ _ _ _ _ false false false false _ _ (lt-leb _ _ (p .before .before .if1 .left)) (lt-leb _ _ (p .before .if2 .left)) (le-ltb _ _ (p .if3 .left)) (not-true _ (k .if4 .taken)) refl refl)
+    ∙ ap verdict (judge-by _ _ _ _ _ false false true (lt-leb _ _ (k .before .before .if1 .left)) (lt-leb _ _ (k .before .if2 .left)) (lt-ltb _ _ (k .if3 .taken)))
 
 cast-i : tie.Need-cast-i
 cast-i c = search needs
@@ -86,53 +73,45 @@ cast-i c = search needs
 cast-j : tie.Need-cast-j
 cast-j c = search needs
 
+-- 7 and 8 have passed: by the amount x
+amounted : (c : tie.Else3) (x : Answer ℕ) →
+    let a = c .before .before .before .args in
+    x ≡ cellAmount (a .kind) (a .amounts .now) (a .r)
+    → verdict (andThen x (wornCell (a .columns) (a .r))) ≡ verdict (judgeOf (cellAmount (a .kind) (a .amounts .now)) (a .rows) (a .columns) (a .least) (a .r))
+amounted c x e =
+    let a = c .before .before .before .args in
+    ap (λ v. verdict (andThen v (wornCell (a .columns) (a .r)))) e
+    ∙ ap verdict (judge-ruled _ _ _ _ _ (c .before .before .if1 .left) (c .before .if2 .left) (c .if3 .left))
+
+wear-fault-requires : tie.Need-wear-fault-requires
+wear-fault-requires c κs = search needs
+
+of-matrix-requires-4 : tie.Need-of-matrix-requires-4
+of-matrix-requires-4 c κs = search needs
+
+returns-4 : tie.Need-returns-4
+returns-4 c =
+    let f = c .before .before in
+    ap refuses (c .of-matrix4 .ensures) ∙ amounted (f .before) _ (amount-unnamed _ _ _ _ (f .wear-fault .ensures) (c .before .if4 .taken))
+
 of-cell-requires : tie.Need-of-cell-requires
 of-cell-requires c κs = search needs
 
 returns-5 : tie.Need-returns-5
 returns-5 c =
-    let k = c .before in
-    let p = k .before .before .before in
-    ap refuses (c .of-cell .ensures)
-    ∙ ap verdict
-    (judge-by _ _ _ _ _ false false false true true _ (lt-leb _ _ (p .before .before .if1 .left)) (lt-leb _ _ (p .before .if2 .left)) (le-ltb _ _ (p .if3 .left)) (not-false _ (k .before .if4 .left))
-    (lt-ltb _ _ (k .if5 .taken)) refl)
-
--- 7, 8, 6 and 10 have passed: the cell by its widened bounds x
-cell : (c : tie.Else5) (x : Answer (ℕ × ℕ)) →
-    let a = c .before .before .before .before .before .before .args in
-    widenedOf (a .r .lower) (a .r .upper) (amountIn (a .amounts .now) (a .r .wear)) ≡ x
-    → verdict (cellFrom (a .columns) (a .r) x) ≡ verdict (judgeOf (a .amounts .now) (a .rows) (a .columns) (a .least) (a .r))
-cell c x e =
-    let p = c .before .before .before in
-    ap verdict (judge-cell _ _ _ _ _ x (p .before .before .if1 .left) (p .before .if2 .left) (p .if3 .left) (not-false _ (c .before .if4 .left)) (c .if5 .left) e)
-
-check-requires : tie.Need-check-requires
-check-requires c κs = search needs
-
-of-cell-requires-2 : tie.Need-of-cell-requires-2
-of-cell-requires-2 c κs = search needs
-
-returns-6 : tie.Need-returns-6
-unfolding widenedOf
-returns-6 c =
     let k = c .before .before in
-    let a = k .before .before .before .before .before .before .before .args in
-    ap refuses (c .of-cell2 .ensures) ∙ ap (λ (n : ℕ). refuses (ofCell n 0 (a .r .row) (a .r .column))) (k .check .ensures)
-    ∙ cell (k .before) _ (sym (passing-not _ _ (λ e. c .before .if6 .taken (k .check .ensures ∙ e))))
+    let f = k .before in
+    ap refuses (c .of-cell .ensures) ∙ amounted (f .before) _ (amount-named _ _ _ _ (f .wear-fault .ensures) (k .if4 .left) (c .before .if5 .taken))
 
--- 3 and 4 have passed
-fine : (c : tie.Else6) → let r = c .before .before .before .before .before .before .before .before .args .r in faultOf (r .lower) (r .upper) ≡ 0
-fine c = sym (c .before .check .ensures) ∙ c .if6 .left
+-- the wear has no fault
+fine : (c : tie.Else5) → let a = c .before .before .before .before .before .before .args in wearFault (a .kind) (a .r .wear) ≡ 0
+fine c = sym (c .before .before .wear-fault .ensures) ∙ c .if5 .left
 
-mul-check-widen : tie.Need-mul-check-widen
-mul-check-widen c = omega arith
+wear-amount-requires : tie.Need-wear-amount-requires
+wear-amount-requires c κs = fine c
 
-element-copy-out-check-widen : tie.Need-element-copy-out-check-widen
-element-copy-out-check-widen c = omega arith
-
-check-widen-requires : tie.Need-check-widen-requires
-check-widen-requires c κs = fine (c .before)
+check-worn-requires : tie.Need-check-worn-requires
+check-worn-requires c κs = search needs
 
 enum-told : tie.Need-enum-told
 enum-told c = search needs
@@ -140,25 +119,25 @@ enum-told c = search needs
 enum-known-x : tie.Need-enum-known-x
 enum-known-x c = search needs
 
--- by the answer o on 5
-judged : (c : tie.After-check-widen) (o : Outcome) → c .check-widen .result ≡ o →
-    let a = c .before .before .before .before .before .before .before .before .before .before .args in
-    placing (a .r .row) (a .r .column) (outcome o) ≡ verdict (judgeOf (a .amounts .now) (a .rows) (a .columns) (a .least) (a .r))
-unfolding widenedOf
-judged c o e =
-    let f = c .before .before in
-    let a = f .before .before .before .before .before .before .before .before .args in
-    ap (placing (a .r .row) (a .r .column)) (said outcome (c .check-widen .ensures) e) ∙ placing-is (a .columns) (a .r) (outwardOf (a .r .lower) (a .r .upper) (amountIn (a .amounts .now) (a .r .wear)))
-    ∙ cell (f .before .before) _ (sym (passing-on _ _ (fine f)))
+of-cell-requires-2 : tie.Need-of-cell-requires-2
+of-cell-requires-2 c κs = search needs
 
-of-cell-requires-3 : tie.Need-of-cell-requires-3
-of-cell-requires-3 c κs = search needs
+-- by the answer o on 3, 4 and 5
+worn : (c : tie.After-check-worn) (o : Outcome) → c .check-worn .result ≡ o →
+    let a = c .before .before .before .before .before .before .before .before .args in
+    placing (a .r .row) (a .r .column) (outcome o) ≡ verdict (judgeOf (cellAmount (a .kind) (a .amounts .now)) (a .rows) (a .columns) (a .least) (a .r))
+worn c o e =
+    let w = c .before in
+    let k = w .before in
+    let a = k .before .before .before .before .before .before .args in
+    ap (placing (a .r .row) (a .r .column)) (said outcome (c .check-worn .ensures) e) ∙ placing-is (a .columns) (a .r) (widenedOf (a .r .lower) (a .r .upper) _)
+    ∙ amounted (k .before .before .before) (gives _) (ap gives (w .wear-amount .ensures) ∙ amount-given _ _ _ (fine k))
+
+returns-6 : tie.Need-returns-6
+returns-6 c = worn (c .before .before) O.Done (c .enum-told .given .1)
 
 returns-7 : tie.Need-returns-7
-returns-7 c = judged (c .before .before) Done (c .enum-told .given .1)
-
-returns-8 : tie.Need-returns-8
-returns-8 c = ap refuses (c .of-cell3 .ensures) ∙ judged (c .before .before .before .before) (Refused _) (c .before .before .x .given .1)
+returns-7 c = ap refuses (c .of-cell2 .ensures) ∙ worn (c .before .before .before .before) (O.Refused _) (c .before .before .x .given .1)
 
 pub judge-spec : {M : Type 1} → statement M
 judge-spec =
@@ -172,20 +151,17 @@ judge-spec =
     add-position
     of-matrix-requires-3
     returns-3
-    of-matrix-requires-4
-    returns-4
     cast-i
     cast-j
+    wear-fault-requires
+    of-matrix-requires-4
+    returns-4
     of-cell-requires
     returns-5
-    check-requires
-    of-cell-requires-2
-    returns-6
-    mul-check-widen
-    element-copy-out-check-widen
-    check-widen-requires
+    wear-amount-requires
+    check-worn-requires
     enum-told
     enum-known-x
-    of-cell-requires-3
-    returns-7
-    returns-8)
+    of-cell-requires-2
+    returns-6
+    returns-7)

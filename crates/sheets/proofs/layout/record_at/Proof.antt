@@ -34,23 +34,17 @@ add-u32-at-2 c = search needs
 u32-at-requires-2 : tie.Need-u32-at-requires-2
 u32-at-requires-2 c κs = search needs
 
-add-byte-3 : tie.Need-add-byte-3
-add-byte-3 c = search needs
+add-u32-at-3 : tie.Need-add-u32-at-3
+add-u32-at-3 c = search needs
 
-byte-requires-3 : tie.Need-byte-requires-3
-byte-requires-3 c κs = search needs
-
-add-is-blank : tie.Need-add-is-blank
-add-is-blank c = search needs
-
-is-blank-requires : tie.Need-is-blank-requires
-is-blank-requires c κs = search needs
+u32-at-requires-3 : tie.Need-u32-at-requires-3
+u32-at-requires-3 c κs = search needs
 
 returns : tie.Need-returns
 returns c =
-    let u = c .before .before .before in
-    record-is _ _ _ _ _ _ _ _ _ (u .before .before .before .u16-at .ensures .0) (u .before .before .byte .ensures .0) (u .before .byte2 .ensures .0)
-    (u .u32-at .ensures) (c .before .before .u32-at2 .ensures) (c .before .byte3 .ensures .0) (c .is-blank .ensures)
+    let u = c .before .before in
+    record-is _ _ _ _ _ _ _ _ (u .before .before .before .u16-at .ensures .0) (u .before .before .byte .ensures .0) (u .before .byte2 .ensures .0)
+    (u .u32-at .ensures) (c .before .u32-at2 .ensures) (c .u32-at3 .ensures)
 
 pub record-at-spec : {M : Type 1} → statement M
 record-at-spec =
@@ -66,8 +60,6 @@ record-at-spec =
     u32-at-requires
     add-u32-at-2
     u32-at-requires-2
-    add-byte-3
-    byte-requires-3
-    add-is-blank
-    is-blank-requires
+    add-u32-at-3
+    u32-at-requires-3
     returns)

@@ -7,22 +7,25 @@ use borrow.Author.Needs.{needs}
 use Rattle.refusals.specs.Answer.{gives, refuses, done}
 use Rattle.refusals.proofs.SizeLaws.{small}
 use Rattle.sheets.specs.declared.chain.Step.{Step}
+use Rattle.sheets.specs.Amount.{wearFault, wearAmount, cellAmount}
+use Rattle.sheets.specs.Cell.{wornFault}
 use Rattle.sheets.specs.Chain.{stepped, visitOf, Walk, more, walk}
 use Rattle.sheets.specs.Reading.{putIn, cellLower, cellUpper}
+use Rattle.sheets.proofs.CellAmounts.{amount-given, amount-tells}
 use Rattle.sheets.proofs.Walking.{Passing, walk-passing, visit-passing, visit-position, walk-end, walk-turn}
 use Rattle.sheets.proofs.Putting.{put-none, put-more}
 use Rattle.sheets.proofs.matrix.fill.Statement.{statement}
 use Rattle.sheets.proofs.matrix.fill.Tie as tie
 
 abbrev Inv-loop : tie.InvT-loop
-Inv-loop amounts s rows columns first lowers₀ uppers₀ index₀ least₀ lowers uppers index least =
+Inv-loop kind amounts s rows columns first lowers₀ uppers₀ index₀ least₀ lowers uppers index least =
     (t : ℕ) × (rows * columns < t + least) × (least ≤ rows * columns) × (length lowers ≡ length lowers₀) × (length uppers ≡ length uppers₀)
-    × (walk amounts s rows columns t index least .verdict ≡ done)
-    × (putIn cellLower lowers (walk amounts s rows columns t index least .cells) ≡ putIn cellLower lowers₀ (walk amounts s rows columns (rows * columns + 1) first 0 .cells))
-    × (putIn cellUpper uppers (walk amounts s rows columns t index least .cells) ≡ putIn cellUpper uppers₀ (walk amounts s rows columns (rows * columns + 1) first 0 .cells))
+    × (walk (cellAmount kind amounts) s rows columns t index least .verdict ≡ done)
+    × (putIn cellLower lowers (walk (cellAmount kind amounts) s rows columns t index least .cells) ≡ putIn cellLower lowers₀ (walk (cellAmount kind amounts) s rows columns (rows * columns + 1) first 0 .cells))
+    × (putIn cellUpper uppers (walk (cellAmount kind amounts) s rows columns t index least .cells) ≡ putIn cellUpper uppers₀ (walk (cellAmount kind amounts) s rows columns (rows * columns + 1) first 0 .cells))
 
 abbrev μ-loop : tie.MeasureT-loop
-μ-loop amounts s rows columns first lowers₀ uppers₀ index₀ least₀ lowers uppers index least = rows * columns - least
+μ-loop kind amounts s rows columns first lowers₀ uppers₀ index₀ least₀ lowers uppers index least = rows * columns - least
 
 loop-holds : tie.Need-loop-holds Inv-loop μ-loop
 loop-holds c =
@@ -33,7 +36,7 @@ loop-holds c =
 passing : (c : tie.In-loop Inv-loop μ-loop) →
     let h = c .before in
     let a = h .before .before .before .before .args in
-    Passing (a .amounts .now) (a .s .now) (a .rows) (a .columns) (h .loop .index) (h .loop .least)
+    Passing (cellAmount (a .kind) (a .amounts .now)) (a .s .now) (a .rows) (a .columns) (h .loop .index) (h .loop .least)
 passing c =
     let h = c .before .loop in
     walk-passing _ _ _ _ (h .inv .0) (h .inv .0 - 1) (h .index) (h .least) (omega arith) (omega arith) (h .inv .5)
@@ -41,10 +44,21 @@ passing c =
 record-at-requires : tie.Need-record-at-requires Inv-loop μ-loop
 record-at-requires c κs = omega (arith, passing c .index)
 
+-- its wear and its bounds have no fault
+fine : (c : tie.After-record-at Inv-loop μ-loop) →
+    let a = c .before .before .before .before .before .before .args in
+    let r = c .record-at .result in
+    (wearFault (a .kind) (r .wear) ≡ 0) × (wornFault (r .lower) (r .upper) (wearAmount (a .kind) (a .amounts .now) (r .wear)) ≡ 0)
+fine c =
+    let p = passing (c .before) .passed in
+    let t = amount-tells _ _ _ _ (p .ruled) in
+    rw (c .record-at .ensures) (t .0, ap (wornFault _ _) (t .1) ∙ p .fine)
+
 passed-requires : tie.Need-passed-requires Inv-loop μ-loop
 passed-requires c κs =
     let p = passing (c .before) .passed in
-    rw (c .record-at .ensures) (omega arith, omega (arith, p .row), omega (arith, p .column), omega (arith, p .class), p .fine)
+    let e = c .record-at .ensures in
+    (omega arith, rw e (omega (arith, p .row)), rw e (omega (arith, p .column)), fine c .0, fine c .1)
 
 enum-known-c : tie.Need-enum-known-c Inv-loop μ-loop
 enum-known-c c = search needs
@@ -53,8 +67,10 @@ enum-known-c c = search needs
 visited : (c : tie.After-passed Inv-loop μ-loop) (v : Step) → c .passed .result ≡ v →
     let h = c .before .before .before in
     let a = h .before .before .before .before .args in
-    visitOf (a .amounts .now) (a .s .now) (a .rows) (a .columns) (h .loop .index) (h .loop .least) ≡ stepped v
-visited c v e = visit-passing _ _ _ _ _ _ _ _ (passing (c .before .before)) (c .before .record-at .ensures) (c .passed .ensures) ∙ ap stepped e
+    visitOf (cellAmount (a .kind) (a .amounts .now)) (a .s .now) (a .rows) (a .columns) (h .loop .index) (h .loop .least) ≡ stepped v
+visited c v e =
+    let k = c .before in
+    visit-passing _ _ _ _ _ _ _ _ _ (passing (k .before)) (k .record-at .ensures) (amount-given _ _ _ (fine k .0)) (c .passed .ensures) ∙ ap stepped e
 
 -- a turn that passes the cell x
 turned : (c : tie.After-known-told Inv-loop μ-loop) →
@@ -62,12 +78,12 @@ turned : (c : tie.After-known-told Inv-loop μ-loop) →
     let a = h .before .before .before .before .args in
     let x = c .before .c .given .0 .0 in
     (h .loop .least ≤ x .position) × (x .position < a .rows * a .columns) × (a .rows * a .columns ≤ 1024)
-    × (walk (a .amounts .now) (a .s .now) (a .rows) (a .columns) (h .loop .inv .0) (h .loop .index) (h .loop .least) ≡ more x (walk (a .amounts .now) (a .s .now) (a .rows) (a .columns) (h .loop .inv .0 - 1) (x .next) (x .position + 1)))
+    × (walk (cellAmount (a .kind) (a .amounts .now)) (a .s .now) (a .rows) (a .columns) (h .loop .inv .0) (h .loop .index) (h .loop .least) ≡ more x (walk (cellAmount (a .kind) (a .amounts .now)) (a .s .now) (a .rows) (a .columns) (h .loop .inv .0 - 1) (x .next) (x .position + 1)))
 turned c =
     let h = c .before .before .before .before .before .before in
     let a = h .before .before .before .before .args in
     let e = visited (c .before .before .before) _ (c .before .c .given .1) in
-    let j = visit-position (a .amounts .now) (a .s .now) (a .rows) (a .columns) (h .loop .index) (h .loop .least) _ e in
+    let j = visit-position (cellAmount (a .kind) (a .amounts .now)) (a .s .now) (a .rows) (a .columns) (h .loop .index) (h .loop .least) _ e in
     (j .0, j .1, small (a .rows) (a .columns) (omega arith) (omega arith), walk-turn _ _ _ _ (h .loop .inv .0) (h .loop .inv .0 - 1) _ _ (omega arith) (omega arith) (gives _) e)
 
 mul-lowers : tie.Need-mul-lowers Inv-loop μ-loop

@@ -5,33 +5,31 @@ use borrow.Author.Needs.{needs}
 use Rattle.refusals.specs.Answer.{refuses}
 use Rattle.refusals.proofs.Answers.{passing-on, said}
 use Rattle.refusals.proofs.SizeLaws.{small}
-use Rattle.intervals.specs.Conversion.{bounded}
+use Rattle.intervals.specs.Conversion.{bounded, outwardOf}
 use Rattle.intervals.specs.declared.Bounded.{Bounded}
-use Rattle.sheets.specs.Wear.{amountIn}
+use Rattle.sheets.specs.Amount.{wearAmount}
 use Rattle.sheets.specs.Cell.{widenedOf}
-use Rattle.sheets.specs.Chain.{cellFrom}
+use Rattle.sheets.specs.Chain.{cellFrom, wornCell}
+use Rattle.sheets.proofs.Bounding.{worn-tells}
 use Rattle.sheets.proofs.matrix.passed.Statement.{statement}
 use Rattle.sheets.proofs.matrix.passed.Tie as tie
 
-mul-widen : tie.Need-mul-widen
-mul-widen c = omega arith
-
-element-copy-out-widen : tie.Need-element-copy-out-widen
-element-copy-out-widen c = search needs
+wear-amount-requires : tie.Need-wear-amount-requires
+wear-amount-requires c κs = search needs
 
 widen-requires : tie.Need-widen-requires
-widen-requires c κs = search needs
+widen-requires c κs = worn-tells _ _ _ (c .before .pre .4) .1
 
 enum-known-a : tie.Need-enum-known-a
 enum-known-a c = search needs
 
-mul-t18 : tie.Need-mul-t18
-mul-t18 c =
+mul-t15 : tie.Need-mul-t15
+mul-t15 c =
     let a = c .before .before .before .before .before .args in
     omega (arith, small (a .r .row) (a .columns) (omega arith) (omega arith))
 
-add-t19 : tie.Need-add-t19
-add-t19 c =
+add-t16 : tie.Need-add-t16
+add-t16 c =
     let a = c .before .before .before .before .before .args in
     omega (arith, small (a .r .row) (a .columns) (omega arith) (omega arith))
 
@@ -50,9 +48,13 @@ of-cell-requires c κs = search needs
 -- the cell by its widened bounds v
 cell : (c : tie.After-widen) (v : Bounded) → c .widen .result ≡ v →
     let a = c .before .before .args in
-    cellFrom (a .columns) (a .r) (bounded v) ≡ cellFrom (a .columns) (a .r) (widenedOf (a .r .lower) (a .r .upper) (amountIn (a .amounts .now) (a .r .wear)))
+    cellFrom (a .columns) (a .r) (bounded v) ≡ wornCell (a .columns) (a .r) (wearAmount (a .kind) (a .amounts .now) (a .r .wear))
 unfolding widenedOf
-cell c v e = ap (cellFrom (c .before .before .args .columns) (c .before .before .args .r)) (said bounded (c .widen .ensures) e ∙ passing-on _ _ (c .before .before .pre .4))
+cell c v e =
+    let w = c .before in
+    let a = w .before .args in
+    ap (cellFrom (a .columns) (a .r))
+    (said bounded (c .widen .ensures) e ∙ ap (outwardOf (a .r .lower) (a .r .upper)) (w .wear-amount .ensures) ∙ passing-on _ _ (w .before .pre .4))
 
 returns : tie.Need-returns
 returns c = cell (c .before .before .before) _ (c .before .a .given .1)
@@ -64,12 +66,11 @@ pub passed-spec : {M : Type 1} → statement M
 passed-spec =
     tie.close
     (tie.spec
-    mul-widen
-    element-copy-out-widen
+    wear-amount-requires
     widen-requires
     enum-known-a
-    mul-t18
-    add-t19
+    mul-t15
+    add-t16
     enum-known-x
     cast-i
     cast-j

@@ -41,14 +41,24 @@ mul-clear-2 c = omega (arith, few (c .before .before .before .before))
 clear-requires-2 : tie.Need-clear-requires-2
 clear-requires-2 c κs = search needs
 
+byte-requires : tie.Need-byte-requires
+byte-requires c κs = let g = framed-tells _ (accepted (c .before .before .before .before .before .before .before .before) .frame) in omega arith
+
 u16-at-requires : tie.Need-u16-at-requires
-u16-at-requires c κs = let g = framed-tells _ (accepted (c .before .before .before .before .before .before .before .before) .frame) in omega arith
+u16-at-requires c κs = let g = framed-tells _ (accepted (c .before .before .before .before .before .before .before .before .before) .frame) in omega arith
 
 fill-requires : tie.Need-fill-requires
 fill-requires c κs =
-    let a = accepted (c .before .before .before .before .before .before .before .before .before .before .before) in
-    let z = a .sized in
-    (z .rows, z .columns, framed-tells _ (a .frame) .1, omega arith, omega arith, ap (λ (w : Walk). w .verdict) (accepted-walk _ _ _ _ _ _ _ a (c .before .before .u16-at .ensures .0)) ∙ a .passed)
+    let i = c .before .before in
+    let a = accepted (i .before .before .before .before .before .before .before .before .before .before) in
+    let z = a .sized in (
+      z .rows,
+      z .columns,
+      framed-tells _ (a .frame) .1,
+      omega arith,
+      omega arith,
+      ap (λ (w : Walk). w .verdict) (accepted-walk _ _ _ _ _ _ _ _ a (i .before .byte .ensures .0) (i .u16-at .ensures .0)) ∙ a .passed,
+    )
 
 enum-known-r : tie.Need-enum-known-r
 enum-known-r c = search needs
@@ -63,14 +73,15 @@ returns : tie.Need-returns
 returns c =
     let f = c .before .before .before .before in
     let i = f .before .before .before in
-    let u = i .before .before .before in
+    let u = i .before .before .before .before in
     let l = u .before .before .before .before in
     let r = l .before .before .before in
-    let a = accepted (l .before .before) in (
+    let a = accepted (l .before .before) in
+    let k = i .before .byte .ensures .0 in (
       said shape (r .before .before .check .ensures) (r .rows .given .1),
       (
-        slice-done _ cellLower _ _ _ _ _ _ _ _ _ a (i .u16-at .ensures .0) (a .sized .lowers) (l .clear .ensures) (f .fill .ensures .0),
-        slice-done _ cellUpper _ _ _ _ _ _ _ _ _ a (i .u16-at .ensures .0) (a .sized .uppers) (u .clear2 .ensures) (f .fill .ensures .1),
+        slice-done _ cellLower _ _ _ _ _ _ _ _ _ _ a k (i .u16-at .ensures .0) (a .sized .lowers) (l .clear .ensures) (f .fill .ensures .0),
+        slice-done _ cellUpper _ _ _ _ _ _ _ _ _ _ a k (i .u16-at .ensures .0) (a .sized .uppers) (u .clear2 .ensures) (f .fill .ensures .1),
       ),
     )
 
@@ -87,6 +98,7 @@ read-spec =
     clear-requires
     mul-clear-2
     clear-requires-2
+    byte-requires
     u16-at-requires
     fill-requires
     enum-known-r
