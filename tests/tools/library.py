@@ -7,6 +7,11 @@ from support import KINDS
 from sheet_bytes import MOST_BYTES, MOST_CELLS, Sheet, encode
 
 
+def code_of(refused):
+    """What the library returns for a refusal that the tool raised; a sheet or a load that is read alone has matrix 0."""
+    return 1000000 * refused.number + 100 * refused.row + refused.column
+
+
 class Library:
     def __init__(self, path):
         library = ctypes.CDLL(os.path.abspath(path))

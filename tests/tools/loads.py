@@ -5,7 +5,7 @@ import sys
 
 from support import KINDS, ok
 from draws import check_damaged_texts, random_pattern, random_sheet
-from library import Library
+from library import Library, code_of
 import binary32
 from amounts_bytes import LOAD_BYTES, decode_amounts, encode_amounts
 from amounts_text import read_amounts, text_of_amounts
@@ -57,7 +57,7 @@ def converted(data, amounts):
     try:
         return 0, encode(with_amounts(decode(data, amounts), amounts))
     except Refused as refused:
-        return 1000000 * refused.number + 100 * refused.row + refused.column, None
+        return code_of(refused), None
 
 
 def test_convert(library, draw, count):

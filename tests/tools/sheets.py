@@ -6,7 +6,7 @@ import tempfile
 
 from support import KINDS, in_file, ok, tool
 from draws import check_damaged_texts, random_sheet
-from library import Library
+from library import Library, code_of
 from sheet_bytes import AMOUNT_SHEET, Cell, Refused, decode, encode
 from sheet_text import KIND_WORDS, read_sheet, text_of
 
@@ -44,7 +44,7 @@ def code_told(data):
     try:
         decode(data)
     except Refused as refused:
-        return 1000000 * refused.number + 100 * refused.row + refused.column
+        return code_of(refused)
     return 0
 
 

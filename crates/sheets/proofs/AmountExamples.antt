@@ -49,7 +49,7 @@ eighth = refl
 
 -- the greatest amount below zero, beside a bound that is no number: 14 before 3
 negative : readOf (cellSheet 1 0x7FC00000 0x3F800000 0x80000001) 1 1 ≡ refuses (ofCell 14 0 0 0)
-unfolding u16At u32At allFrom blank recordOf whole framed checkSize checkLengths checkFit belowZero wearFault wearAmount cellAmount judgeOf visitOf walk chainOf readOf recordBytes valueOf val
+unfolding u16At u32At allFrom blank recordOf whole framed checkSize checkLengths checkFit faultOf belowZero wearFault wearAmount cellAmount wornFault widenedOf judgeOf visitOf walk chainOf readOf recordBytes valueOf val
 negative = refl
 
 -- minus infinity, beside bounds in the wrong order: 3, and before 4
