@@ -1,6 +1,6 @@
 /* Interval matrices in binary32, rounded in software, for C and C++: products of
-   coupling sheets, sheets read and written, products of matrices, and the single
-   operations.
+   coupling sheets, sheets read and written, products of matrices, one entry of a
+   product taken pair by pair, and the single operations.
 
    Proved of the library (crates/coupling), for all arguments: what each call
    returns, what it leaves in lent memory, and that ranges enclose. Not proved: this
@@ -18,13 +18,14 @@
    3 for the result and 0 for none; in a train it is the sheet's position, 1 to 8,
    or 9 for a product or the writing. Row and column count from 0. They are the
    place of a cell for 3, 4, 5, 10 and 14, but 0 where 3 is about a load, and 0 for
-   the other numbers. The first refusal in the order that is given for each call is
-   returned. Single operations return one number alone, and have a form of their
-   own below.
+   the other numbers. The running entry and the conversions name no place: all three
+   are 0. The first refusal in the order that is given for each call is returned.
+   Single operations return one number alone, and have a form of their own below.
 
    Lent memory: a refusal leaves all of it as it was, but for number 5 of
-   coupling_product. What lies beyond the cells or bytes that a call writes stays
-   as it was, so longer arrays are welcome. What is passed as const is only read.
+   coupling_product. What lies beyond the cells, words or bytes that a call writes
+   stays as it was, so longer arrays are welcome. What is passed as const is only
+   read.
 
    Pointers: each is valid for its length and aligned for its type, and none is
    kept. What is passed for writing overlaps nothing else that is passed; what is
@@ -50,11 +51,19 @@
 #define COUPLING_SHEET_MAX 16400 /* bytes of the longest sheet; a buffer of this length is never too short */
 #define COUPLING_SHEETS_MAX 8    /* sheets of the longest train */
 #define COUPLING_LOAD_BYTES 32   /* bytes of a load of eight wear amounts */
+#define COUPLING_PAIRS_MAX 32    /* pairs that a running entry takes */
 #define COUPLING_STACK 65536     /* bytes of stack that are enough for a call */
 
 /* The kind of a sheet, byte 6 of its head. */
 #define COUPLING_KIND_CLASS 0    /* a class sheet: each cell has a wear class */
 #define COUPLING_KIND_AMOUNT 1   /* an amount sheet: each cell has a wear amount */
+
+/* The words of a running entry: how many there are, and which is which. */
+#define COUPLING_RUNNING_WORDS 11
+#define COUPLING_RUNNING_LOWER 0   /* the lower bound so far, a pattern */
+#define COUPLING_RUNNING_UPPER 1   /* the upper bound so far */
+#define COUPLING_RUNNING_PAIRS 2   /* how many pairs were taken */
+#define COUPLING_RUNNING_AMOUNTS 3 /* class 0's wear amount, a pattern; class c's is c words further on */
 
 /* The numbers of the refusals; coupling_sentences.h has a sentence for each. */
 #define COUPLING_SIZE 1
@@ -218,6 +227,52 @@ uint32_t coupling_product(uint32_t method, size_t a_rows, size_t a_columns, size
                           uint32_t *a_mids, size_t a_mids_len, uint32_t *a_rads, size_t a_rads_len,
                           uint32_t *b_mids, size_t b_mids_len, uint32_t *b_rads, size_t b_rads_len,
                           uint32_t *lowers, size_t lowers_len, uint32_t *uppers, size_t uppers_len);
+
+/* ---- The running entry ----
+
+   One entry of a product by method 1 while its linkages are gauged: pairs of cells,
+   one of a row of A and its partner in a column of B, are taken one after another,
+   and after each the range so far can be read. The value is an array of
+   COUPLING_RUNNING_WORDS numbers, which the caller keeps and lends to each call; the
+   macros above say which word is which. A copy of it is a running entry of its own.
+   Each refusal has matrix, row and column 0 and leaves all words as they were.
+
+   Starts a running entry: the range [0, 0], no pairs, and the wear amounts that the
+   classes have in coupling_read. Returns 0, or 2 where value_len is below
+   COUPLING_RUNNING_WORDS. */
+uint32_t coupling_running_start(uint32_t *value, size_t value_len);
+
+/* Takes a pair of cells, each given by its bounds and its wear class. A cell is
+   widened as in a sheet, by the amount that is in force for its class. Returns 0, or
+   the first of:
+     2            value_len is below COUPLING_RUNNING_WORDS
+     1            COUPLING_PAIRS_MAX pairs were taken already
+     10, 3, 4, 5  the first cell: its class is above 7, a bound has exponent field
+                  255, the lower bound is above the upper, widened it is too large
+     10, 3, 4, 5  the second cell, likewise
+     5            a step of method 1 is too large for binary32
+   For a value that these calls carried on from its start, lower and upper bound are
+   the entry over all pairs taken so far, each widened by the amounts that were in
+   force when it was taken: the patterns that coupling_product gives by method 1 for
+   the row of the first cells and the column of the second ones, as widened. The range
+   encloses: whatever numbers are picked, one from each widened cell, the sum of the
+   products lies in it.
+
+   Other words are answered by the same rules on what stands in them, and nothing
+   else is checked: 32 pairs or more give 1; an amount with exponent field 255 gives
+   3 with the cell that uses it; an amount below zero moves bounds inward, and a cell
+   that is crossed by that gives 4 once both cells have passed; after that a bound so
+   far with exponent field 255 gives 3. */
+uint32_t coupling_running_take(uint32_t *value, size_t value_len, uint32_t a_lower, uint32_t a_upper, uint32_t a_class,
+                               uint32_t b_lower, uint32_t b_upper, uint32_t b_class);
+
+/* Exchanges the wear amounts for eight of the caller's own, loaded as for
+   coupling_read_with. They hold for the pairs that follow, until the next exchange;
+   pairs that were taken before keep theirs, and range and number of pairs stay as
+   they are. Returns 0, or the first of:
+     2            value_len is below COUPLING_RUNNING_WORDS
+     6, 3, 13     the load, as coupling_read_with refuses it */
+uint32_t coupling_running_amounts(uint32_t *value, size_t value_len, const uint8_t *amounts, size_t amounts_len);
 
 /* ---- Operations ----
 

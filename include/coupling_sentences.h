@@ -9,8 +9,8 @@
 static inline const char *coupling_sentence(uint32_t number)
 {
     switch (number) {
-    case 1: return "a size is not from 1 to 32, or the left factor's columns are not the right one's rows";
-    case 2: return "a slice is shorter than its cells";
+    case 1: return "a size is not from 1 to 32, the left factor's columns are not the right one's rows, or 32 pairs are taken already";
+    case 2: return "a slice is shorter than its cells or than a running entry";
     case 3: return "a bound or a wear amount is not a finite number";
     case 4: return "a lower bound is above the upper bound";
     case 5: return "a result is too large for binary32";

@@ -20,8 +20,8 @@ HEAD_FORM = struct.Struct("<HBBHB9x")
 CELL_FORM = struct.Struct("<HBBIII")
 
 SENTENCES = {
-    1: "a size is not from 1 to 32, or the left factor's columns are not the right one's rows",
-    2: "a slice is shorter than its cells",
+    1: "a size is not from 1 to 32, the left factor's columns are not the right one's rows, or 32 pairs are taken already",
+    2: "a slice is shorter than its cells or than a running entry",
     3: "a bound or a wear amount is not a finite number",
     4: "a lower bound is above the upper bound",
     5: "a result is too large for binary32",

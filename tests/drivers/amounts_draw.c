@@ -10,9 +10,9 @@
 
 enum { AMOUNTS = 8, LENGTH = 32 };
 
-/* Numbers of one kind, none below the one before it. Some are equal; now and then the last
-   ones are MAX. */
-static void draw_ascending(uint32_t *amounts)
+/* Numbers of one kind, none below the one before it. Some are equal. Unless they have to be
+   moderate, the last ones are now and then MAX. */
+static void draw_ascending(uint32_t *amounts, bool moderate)
 {
     static const struct kind kinds[] = {
         {110, 124},     /* small, as the fixed amounts are */
@@ -20,8 +20,8 @@ static void draw_ascending(uint32_t *amounts)
         {0, 254},       /* of every size */
         {230, 254},     /* large */
     };
-    struct kind kind = kinds[from_to(0, 3)];
-    int first_largest = one_in(3) ? from_to(1, AMOUNTS - 1) : AMOUNTS;
+    struct kind kind = kinds[from_to(0, moderate ? 1 : 3)];
+    int first_largest = one_in(3) && !moderate ? from_to(1, AMOUNTS - 1) : AMOUNTS;
     for (int i = 0; i < AMOUNTS; i++) {
         uint32_t field = (uint32_t)from_to(kind.least, kind.greatest), next = field << 23 | draw_fraction();
         int at = i;
@@ -50,15 +50,17 @@ static void put_fixed(uint32_t *amounts)
 }
 
 /* Amounts without fault. The first is a zero, and some others may be; of either sign. */
-static void draw_valid(uint32_t *amounts)
+static void draw_valid(uint32_t *amounts, bool moderate)
 {
     int zeros = one_in(4) ? from_to(1, AMOUNTS) : 1;
     bool either_sign = one_in(2);
-    switch (from_to(0, 7)) {
-    case 0:  put_fixed(amounts); break;
-    case 1:  draw_neighbours(amounts); break;
-    default: draw_ascending(amounts); break;
-    }
+    int which = from_to(0, 7);
+    if (which == 0)
+        put_fixed(amounts);
+    else if (which == 1 && !moderate)
+        draw_neighbours(amounts);
+    else
+        draw_ascending(amounts, moderate);
     for (int i = 0; i < zeros; i++)
         amounts[i] = either_sign ? draw_sign(0) : 0;
 }
@@ -103,15 +105,28 @@ static size_t draw_other_length(void)
     }
 }
 
+static void put_load(uint8_t *load, const uint32_t *amounts)
+{
+    for (int i = 0; i < AMOUNTS; i++)
+        put_number(load + 4 * i, amounts[i], 4);
+}
+
+size_t draw_moderate_load(uint8_t *load)
+{
+    uint32_t amounts[AMOUNTS];
+    draw_valid(amounts, true);
+    put_load(load, amounts);
+    return LENGTH;
+}
+
 size_t draw_load(uint8_t *load)
 {
     uint32_t amounts[AMOUNTS];
     int faults = one_in(8) ? 2 : one_in(3) ? 1 : 0;
-    draw_valid(amounts);
+    draw_valid(amounts, false);
     for (int i = 0; i < faults; i++)
         damage_amount(amounts);
-    for (int i = 0; i < AMOUNTS; i++)
-        put_number(load + 4 * i, amounts[i], 4);
+    put_load(load, amounts);
     if (one_in(30))
         for (int i = one_in(2) ? 0 : 4; i < LENGTH; i++)
             load[i] = (uint8_t)any_bits();

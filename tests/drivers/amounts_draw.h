@@ -11,4 +11,7 @@
    another length, or random bytes. */
 size_t draw_load(uint8_t *load);
 
+/* A valid load whose amounts are below 1/4. */
+size_t draw_moderate_load(uint8_t *load);
+
 #endif

@@ -3,6 +3,7 @@
 
 #include "draw.h"
 #include "numbers.h"
+#include "oracle.h"
 
 void draw_kinds(struct kind *a, struct kind *b)
 {
@@ -82,4 +83,18 @@ void draw_crossed(struct kind kind, uint32_t *lower, uint32_t *upper)
     do
         draw_cell(kind, upper, lower);
     while (*lower == *upper || ((*lower | *upper) & ~SIGN) == 0);
+}
+
+/* MAX less the amount, or a number next to it. */
+bool draw_limit(uint32_t amount, uint32_t *lower, uint32_t *upper)
+{
+    uint32_t limit;
+    int which = from_to(0, 2), step = from_to(-1, 1);
+    if (oracle_operate(SUB, NEAR, MAX, amount, &limit) != 0)
+        return false;
+    if (step < 0 ? limit > 0 : limit < MAX)
+        limit += (uint32_t)step;
+    *lower = which == 0 ? 0 : SIGN | limit;
+    *upper = which == 1 ? 0 : limit;
+    return true;
 }

@@ -2,6 +2,7 @@
 #ifndef CELLS_H
 #define CELLS_H
 
+#include <stdbool.h>
 #include <stdint.h>
 
 /* The kind of the numbers of a matrix: a range of exponent fields. */
@@ -20,5 +21,10 @@ void draw_cell(struct kind kind, uint32_t *lower, uint32_t *upper);
    upper one. */
 void draw_infinite(struct kind kind, uint32_t *lower, uint32_t *upper);
 void draw_crossed(struct kind kind, uint32_t *lower, uint32_t *upper);
+
+/* Bounds that are the largest number or next to it, or just too large, when they are widened
+   by this amount; one of them may be zero. False, and no bounds, where an amount that is not
+   finite or below zero gives no such number. */
+bool draw_limit(uint32_t amount, uint32_t *lower, uint32_t *upper);
 
 #endif

@@ -4,7 +4,6 @@
 #include "cells.h"
 #include "draw.h"
 #include "numbers.h"
-#include "oracle.h"
 #include "records.h"
 #include "wear_draw.h"
 
@@ -125,17 +124,11 @@ void put_large(uint8_t *sheet)
     put_number(record + (bound & SIGN ? 4 : 8), bound, 4);
 }
 
-/* One bound or both, MAX less the amount or a number next to it; the other one is zero.
-   Nothing where an amount that is not finite or below zero gives no such number. */
 void put_limit(uint8_t *sheet, const uint8_t *load)
 {
     uint8_t *record = draw_record(sheet), *wear = record + WEAR_BYTE;
     const uint8_t *amount = sheet[KIND_BYTE] == CLASS_SHEET ? load + 4 * *wear : wear;
-    uint32_t limit, pattern = index_in(amount) | index_in(amount + 2) << 16;
-    int which = from_to(0, 2), step = from_to(-1, 1);
-    if (oracle_operate(SUB, NEAR, MAX, pattern, &limit) != 0)
-        return;
-    if (step < 0 ? limit > 0 : limit < MAX)
-        limit += (uint32_t)step;
-    put_bounds(record, which == 0 ? 0 : SIGN | limit, which == 1 ? 0 : limit);
+    uint32_t lower, upper;
+    if (draw_limit(index_in(amount) | index_in(amount + 2) << 16, &lower, &upper))
+        put_bounds(record, lower, upper);
 }

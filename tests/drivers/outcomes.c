@@ -121,6 +121,8 @@ void print_summary(const struct table *table)
     printf("; %d refusals, each met %lu times or more", refusals, calls);
     if (table->by != NULL)
         printf(" by each %s", table->by);
-    if (places < PLACES * PLACES)
+    if (places < PLACES * PLACES && table->places != NULL)
+        printf(" and at %d %s or more", places, table->places);
+    else if (places < PLACES * PLACES)
         printf(", those of a cell at %d places or more", places);
 }

@@ -1,6 +1,6 @@
 /* Test drivers, not proved: a table of the outcomes of the calls of a run: for each
    refusal, how often it occurred by each function, method or kind of sheet, and at how many
-   places (row and column) at least by each. */
+   places (row and column; of a running entry, the number of pairs) at least by each. */
 #ifndef OUTCOMES_H
 #define OUTCOMES_H
 
@@ -16,7 +16,7 @@
 struct outcome {
     uint32_t number, matrix;
     unsigned met_by;            /* a bit for each column in which it can occur */
-    bool placed;                /* whether it names a row and a column */
+    bool placed;                /* whether it has a place, as a row and a column */
     unsigned long calls[COLUMNS];
     unsigned at[PLACES][PLACES];    /* a bit for each column in which it occurred there */
 };
@@ -25,13 +25,14 @@ struct table {
     const char *const *columns;         /* their names, then NULL */
     const char *by;                     /* what a column is, such as "method", or NULL */
     unsigned long least;                /* required calls with each outcome in each of its columns */
-    int least_places;                   /* required places of each refusal that names a cell, likewise */
+    int least_places;                   /* required places of each outcome that has one, likewise */
+    const char *places;                 /* what places are, or NULL where they are those of cells */
     struct outcome *outcomes;
     size_t count;
     unsigned long strange;              /* calls with an outcome that is not in the table */
 };
 
-/* Counts a call by its column, from 0, and the code of its refusal, or 0. */
+/* Counts a call by its column, from 0, and the code of its refusal, or 0, with its place. */
 void count_outcome(struct table *table, int column, uint32_t code);
 
 void print_table(const struct table *table);

@@ -52,12 +52,19 @@ uint32_t left(uint32_t r);
    the same and return the same, which is returned. */
 uint32_t read_alike(const uint8_t *load, const uint8_t *sheet, size_t length, size_t lowers_len, size_t uppers_len);
 
+/* A cell as it is handed to a running entry, with its wear class. */
+struct gauged {
+    uint32_t lower, upper, wear;
+};
+
 void test_job(void);
 void test_train(void);
 void test_sheets(void);
 void test_amounts(void);
 void test_kinds(void);
 void test_product(void);
+void test_running(void);
+void test_gauging(void);
 void test_operations(void);
 void test_conversions(void);
 void test_surroundings(void);

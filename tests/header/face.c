@@ -97,6 +97,7 @@ static void test_macros(void)
         CHECK(strcmp(coupling_sentence(n), coupling_sentence(0)) != 0);
     CHECK(COUPLING_AMOUNTS == 13 && COUPLING_BELOW_ZERO == 14 && strcmp(coupling_sentence(15), coupling_sentence(0)) == 0);
     CHECK(COUPLING_LOAD_BYTES == 8 * sizeof(uint32_t) && COUPLING_KIND_CLASS == 0 && COUPLING_KIND_AMOUNT == 1);
+    CHECK(COUPLING_RUNNING_AMOUNTS + 8 == COUPLING_RUNNING_WORDS && COUPLING_PAIRS_MAX == COUPLING_SIZE_MAX);
 }
 
 int main(void)
@@ -108,9 +109,11 @@ int main(void)
     test_amounts();
     test_kinds();
     test_product();
+    test_running();
+    test_gauging();
     test_operations();
     test_conversions();
     test_surroundings();
-    printf("20 functions: macros, each refusal, zero lengths, guards, two threads, floating-point environment\n");
+    printf("23 functions: macros, each refusal, zero lengths, guards, two threads, floating-point environment\n");
     return 0;
 }

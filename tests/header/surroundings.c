@@ -24,6 +24,7 @@ struct answers {
     uint32_t read, read_with, write, multiply[METHODS], train[METHODS], product[METHODS], operations[12], to_midrad, to_bounds, words[4];
     uint8_t sheet[COUPLING_SHEET_MAX], out[METHODS][COUPLING_SHEET_MAX], last[METHODS][COUPLING_SHEET_MAX];
     uint32_t lowers[CELLS], uppers[CELLS], worn_lowers[CELLS], worn_uppers[CELLS], lent[METHODS][6][CELLS];
+    uint32_t start, exchange, take[COUPLING_PAIRS_MAX], value[COUPLING_RUNNING_WORDS];
 };
 
 static void multiply_all(struct answers *x)
@@ -34,6 +35,17 @@ static void multiply_all(struct answers *x)
         x->train[i] = coupling_train(methods[i], COUPLING_SHEETS_MAX, sheets[0], sizeof sheets, x->last[i], sizeof x->last[i]);
         x->product[i] = coupling_product(methods[i], SIZE, SIZE, SIZE, SIZE, low, CELLS, high, CELLS, low, CELLS, high, CELLS,
                                          lent[0], CELLS, lent[1], CELLS, lent[2], CELLS, lent[3], CELLS, lent[4], CELLS, lent[5], CELLS);
+    }
+}
+
+/* The first cells of the full sheet by themselves; the load comes after half of them. */
+static void run_all(struct answers *x)
+{
+    x->start = coupling_running_start(x->value, COUPLING_RUNNING_WORDS);
+    for (uint32_t i = 0; i < COUPLING_PAIRS_MAX; i++) {
+        if (i == COUPLING_PAIRS_MAX / 2)
+            x->exchange = coupling_running_amounts(x->value, COUPLING_RUNNING_WORDS, load, sizeof load);
+        x->take[i] = coupling_running_take(x->value, COUPLING_RUNNING_WORDS, low[i], high[i], i % 8, low[i], high[i], 7 - i % 8);
     }
 }
 
@@ -53,6 +65,7 @@ static void call_all(struct answers *x)
     x->to_midrad = coupling_to_midrad(b, a, &x->words[0], &x->words[1]);
     x->to_bounds = coupling_to_bounds(b, a, &x->words[2], &x->words[3]);
     multiply_all(x);
+    run_all(x);
 }
 
 /* First in one thread and the mode to nearest: nothing is refused. */
@@ -67,6 +80,9 @@ static void call_first(void)
     call_all(&first);
     CHECK(first.read == 100 * SIZE + SIZE && first.read_with == first.read && first.write == sizeof full);
     CHECK(first.to_midrad == 0 && first.to_bounds == 0);
+    CHECK(first.start == 0 && first.exchange == 0 && first.value[COUPLING_RUNNING_PAIRS] == COUPLING_PAIRS_MAX);
+    for (int i = 0; i < COUPLING_PAIRS_MAX; i++)
+        CHECK(first.take[i] == 0);
     for (int i = 0; i < METHODS; i++)
         CHECK(first.multiply[i] == sizeof full && first.train[i] == sizeof full && first.product[i] == 0);
     for (int i = 0; i < 12; i++)

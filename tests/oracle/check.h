@@ -21,6 +21,10 @@
 #define INFINITY_PATTERN 0x7F800000u
 #define NAN_PATTERN 0x7FC00000u
 
+/* A cell as it is gauged, and one with a single number and class 0. */
+#define CELL(lower, upper, wear_class) ((struct gauged){lower, upper, wear_class})
+#define POINT(number) CELL(number, number, 0)
+
 /* Counts a check; prints file and line where it fails. */
 void check(bool holds, const char *condition, const char *file, int line);
 
@@ -44,6 +48,8 @@ void check_plain_form(void);
 void check_writing(void);
 void check_job(void);
 void check_train(void);
+void check_running(void);
+void check_any_value(void);
 void check_print(void);
 
 #endif

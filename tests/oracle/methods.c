@@ -24,23 +24,27 @@ static uint32_t greater(uint32_t a, uint32_t b)
     return value_of(b) > value_of(a) ? b : a;
 }
 
-/* Method 1. Each of the four corner products is rounded down and up. */
+/* Each of the four corner products is rounded down and up. */
+void add_classical(struct entry *sums, const struct pair *pair)
+{
+    const uint32_t a[4] = {pair->a_lo, pair->a_lo, pair->a_hi, pair->a_hi};
+    const uint32_t b[4] = {pair->b_lo, pair->b_hi, pair->b_lo, pair->b_hi};
+    uint32_t least = step(&sums->refused, MUL, DOWN, a[0], b[0]);
+    uint32_t greatest = step(&sums->refused, MUL, UP, a[0], b[0]);
+    for (int corner = 1; corner < 4; corner++) {
+        least = lesser(least, step(&sums->refused, MUL, DOWN, a[corner], b[corner]));
+        greatest = greater(greatest, step(&sums->refused, MUL, UP, a[corner], b[corner]));
+    }
+    sums->lo = step(&sums->refused, ADD, DOWN, sums->lo, least);
+    sums->hi = step(&sums->refused, ADD, UP, sums->hi, greatest);
+}
+
+/* Method 1. */
 static struct entry classical(const struct pair *pairs, size_t k)
 {
     struct entry e = {0, 0, false};
-    for (size_t l = 0; l < k; l++) {
-        const struct pair *p = &pairs[l];
-        const uint32_t a[4] = {p->a_lo, p->a_lo, p->a_hi, p->a_hi};
-        const uint32_t b[4] = {p->b_lo, p->b_hi, p->b_lo, p->b_hi};
-        uint32_t least = step(&e.refused, MUL, DOWN, a[0], b[0]);
-        uint32_t greatest = step(&e.refused, MUL, UP, a[0], b[0]);
-        for (int corner = 1; corner < 4; corner++) {
-            least = lesser(least, step(&e.refused, MUL, DOWN, a[corner], b[corner]));
-            greatest = greater(greatest, step(&e.refused, MUL, UP, a[corner], b[corner]));
-        }
-        e.lo = step(&e.refused, ADD, DOWN, e.lo, least);
-        e.hi = step(&e.refused, ADD, UP, e.hi, greatest);
-    }
+    for (size_t l = 0; l < k; l++)
+        add_classical(&e, &pairs[l]);
     return e;
 }
 

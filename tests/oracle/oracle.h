@@ -101,6 +101,39 @@ uint32_t oracle_job(uint32_t method, const uint8_t *a, size_t a_len,
 uint32_t oracle_train(uint32_t method, uint32_t count, const uint8_t *sheets, size_t len,
                       uint8_t *out, size_t out_len);
 
+#define RUNNING_WORDS 11    /* numbers of a running entry's value */
+
+/* A cell as it is gauged: its bounds and its wear class, which may be any number. */
+struct gauged { uint32_t lower, upper, wear_class; };
+
+/* The check of such a cell, where `amounts` has an amount for each class. Returns 0, or 10, 3,
+   4 or 5; on 0, gives the bounds, widened. */
+uint32_t oracle_gauge(const uint32_t *amounts, struct gauged cell, uint32_t *lo, uint32_t *hi);
+
+/* A running entry with its history: the cells of all pairs taken, each as it was widened then,
+   the classical entry over them, and the amounts in force. */
+struct running {
+    size_t pairs;
+    uint32_t a_lo[32], a_hi[32], b_lo[32], b_hi[32];
+    uint32_t lo, hi, amounts[8];
+};
+
+/* The running entry: begins, takes a pair of cells, exchanges the amounts for those of a load.
+   The entry is worked out afresh from all pairs, each time that one is taken, and written into
+   the value: lower bound, upper bound, number of pairs, the eight amounts. Returns 0, or
+   1,000,000 times the number of the refusal. A value shorter than RUNNING_WORDS (2) is not
+   touched. */
+uint32_t oracle_running_start(struct running *running, uint32_t *value, size_t len);
+uint32_t oracle_running_take(struct running *running, uint32_t *value, size_t len,
+                             struct gauged a, struct gauged b);
+uint32_t oracle_running_amounts(struct running *running, uint32_t *value, size_t len,
+                                const uint8_t *load, size_t load_len);
+
+/* The same by one step from the words of the value, whatever they are. */
+uint32_t oracle_value_start(uint32_t *value, size_t len);
+uint32_t oracle_value_take(uint32_t *value, size_t len, struct gauged a, struct gauged b);
+uint32_t oracle_value_amounts(uint32_t *value, size_t len, const uint8_t *load, size_t load_len);
+
 /* The output of the program print_product for this standard input. Returns the length of
    the whole text and puts as much of it into text as there is room for. */
 size_t oracle_print(const uint8_t *input, size_t len, char *text, size_t room);

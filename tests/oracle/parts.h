@@ -48,6 +48,9 @@ struct entry entry_by_method(uint32_t method, const struct pair *pairs, size_t k
 uint32_t step(bool *refused, enum operation operation, enum direction direction, uint32_t a, uint32_t b);
 uint32_t lesser(uint32_t a, uint32_t b);
 
+/* methods.c: a step of method 1, which adds a pair to the sums; a refused one marks them */
+void add_classical(struct entry *sums, const struct pair *pair);
+
 /* methods_midrad.c and method_five.c */
 struct entry three_products(const struct pair *pairs, size_t k);
 struct entry four_products(const struct pair *pairs, size_t k);
@@ -61,12 +64,18 @@ uint32_t add_product(bool *refused, enum direction direction, uint32_t sum, uint
 uint32_t part(uint32_t m, uint32_t r);
 uint32_t centre_with_parts(bool *refused, enum direction direction, const struct pair *pairs, size_t k);
 
-/* amounts.c: the amount of a wear class in a load that has 32 bytes */
-uint32_t amount_of(const uint8_t *load, size_t wear_class);
+/* amounts.c: the patterns of the fixed wear amounts, 0 for class 0 and 2^(c - 11) for class c;
+   those of a load, given where its check returns 0 */
+extern const uint32_t fixed_amounts[CLASSES];
+uint32_t load_amounts(const uint8_t *load, size_t load_len, uint32_t *amounts);
 
 /* sheet_read.c: a little-endian number of four bytes; whether all bytes are zero */
 uint32_t get_32(const uint8_t *bytes);
 bool all_zero(const uint8_t *bytes, size_t count);
+
+/* sheet_cell.c: checks the amount and the bounds of a cell for refusals 3, 4 and 5, and returns
+   0 or the number; on 0, gives the bounds, widened by the amount. */
+uint32_t widen_cell(uint32_t amount, uint32_t lower, uint32_t upper, uint32_t *lo, uint32_t *hi);
 
 /* sheet_cell.c: checks one cell of a sheet of this kind for refusals 6 and 10, or 14, then 3,
    4 and 5, and returns 0 or the number; on 0, gives the bounds, widened by the cell's wear.

@@ -125,6 +125,8 @@ int main(void)
     check_writing();
     check_job();
     check_train();
+    check_running();
+    check_any_value();
     check_print();
     printf("%d checks, %d failures\n", checks, failures);
     return failures == 0 ? 0 : 1;

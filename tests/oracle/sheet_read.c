@@ -7,12 +7,6 @@
 #define LEAST_LENGTH 16
 #define GREATEST_LENGTH 16400
 
-/* The patterns of the fixed wear amounts: 0 for class 0, 2^(c - 11) for class c. */
-static const uint32_t fixed_amounts[CLASSES] = {
-    0x00000000, 0x3A800000, 0x3B000000, 0x3B800000,
-    0x3C000000, 0x3C800000, 0x3D000000, 0x3D800000,
-};
-
 static uint32_t get_16(const uint8_t *bytes)
 {
     return (uint32_t)bytes[0] | (uint32_t)bytes[1] << 8;
@@ -122,10 +116,8 @@ struct refusal oracle_read_with(const uint8_t *load, size_t load_len,
                                 uint32_t *hi, size_t hi_len,
                                 size_t *rows, size_t *columns)
 {
-    uint32_t number = oracle_check_amounts(load, load_len), amounts[CLASSES];
+    uint32_t amounts[CLASSES], number = load_amounts(load, load_len, amounts);
     if (number != 0)
         return refuse(number, 0, 0, 0);
-    for (size_t c = 0; c < CLASSES; c++)
-        amounts[c] = amount_of(load, c);
     return read_by(amounts, s, len, lo, lo_len, hi, hi_len, rows, columns);
 }

@@ -1,5 +1,5 @@
-//! Tests of the Rust wrapper beside job, train, loaded amounts, kinds of sheets and conversions, not proved: sheets, product, operations,
-//! each refusal.
+//! Tests of the Rust wrapper beside job, train, loaded amounts, kinds of sheets, running entry and conversions, not proved: sheets,
+//! product, operations, each refusal.
 use coupling::*;
 
 const HALF: u32 = 0x3F00_0000;

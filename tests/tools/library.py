@@ -1,10 +1,13 @@
-"""For the tests of tools/sheet, not proved: the sheet job, the train and a read with loaded amounts as a shared library. Imported after support,
-which has the tool's modules found."""
+"""For the tests of tools/sheet, not proved: the sheet job, the train, a read with loaded amounts and the running entry as a shared library. Imported
+after support, which has the tool's modules found."""
 import ctypes
 import os
 
 from support import KINDS
 from sheet_bytes import MOST_BYTES, MOST_CELLS, Sheet, encode
+
+
+RUNNING_WORDS = 11
 
 
 def code_of(refused):
@@ -18,6 +21,8 @@ class Library:
         self.multiply, self.multiply_train = library.coupling_multiply, library.coupling_train
         self.read_loaded = library.coupling_read_with
         self.multiply.restype = self.multiply_train.restype = self.read_loaded.restype = ctypes.c_uint32
+        self.start, self.take, self.exchange = library.coupling_running_start, library.coupling_running_take, library.coupling_running_amounts
+        self.start.restype = self.take.restype = self.exchange.restype = ctypes.c_uint32
 
     def job(self, method, a, b):
         """What the job returns, and the product's sheet."""
@@ -53,3 +58,19 @@ class Library:
         returned, other = (self.read_with(load, encode(Sheet(1, 1, kind, [])))[0] for kind in KINDS)
         assert returned == other and (returned == 101 or returned % 1000000 == 0), (returned, other)
         return returned // 1000000
+
+
+class Running:
+    """A running entry."""
+
+    def __init__(self, library):
+        self.library, self.words, self.length = library, (ctypes.c_uint32 * RUNNING_WORDS)(), ctypes.c_size_t(RUNNING_WORDS)
+        assert library.start(self.words, self.length) == 0
+
+    def take(self, *cells):
+        """What is returned for two cells, lower and upper bound and class of each."""
+        return self.library.take(self.words, self.length, *map(ctypes.c_uint32, cells))
+
+    def exchange(self, load):
+        """What is returned for a load of amounts."""
+        return self.library.exchange(self.words, self.length, load, ctypes.c_size_t(len(load)))

@@ -11,7 +11,7 @@ from textwrap import indent
 from support import ROOT, TOOL, in_file, ok, ran, tool
 
 # In the order in which README.md shows them.
-EXAMPLES = ("controller", "amounts", "train")
+EXAMPLES = ("controller", "amounts", "running", "train")
 
 
 def text_of(*names):

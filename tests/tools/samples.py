@@ -1,6 +1,6 @@
-"""Test of the sample sheets, not proved: samples.py LIBRARY PROGRAM, where PROGRAM is the independent implementation of the program that prints
+"""Test of the samples, not proved: samples.py LIBRARY PROGRAM, where PROGRAM is the independent implementation of the program that prints
 a product. Both are asked for the product of two class sheets and of two amount sheets, and the decimals that tools/sheet prints enclose it. A train
-of three samples, of both kinds, is two jobs in a row."""
+of three samples, of both kinds, is two jobs in a row. The gauged pairs, rounded outward as tools/sheet rounds, give what the example in C prints."""
 import os
 import re
 import subprocess
@@ -8,9 +8,9 @@ import sys
 from fractions import Fraction
 
 from support import KINDS, ROOT, ok, tool
-from library import Library
+from library import Library, Running
 import binary32
-from sheet_bytes import AMOUNT_SHEET, CLASS_SHEET, decode
+from sheet_bytes import AMOUNT_SHEET, CLASS_SHEET, SENTENCES, decode
 
 CELL = re.compile(r"row (\d+), column (\d+): \[(.*), (.*)\]")
 
@@ -49,12 +49,38 @@ def test_train(library, method):
     assert met[0] == 80 and met == library.job(method, first, last), met
 
 
+def taken(running, words):
+    """What is returned for the pair in a line: lower and upper bound and class of two cells."""
+    readers = (binary32.down, binary32.up, int) * 2
+    return running.take(*(read(Fraction(word)) for read, word in zip(readers, words, strict=True)))
+
+
+def test_gauged(library):
+    """Line by line what examples/running.c prints of the gauged pairs, and what is stored of it."""
+    running, load = Running(library), tool("amounts", os.path.join(ROOT, "samples", "amounts.txt"))[1]
+    printed = ["pair 0: [0, 0]"]
+    with open(os.path.join(ROOT, "samples", "gauged.txt"), encoding="utf-8") as file:
+        lines = [line.split("#")[0].split() for line in file]
+    for number, words in enumerate(lines, 1):
+        if words == ["amounts", "mill.load"]:
+            assert running.exchange(load) == 0
+            printed.append("amounts of mill.load")
+        elif words:
+            code = taken(running, words)
+            low, high, pairs = (binary32.decimal(running.words[0]), binary32.decimal(running.words[1]), running.words[2])
+            shown = f"pair {pairs}: [{float(low):.9g}, {float(high):.9g}]"
+            printed.append(f"line {number}: refused: {SENTENCES[code // 1000000]}" if code else shown)
+    with open(os.path.join(ROOT, "tests", "header", "running.expected"), encoding="utf-8") as file:
+        assert file.read().splitlines() == printed, printed
+
+
 def main(library, program):
     for method in (1, 3, 4, 5, 7):
         for kind in KINDS:
             test_product(library, program, method, kind)
         test_train(library, method)
-    ok("sample sheets", "multiplied by each method; the decimals enclose the patterns; a train of three is two jobs in a row")
+    test_gauged(library)
+    ok("samples", "multiplied by each method; the decimals enclose the patterns; a train of three is two jobs in a row; the gauged pairs as printed")
 
 
 main(Library(sys.argv[1]), os.path.abspath(sys.argv[2]))

@@ -30,6 +30,15 @@ extern "C" {
         lowers: *mut u32, lowers_len: usize, uppers: *mut u32, uppers_len: usize,
     ) -> u32;
 
+    pub fn coupling_running_start(value: *mut u32, value_len: usize) -> u32;
+
+    pub fn coupling_running_take(
+        value: *mut u32, value_len: usize,
+        a_lower: u32, a_upper: u32, a_class: u32, b_lower: u32, b_upper: u32, b_class: u32,
+    ) -> u32;
+
+    pub fn coupling_running_amounts(value: *mut u32, value_len: usize, amounts: *const u8, amounts_len: usize) -> u32;
+
     pub fn coupling_add_down(a: u32, b: u32) -> u32;
     pub fn coupling_add_up(a: u32, b: u32) -> u32;
     pub fn coupling_add_near(a: u32, b: u32) -> u32;

@@ -10,7 +10,8 @@ pub struct Refusal {
     /// 1 is A, 2 is B, 3 is the result, 0 is none of them; in a train it is the sheet's position, 1 to 8, or 9 for a product or the
     /// writing.
     pub matrix: u32,
-    /// From 0; the place of a cell for numbers 3, 4, 5, 10 and 14, but 0 where 3 is about a load, and 0 for the other numbers.
+    /// From 0; the place of a cell for numbers 3, 4, 5, 10 and 14, but 0 where 3 is about a load, and 0 for the other numbers. A
+    /// running entry, a conversion and an operation name no place: matrix, row and column are 0.
     pub row: u32,
     /// As `row`.
     pub column: u32,
@@ -40,8 +41,8 @@ impl Refusal {
     /// The refusal in plain English, without the place.
     pub fn sentence(&self) -> &'static str {
         match self.number {
-            1 => "a size is not from 1 to 32, or the left factor's columns are not the right one's rows",
-            2 => "a slice is shorter than its cells",
+            1 => "a size is not from 1 to 32, the left factor's columns are not the right one's rows, or 32 pairs are taken already",
+            2 => "a slice is shorter than its cells or than a running entry",
             3 => "a bound or a wear amount is not a finite number",
             4 => "a lower bound is above the upper bound",
             5 => "a result is too large for binary32",

@@ -63,3 +63,14 @@ key-order a b = same-test (leZ (keyOf a) (keyOf b)) (atMost a b) (λ t. up (leZ-
     back h =
         signed-order (leb (2 ^ 31) a) (leb (2 ^ 31) b) (val binary32 m) (val binary32 n) m n
         (val-le-back binary32) (val-le-back binary32) none-left none-left h
+
+-- ---- the test and the order of values
+pub at-most-tells : (a b : ℕ) → atMost a b ≡ true → valueOf a ≼ valueOf b
+at-most-tells a b e = leZ-yes (subst T (sym e) tt)
+
+pub at-most-is : (a b : ℕ) → valueOf a ≼ valueOf b → atMost a b ≡ true
+at-most-is a b h = go (atMost a b) (h .le)
+  where
+    go : (t : Bool) → T t → t ≡ true
+    go true h = refl
+    go false h = absurd h

@@ -1,3 +1,4 @@
 pub mod Cells
 pub mod Operations
 pub mod Conversions
+pub mod RunningValue

@@ -1,4 +1,5 @@
-// The library for callers in C: the sheet jobs here, sheets and matrix products in cells.rt, the operations and the conversions in files of their own.
+// The library for callers in C: the sheet jobs here, sheets and matrix products in cells.rt; the operations, the conversions and the running entry in files of
+// their own.
 ghost use mathlib.Core.Path.{_≡_};
 ghost use lib.ListN.{length};
 ghost use Rattle.refusals.specs.Answer.{coded};
@@ -14,6 +15,8 @@ use sheets::Written;
 pub mod cells;
 pub mod conversions;
 pub mod operations;
+pub mod running_value;
+mod running_words;
 
 // The answer of a write: the length of the sheet, or the refusal's code.
 fn length_code(w: Written) -> u32

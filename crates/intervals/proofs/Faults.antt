@@ -1,14 +1,13 @@
 -- Laws of `faultOf`, one for each way that the code returns; what a pair of bounds without a fault is. Assumes nothing.
-use mathlib.Core.Path.{_≡_, refl, sym, ap, ap₂, subst}
+use mathlib.Core.Path.{_≡_, refl, sym, ap, ap₂}
 use mathlib.Core.Bool.{Bool, true, false, cond}
 use Prim.Native.Nat.{ℕ}
 use native.Mathlib.Omega.{arith}
-use lib.Signed.{leZ-yes}
-use lib.Dec.{T}
 use Rattle.algebra.specs.Order.{_≼_}
 use Rattle.rounding.specs.Format.{binary32, Num}
 use Rattle.binary32.specs.Number.{valueOf, finite, finites}
 use Rattle.binary32.specs.Order.{atMost}
+use Rattle.binary32.proofs.Orders.{at-most-tells}
 use Rattle.binary32.proofs.Held.{and-first, and-second, finite-is, value-num}
 use Rattle.intervals.specs.Conversion.{faultOf, radiusFaultOf}
 
@@ -51,7 +50,7 @@ fine-tells lo hi e = go (finites lo hi) (atMost lo hi) refl refl e
           both = s;
           low-num = value-num lo (finite-is lo (and-first (finite lo) (finite hi) s));
           high-num = value-num hi (finite-is hi (and-second (finite lo) (finite hi) s));
-          order = leZ-yes (subst T (sym t) tt);
+          order = at-most-tells lo hi t;
         }
 
     go : (s t : Bool) → finites lo hi ≡ s → atMost lo hi ≡ t → byTests s t ≡ 0 → Ordered lo hi

@@ -7,6 +7,7 @@ use lib.IntN.{ℤ, _+ℤ_, _-ℤ_}
 use Rattle.rounding.specs.Format.{binary32, Num}
 use Rattle.rounding.specs.Rounding.{up, down}
 use Rattle.enclosure.specs.Arithmetic.{of}
+use Rattle.enclosure.specs.Cell.{Cell}
 use Rattle.enclosure.specs.Methods.{Method, classical, three, four, five, seven, Range, total, ends, entry₁, entry}
 use Rattle.binary32.proofs.Held.{Fits}
 use Rattle.binary32.proofs.Numbers.{down-fits, up-fits}
@@ -34,10 +35,16 @@ ends-numbers (some r) none T e h = absurd (Option·none-ne-some e h)
 ends-numbers (some r) (some s) none e h = absurd (Option·none-ne-some e h)
 ends-numbers (some r) (some s) (some t) e h = both-numbers (down binary32 1 (s -ℤ r)) (up binary32 1 (t +ℤ r)) e (down-fits 1 (lit< tt) (s -ℤ r)) (up-fits 1 (lit< tt) (t +ℤ r)) h
 
+-- of any cells
+pub numbers-of : (m : Method) (k : ℕ) (a b : ℕ → Cell) (e : Range) → entry (of binary32) m k a b ≡ some e → Numbers e
+unfolding entry entry₁ total
+numbers-of classical k a b e h = both-numbers _ _ e (sum-fits down (down-fits 1 (lit< tt)) _ k) (sum-fits up (up-fits 1 (lit< tt)) _ k) h
+numbers-of three k a b e h = ends-numbers _ _ _ e h
+numbers-of four k a b e h = ends-numbers _ _ _ e h
+numbers-of five k a b e h = ends-numbers _ _ _ e h
+numbers-of seven k a b e h = ends-numbers _ _ _ e h
+
+-- of two matrices
 pub entry-numbers : (m : Method) (k n : ℕ) (A B : Matrix) (i j : ℕ) (e : Range) → entryOf m k n A B i j ≡ some e → Numbers e
-unfolding entryOf entry entry₁ total
-entry-numbers classical k n A B i j e h = both-numbers _ _ e (sum-fits down (down-fits 1 (lit< tt)) _ k) (sum-fits up (up-fits 1 (lit< tt)) _ k) h
-entry-numbers three k n A B i j e h = ends-numbers _ _ _ e h
-entry-numbers four k n A B i j e h = ends-numbers _ _ _ e h
-entry-numbers five k n A B i j e h = ends-numbers _ _ _ e h
-entry-numbers seven k n A B i j e h = ends-numbers _ _ _ e h
+unfolding entryOf
+entry-numbers m k n A B i j e = numbers-of m k _ _ e

@@ -17,6 +17,7 @@ use Rattle.enclosure.specs.RunningSums.{addPair}
 use Rattle.binary32.specs.Number.{valueOf}
 use Rattle.binary32.specs.Order.{magnitudeOf}
 use Rattle.binary32.proofs.Held.{finite-is, finites-first, finites-second}
+use Rattle.intervals.specs.Conversion.{faultOf}
 use Rattle.intervals.proofs.Faults.{fine-tells}
 use Rattle.unpacked.specs.declared.Number.{Number}
 use Rattle.unpacked.specs.Number.{worth, IsNumber}
@@ -24,43 +25,42 @@ use Rattle.unpacked.proofs.Worths.{worth-is, exp-some, exp-low}
 use Rattle.unpacked.proofs.FarShifts.{natAbs-zero}
 use Rattle.unpacked.proofs.Multiplying.{unpacked-number}
 use Rattle.unpacked.proofs.CornerTerms.{ZeroTerms, zero-value, zero-first, zero-second}
-use Rattle.matrices.specs.Matrix.{Matrix, AllFine, cellAt, lowerAt, upperAt}
+use Rattle.matrices.specs.Matrix.{Matrix, cellAt, lowerAt, upperAt}
 use Rattle.products.specs.declared.apart.Apart.{Apart}
 use Rattle.products.specs.declared.sums.Sums.{Sums}
 use Rattle.products.specs.Apart.{IsApart, Cells, lowerNumber, upperNumber}
-use Rattle.products.specs.Classical.{leftCell, rightCell}
+use Rattle.products.specs.Classical.{apartCell, patternCell}
 use Rattle.products.specs.Running.{HoldsRange}
 
--- the cell at position p of A, taken apart
-pub record Taken (A : Matrix) (p : ℕ) (a : Apart) : Type 0 where
-  pub lower : IsNumber (lowerNumber a) × (worth (lowerNumber a) ≡ valueOf (lowerAt A p))
-  pub upper : IsNumber (upperNumber a) × (worth (upperNumber a) ≡ valueOf (upperAt A p))
+-- the cell [lo, hi], taken apart
+pub record Taken (lo hi : ℕ) (a : Apart) : Type 0 where
+  pub lower : IsNumber (lowerNumber a) × (worth (lowerNumber a) ≡ valueOf lo)
+  pub upper : IsNumber (upperNumber a) × (worth (upperNumber a) ≡ valueOf hi)
 
-pub fine-taken : (A : Matrix) (m p : ℕ) (a : Apart) → AllFine A m → p < m → IsApart (lowerAt A p) (upperAt A p) a → Taken A p a
-fine-taken A m p a f h i =
-    let x = fine-tells (lowerAt A p) (upperAt A p) (f p h) .both in
+pub fine-taken : (lo hi : ℕ) (a : Apart) → faultOf lo hi ≡ 0 → IsApart lo hi a → Taken lo hi a
+fine-taken lo hi a f i =
+    let x = fine-tells lo hi f .both in
     record {
-      lower = unpacked-number (lowerAt A p) (lowerNumber a) (finites-first (lowerAt A p) (upperAt A p) x) (i .lower);
-      upper = unpacked-number (upperAt A p) (upperNumber a) (finites-second (lowerAt A p) (upperAt A p) x) (i .upper);
+      lower = unpacked-number lo (lowerNumber a) (finites-first lo hi x) (i .lower);
+      upper = unpacked-number hi (upperNumber a) (finites-second lo hi x) (i .upper);
     }
 
--- it and the cell at position q of B
-pub fine-cells : (A B : Matrix) (m p q : ℕ) (a : Apart) → Taken A p a → AllFine B m → q < m → Cells a (lowerAt B q) (upperAt B q)
-fine-cells A B m p q a t g k =
-    let o = fine-tells (lowerAt B q) (upperAt B q) (g q k) in
+-- it and the cell [bl, bu]
+pub fine-cells : (al au bl bu : ℕ) (a : Apart) → Taken al au a → faultOf bl bu ≡ 0 → Cells a bl bu
+fine-cells al au bl bu a t f =
+    let o = fine-tells bl bu f in
     record {
       a-lower = t .lower .0;
       a-upper = t .upper .0;
-      b-lower = finite-is (lowerAt B q) (finites-first (lowerAt B q) (upperAt B q) (o .both));
-      b-upper = finite-is (upperAt B q) (finites-second (lowerAt B q) (upperAt B q) (o .both));
+      b-lower = finite-is bl (finites-first bl bu (o .both));
+      b-upper = finite-is bu (finites-second bl bu (o .both));
       b-order = o .order;
     }
 
--- a step that adds the two adds the cells of the matrices
-pub step-cells : (A B : Matrix) (p q : ℕ) (a : Apart) → Taken A p a → (s : Range) (r : Sums)
-    → HoldsRange (addPair (of binary32) s (leftCell a) (rightCell (lowerAt B q) (upperAt B q))) r → HoldsRange (addPair (of binary32) s (cellAt A p) (cellAt B q)) r
-unfolding cellAt
-step-cells A B p q a t s r = subst (λ c. HoldsRange (addPair (of binary32) s c (cellAt B q)) r) (ap₂ (cellOf (of binary32)) (t .lower .1) (t .upper .1))
+-- a step that adds the two adds the cells of these patterns
+pub step-cells : (al au : ℕ) (b : Cell) (a : Apart) → Taken al au a → (s : Range) (r : Sums)
+    → HoldsRange (addPair (of binary32) s (apartCell a) b) r → HoldsRange (addPair (of binary32) s (patternCell al au) b) r
+step-cells al au b a t s r = subst (λ c. HoldsRange (addPair (of binary32) s c b) r) (ap₂ (cellOf (of binary32)) (t .lower .1) (t .upper .1))
 
 -- ---- a cell that is [0, 0], by the test of its exponents or of its patterns: its terms are 0
 
@@ -74,7 +74,7 @@ none-worth x n h = worth-is x (pos 0) (ap (λ z. z *ℤ pos (2 ^ (x .exp))) (nat
     none : natAbs (x .sig) ≡ 0
     none = ⊎-elim (λ e. e) (λ p. absurd (no (exp-some x (n .normal) p))) (eq-zero-or-pos (natAbs (x .sig)))
 
-pub apart-zero : (A : Matrix) (p : ℕ) (a : Apart) (b : Cell) → Taken A p a → ltb 128 (lowerNumber a .exp + upperNumber a .exp) ≡ false → ZeroTerms (cellAt A p) b
+pub apart-zero : (A : Matrix) (p : ℕ) (a : Apart) (b : Cell) → Taken (lowerAt A p) (upperAt A p) a → ltb 128 (lowerNumber a .exp + upperNumber a .exp) ≡ false → ZeroTerms (cellAt A p) b
 unfolding cellAt
 apart-zero A p a b t f =
     let e = ltb-false 128 (lowerNumber a .exp + upperNumber a .exp) f in

@@ -16,12 +16,12 @@ use Rattle.products.specs.declared.sums.Sums.{Sums}
 use Rattle.products.specs.Apart.{lowerNumber, upperNumber}
 use Rattle.products.specs.Running.{HoldsRange, refusedSums}
 
--- the cell of A, whose bounds are unpacked, and that of B, whose bounds are patterns
-abbrev pub leftCell : Apart → Cell
-leftCell a = cellOf (of binary32) (worth (lowerNumber a)) (worth (upperNumber a))
+-- a cell whose bounds are unpacked, as that of A is in a step, and one whose bounds are patterns, as that of B is
+abbrev pub apartCell : Apart → Cell
+apartCell a = cellOf (of binary32) (worth (lowerNumber a)) (worth (upperNumber a))
 
-abbrev pub rightCell : ℕ → ℕ → Cell
-rightCell lo hi = cellOf (of binary32) (valueOf lo) (valueOf hi)
+abbrev pub patternCell : ℕ → ℕ → Cell
+patternCell lo hi = cellOf (of binary32) (valueOf lo) (valueOf hi)
 
 -- row i of A (k columns) and column j of B (n columns)
 module _ (k n : ℕ) (A B : Matrix) (i j : ℕ) where

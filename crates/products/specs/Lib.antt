@@ -1,6 +1,7 @@
 pub mod Apart
 pub mod Running
 pub mod Classical
+pub mod Pair
 pub mod Centred
 pub mod Continued
 pub mod Row

@@ -27,6 +27,7 @@ mod four;
 mod near;
 mod nearest;
 mod number;
+pub mod pair;
 mod pattern;
 mod plus;
 mod radius;

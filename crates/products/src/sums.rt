@@ -1,13 +1,15 @@
 // The running sums of one entry by method 1: a value that a step takes, with a pair of cells, and returns. Its last step, `ends`, serves all methods.
 ghost use mathlib.Core.Path.{_≡_};
+ghost use mathlib.Core.Bool.{true};
 ghost use lib.IntN.{negℤ};
 ghost use Rattle.rounding.specs.Format.{binary32};
 ghost use Rattle.enclosure.specs.Arithmetic.{of};
 ghost use Rattle.enclosure.specs.RunningSums.{addPair};
-ghost use Rattle.binary32.specs.Number.{patternOf};
+ghost use Rattle.binary32.specs.Number.{finites, patternOf};
 ghost use Rattle.unpacked.specs.Number.{worth, IsNumber};
 ghost use Rattle.products.specs.Apart.{Cells};
-ghost use Rattle.products.specs.Classical.{leftCell, rightCell};
+ghost use Rattle.products.specs.Classical.{apartCell, patternCell};
+ghost use Rattle.products.specs.Pair.{rangeOf};
 ghost use Rattle.products.specs.Running.{BothNumbers, HoldsRange, Ended, boundsOf, refusedSums, zeroSums};
 use crate::apart::Apart;
 use crate::corners::corner_by_sign;
@@ -46,11 +48,22 @@ impl Sums {
         }
     }
 
+    // The sums with these two numbers as bounds.
+    pub fn of_bounds(lower: u32, upper: u32) -> Self
+        requires { ⌜ finites lower upper ≡ true ⌝ }
+        ensures { λ r. ⌜ BothNumbers r × (boundsOf r ≡ rangeOf (lower, upper)) ⌝ }
+    {
+        Sums {
+            lower: unpack(lower),
+            opposed: opposite(unpack(upper)),
+        }
+    }
+
     // Adds a pair of cells, a of A and [bl, bu] of B: the least of their four corner products to the lower sum, all rounded down, and the greatest to the
     // upper sum, all rounded up.
     pub fn step(self, a: Apart, bl: u32, bu: u32) -> Sums
         requires { ⌜ BothNumbers self × Cells a bl bu ⌝ }
-        ensures { λ r. ⌜ HoldsRange (addPair (of binary32) (boundsOf self) (leftCell a) (rightCell bl bu)) r ⌝ }
+        ensures { λ r. ⌜ HoldsRange (addPair (of binary32) (boundsOf self) (apartCell a) (patternCell bl bu)) r ⌝ }
     {
         let w = a.lower();
         let x = a.upper();

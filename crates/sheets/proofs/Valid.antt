@@ -5,10 +5,9 @@ use mathlib.Core.List.{List}
 use mathlib.Core.Logic.{_↔_}
 use Prim.Native.Nat.{ℕ, zero, suc, _+_, _-_, _%_, _^_, _≤_, _<_}
 use native.Mathlib.Omega.{arith}
-use lib.Dec.{T, eqb, leb}
+use lib.Dec.{eqb, leb}
 use lib.IntN.{pos}
 use lib.ListN.{length}
-use lib.Signed.{leZ-yes}
 use borrow.Author.Tests.{eq-eqb, eqb-true}
 use Rattle.algebra.specs.Order.{_≼_}
 use Rattle.algebra.proofs.Order.{≼-refl, ≼-trans}
@@ -17,9 +16,9 @@ use Rattle.rounding.specs.Pattern.{val}
 use Rattle.rounding.proofs.Pattern.{val-injective}
 use Rattle.refusals.proofs.Answers.{and-tells}
 use Rattle.binary32.specs.Number.{signedBy, valueOf, finite}
-use Rattle.binary32.specs.Order.{magnitudeOf, atMost}
+use Rattle.binary32.specs.Order.{magnitudeOf}
 use Rattle.binary32.proofs.Held.{is-finite}
-use Rattle.binary32.proofs.Orders.{val-zero}
+use Rattle.binary32.proofs.Orders.{val-zero, at-most-tells, at-most-is}
 use Rattle.sheets.specs.Wear.{amountIn}
 use Rattle.sheets.specs.Load.{patternsOf, allFinite, rising, ascending, amountsFault, loadFault}
 use Rattle.sheets.proofs.AllFrom.{and-is, all-tells, all-are}
@@ -30,7 +29,7 @@ pub record Valid (amounts : List ℕ) : Type 0 where
   pub numbers : (c : ℕ) → c < 8 → finite (amountIn amounts c) ≡ true
   pub rises : (c e : ℕ) → c ≤ e → e < 8 → valueOf (amountIn amounts c) ≼ valueOf (amountIn amounts e)
 
--- ---- the tests: zero of either sign, and at most by value
+-- ---- the test for zero, of either sign
 
 zero-of : (p : ℕ) → magnitudeOf p ≡ 0 → Zero p
 unfolding valueOf
@@ -48,16 +47,6 @@ of-zero p z = val-injective binary32 (go (leb (2 ^ 31) p) (val binary32 (p % 2 ^
     go true zero e = refl
     go true (suc n) e = let x : _≡_ {A = ℕ} 0 1 = cc in absurd (omega arith)
     go false n e = let x : n ≡ 0 = cc in x
-
-at-most-tells : (p q : ℕ) → atMost p q ≡ true → valueOf p ≼ valueOf q
-at-most-tells p q e = leZ-yes (subst T (sym e) tt)
-
-at-most-is : (p q : ℕ) → valueOf p ≼ valueOf q → atMost p q ≡ true
-at-most-is p q h = go (atMost p q) (h .le)
-  where
-    go : (t : Bool) → T t → t ≡ true
-    go true h = refl
-    go false h = absurd h
 
 module _ (amounts : List ℕ) where
   -- of two classes the higher one has no smaller amount, where each class has none below its forerunner's

@@ -1,17 +1,11 @@
 // The two bounds of one cell: checked before they are written, and moved outward by a wear amount when they are read.
 ghost use mathlib.Core.Path.{_≡_};
-ghost use Rattle.refusals.specs.Answer.{done, outcome, then};
 ghost use Rattle.binary32.specs.Number.{Finite};
 ghost use Rattle.intervals.specs.Conversion.{faultOf, bounded, outwardOf};
-ghost use Rattle.sheets.specs.Cell.{canonicalOf, bothZero, handedOf, wornFault, widenedOf};
-use binary32::finite::is_finite;
-use binary32::order::at_most;
-use binary32::order::magnitude;
+ghost use Rattle.sheets.specs.Cell.{canonicalOf, bothZero, handedOf};
 use intervals::Bounded;
 use intervals::check;
 use intervals::outward;
-use refusals::Outcome;
-use refusals::Refusal;
 
 // A cell to be written: [0, 0], which gets no record; its bounds, with minus zero replaced by 0; or the number of its fault, 3 or 4.
 pub enum HandedIn {
@@ -63,41 +57,4 @@ pub fn widen(lower: u32, upper: u32, amount: u32) -> Bounded
         return Bounded::Bounds(canonical(lower), canonical(upper));
     }
     outward(lower, upper, amount)
-}
-
-// The fault of a cell that is read: 3, one of its bounds and its amount is not a number; 4, the lower bound is above the upper; 0, none.
-fn worn_fault(lower: u32, upper: u32, amount: u32) -> u8
-    ensures { λ r. ⌜ r ≡ wornFault lower upper amount ⌝ }
-{
-    if !is_finite(amount) {
-        return 3;
-    }
-    check(lower, upper)
-}
-
-// The pattern of 2^127. A sum of two numbers below it is at most the largest number.
-const HALF: u32 = 0x7F00_0000;
-
-// The refusal of a cell that is read with this amount: 3, 4, or 5 where it is too large when widened. Nothing is worked out where amount and bounds are
-// below 2^127 in magnitude.
-pub fn check_worn(lower: u32, upper: u32, amount: u32) -> Outcome
-    ensures { λ r. ⌜ outcome r ≡ then (widenedOf lower upper amount) done ⌝ }
-{
-    if amount < HALF {
-        if magnitude(lower) < HALF {
-            if magnitude(upper) < HALF {
-                if at_most(lower, upper) {
-                    return Outcome::Done;
-                }
-            }
-        }
-    }
-    let fault = worn_fault(lower, upper, amount);
-    if fault != 0 {
-        return Outcome::Refused(Refusal::of_matrix(fault, 0));
-    }
-    match outward(lower, upper, amount) {
-        Bounded::Bounds(_, _) => Outcome::Done,
-        Bounded::Refused(r) => Outcome::Refused(r),
-    }
 }

@@ -9,9 +9,9 @@ ghost use Rattle.sheets.specs.Amount.{cellAmount};
 ghost use Rattle.sheets.specs.Chain.{judgeOf, walkAll};
 use crate::amount::wear_amount;
 use crate::amount::wear_fault;
-use crate::cell::check_worn;
 use crate::layout::Record;
 use crate::layout::record_at;
+use crate::worn::check_worn;
 use refusals::Outcome;
 use refusals::Refusal;
 

@@ -10,12 +10,13 @@ mod cell;
 mod chain;
 pub mod cut;
 mod layout;
-mod load;
+pub mod load;
 mod matrix;
 mod reading;
 mod records;
 mod tally;
-mod wear;
+pub mod wear;
+pub mod worn;
 
 use refusals::Outcome;
 use refusals::Refusal;

@@ -126,16 +126,17 @@ places c =
     (a, b, omega arith, omega arith, omega (arith, b, mul-le-mul (Begin s .pre .inner) (Begin s .pre .columns)))
 
 -- the four bounds there are numbers
-pub taken : (c : In3) → Taken (A (head c)) (p c) (cell c)
+pub taken : (c : In3) → Taken (lowerAt (A (head c)) (p c)) (upperAt (A (head c)) (p c)) (cell c)
 taken c =
     let s : Head = head c in
     let r = c .before .before .before .before .before in
-    fine-taken (A s) (M s * K s) (p c) (cell c) (Begin s .pre .a-fine) (places c .0) (r .before .loop .inv .2 (c .before .loop3 .l) (omega (arith, r .loop-test .left, c .loop3-test .taken)))
+    fine-taken (lowerAt (A s) (p c)) (upperAt (A s) (p c)) (cell c) (Begin s .pre .a-fine (p c) (places c .0))
+    (r .before .loop .inv .2 (c .before .loop3 .l) (omega (arith, r .loop-test .left, c .loop3-test .taken)))
 
 pub cells : (c : In3) → Cells (cell c) (lowerAt (B (head c)) (q c)) (upperAt (B (head c)) (q c))
 cells c =
     let s : Head = head c in
-    fine-cells (A s) (B s) (K s * N s) (p c) (q c) (cell c) (taken c) (Begin s .pre .b-fine) (places c .1)
+    fine-cells (lowerAt (A s) (p c)) (upperAt (A s) (p c)) (lowerAt (B s) (q c)) (upperAt (B s) (q c)) (cell c) (taken c) (Begin s .pre .b-fine (q c) (places c .1))
 
 -- a turn of the loop over columns: the outer loop's head, and the place that it writes
 abbrev pub entry-head : In2 → Head

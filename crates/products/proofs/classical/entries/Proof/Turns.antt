@@ -9,7 +9,7 @@ use Rattle.enclosure.specs.Arithmetic.{of}
 use Rattle.enclosure.specs.RunningSums.{addPair}
 use Rattle.matrices.specs.Matrix.{cellAt, lowerAt, upperAt}
 use Rattle.products.specs.declared.sums.Sums.{Sums}
-use Rattle.products.specs.Classical.{SumsAfter, leftCell, rightCell}
+use Rattle.products.specs.Classical.{SumsAfter, apartCell, patternCell}
 use Rattle.products.specs.Running.{HoldsRange, boundsOf}
 use Rattle.products.proofs.Pairs.{step-cells, apart-zero, patterns-zero}
 use Rattle.products.proofs.ClassicalSums.{after-more, after-zero}
@@ -67,9 +67,10 @@ pub stepped : (t : In3) (r : Sums) →
     let o = t .before .loop3 in
     let y = lowerAt (B (head t)) (q t) in
     let z = upperAt (B (head t)) (q t) in
-    HoldsRange (addPair (of binary32) (boundsOf (o .s)) (leftCell (cell t)) (rightCell y z)) r
+    HoldsRange (addPair (of binary32) (boundsOf (o .s)) (apartCell (cell t)) (patternCell y z)) r
     → HoldsRange (addPair (of binary32) (boundsOf (o .s)) (cellAt (A (head t)) (p t)) (cellAt (B (head t)) (q t))) r
-stepped t r = step-cells (A (head t)) (B (head t)) (p t) (q t) (cell t) (taken t) (boundsOf (t .before .loop3 .s)) r
+unfolding cellAt
+stepped t r = step-cells (lowerAt (A (head t)) (p t)) (upperAt (A (head t)) (p t)) (cellAt (B (head t)) (q t)) (cell t) (taken t) (boundsOf (t .before .loop3 .s)) r
 
 -- the sums after a pair: by a step, by a cell of B that is [0, 0], or by one of A
 abbrev Next : In3 → Sums → Type 0

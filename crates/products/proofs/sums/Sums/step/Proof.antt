@@ -16,7 +16,7 @@ use Rattle.unpacked.specs.Exact.{Exact}
 use Rattle.unpacked.proofs.Multiplying.{unpacked-number}
 use Rattle.unpacked.proofs.CornerSteps.{least-of, greatest-of, least-rounded, greatest-rounded}
 use Rattle.unpacked.proofs.RoundedProducts.{exact-formed}
-use Rattle.products.specs.Classical.{leftCell, rightCell}
+use Rattle.products.specs.Classical.{apartCell, patternCell}
 use Rattle.products.proofs.ClassicalSums.{pair-holds}
 use Rattle.products.proofs.sums.Sums.step.Statement.{statement}
 use Rattle.products.proofs.sums.Sums.step.Tie as tie
@@ -71,10 +71,10 @@ module _ (c : tie.After-unpack2) where
 
   -- are those of the pair
   abbrev a : Cell
-  a = leftCell (start .args .a)
+  a = apartCell (start .args .a)
 
   abbrev b : Cell
-  b = rightCell (start .args .bl) (start .args .bu)
+  b = patternCell (start .args .bl) (start .args .bu)
 
   a-is : wx ≡ a
   a-is = ap₂ (λ (u v : Number). cellOf (of binary32) (worth u) (worth v)) (c .before .before .before .lower .ensures) (c .before .before .upper .ensures)

@@ -1,11 +1,11 @@
--- `cell::worn_fault` meets its contract.
+-- `worn::worn_fault` meets its contract.
 use mathlib.Core.Path.{sym, _∙_}
 use mathlib.Core.Bool.{true, false}
 use borrow.Author.Needs.{needs}
 use borrow.Author.Tests.{not-true, not-false}
 use Rattle.sheets.proofs.Bounding.{worn-by}
-use Rattle.sheets.proofs.cell.worn_fault.Statement.{statement}
-use Rattle.sheets.proofs.cell.worn_fault.Tie as tie
+use Rattle.sheets.proofs.worn.worn_fault.Statement.{statement}
+use Rattle.sheets.proofs.worn.worn_fault.Tie as tie
 
 is-finite-requires : tie.Need-is-finite-requires
 is-finite-requires c κs = search needs

@@ -1,0 +1,3 @@
+pub mod Gauged
+pub mod Value
+pub mod History

@@ -1,0 +1,30 @@
+-- `worn::widened` meets its contract: the cell is checked, then its bounds are moved outward.
+use mathlib.Core.Path.{sym, ap, _∙_}
+use borrow.Author.Needs.{needs}
+use Rattle.refusals.specs.Answer.{refuses, refuse}
+use Rattle.refusals.proofs.Answers.{passing-on, passing-not}
+use Rattle.sheets.specs.Cell.{widenedOf}
+use Rattle.sheets.proofs.worn.widened.Statement.{statement}
+use Rattle.sheets.proofs.worn.widened.Tie as tie
+
+worn-fault-requires : tie.Need-worn-fault-requires
+worn-fault-requires c κs = search needs
+
+of-matrix-requires : tie.Need-of-matrix-requires
+of-matrix-requires c κs = search needs
+
+returns : tie.Need-returns
+unfolding widenedOf
+returns c =
+    let k = c .before .before .worn-fault .ensures in
+    ap refuses (c .of-matrix .ensures) ∙ ap refuse k ∙ passing-not _ _ (λ e. c .before .if1 .taken (k ∙ e))
+
+outward-requires : tie.Need-outward-requires
+outward-requires c κs = search needs
+
+returns-2 : tie.Need-returns-2
+unfolding widenedOf
+returns-2 c = c .outward .ensures ∙ passing-on _ _ (sym (c .before .before .worn-fault .ensures) ∙ c .before .if1 .left)
+
+pub widened-spec : {M : Type 1} → statement M
+widened-spec = tie.close (tie.spec worn-fault-requires of-matrix-requires returns outward-requires returns-2)
