@@ -17,7 +17,7 @@ use Rattle.sheets.specs.Load.{patternsOf, loadFault, loadOf}
 use Rattle.running.specs.declared.cell.Gauged.{Gauged}
 use Rattle.running.specs.declared.Running.{Running}
 use Rattle.running.specs.Value.{newOf, sumsOf, takeOf, exchangeOf, showOf, orSame}
-use Rattle.running.specs.History.{History, begun, given, loaded, carried}
+use Rattle.running.specs.History.{History, new, take, exchange, carried}
 use Rattle.running.proofs.Histories.{shows-entry}
 use Rattle.coupling.specs.RunningValue.{eightFrom, wordsOf, valueIn, inSlice, startIn, takeIn, amountsIn, wordsAfter, HoldsAfter, Begins, GoesOn}
 
@@ -103,7 +103,7 @@ module _ (d : List ℕ) (n : Answer Running) (P : List ℕ → Type 0) (p : P (w
 -- ---- a start
 pub start-begins : (d : List ℕ) → Begins d (wordsAfter (startIn d) d)
 unfolding startIn newOf carried fixedAmounts
-start-begins d h = subst (λ m. HoldsAfter begun (wordsAfter m d)) (sym (start-is d h)) (holds-after newOf refl begun (drop 11 d) refl)
+start-begins d h = subst (λ m. HoldsAfter new (wordsAfter m d)) (sym (start-is d h)) (holds-after newOf refl new (drop 11 d) refl)
   where
     start-is : (d : List ℕ) → 11 ≤ length d → inSlice d (gives newOf) ≡ gives newOf
     start-is d h = rw (le-leb 11 (length d) h)
@@ -124,18 +124,18 @@ module _ (next : History → History) (d : List ℕ) (n : Answer Running) (eight
           record { long = H .long; value = k; shows = shows-entry (valueIn d) (next h) k }
 
 -- a pair of cells
-pub take-goes-on : (d : List ℕ) (a b : Gauged) → GoesOn (λ h. given h a b) d (wordsAfter (takeIn d a b) d)
+pub take-goes-on : (d : List ℕ) (a b : Gauged) → GoesOn (λ h. take h a b) d (wordsAfter (takeIn d a b) d)
 unfolding takeIn carried takeOf
 take-goes-on d a b =
-    goes-on (λ h. given h a b) d (takeOf (valueIn d) a b)
+    goes-on (λ h. take h a b) d (takeOf (valueIn d) a b)
     (λ v e. subst (λ (w : Running). length (w .amounts) ≡ 8) (gives-injective (next-tells (sumsOf (valueIn d) a b) _ v e .2)) refl)
     (λ h e. ap (λ w. orSame (takeOf w a b) w) (sym e))
 
 -- the amounts of a load
-pub amounts-go-on : (d load : List ℕ) → GoesOn (λ h. loaded h load) d (wordsAfter (amountsIn d load) d)
+pub amounts-go-on : (d load : List ℕ) → GoesOn (λ h. exchange h load) d (wordsAfter (amountsIn d load) d)
 unfolding amountsIn carried exchangeOf loadOf patternsOf
 amounts-go-on d load =
-    goes-on (λ h. loaded h load) d (exchangeOf (valueIn d) load)
+    goes-on (λ h. exchange h load) d (exchangeOf (valueIn d) load)
     (λ v e.
     let t = next-tells (loadOf load) _ v e in
     let l = gives-injective (passing-tells (loadFault load) (gives (patternsOf load)) (t .0) (t .1) .1) in

@@ -9,7 +9,7 @@ use Rattle.refusals.specs.Answer.{Answer, gives, refuses, unless, then}
 use Rattle.running.specs.declared.cell.Gauged.{Gauged}
 use Rattle.running.specs.declared.Running.{Running}
 use Rattle.running.specs.Value.{newOf, takeOf, exchangeOf, showOf}
-use Rattle.running.specs.History.{History, begun, carried, ShowsAfter}
+use Rattle.running.specs.History.{History, new, carried, ShowsAfter}
 
 -- eight numbers of a list, from position p on
 abbrev pub eightFrom : List ℕ → ℕ → List ℕ
@@ -57,7 +57,7 @@ pub record HoldsAfter (h : History) (w : List ℕ) : Type 0 where
 
 -- of a start on a slice that held d and then holds w
 abbrev pub Begins : List ℕ → List ℕ → Type 0
-Begins d w = 11 ≤ length d → HoldsAfter begun w
+Begins d w = 11 ≤ length d → HoldsAfter new w
 
 -- of a call that goes on from any history h to `next h`
 abbrev pub GoesOn : (History → History) → List ℕ → List ℕ → Type 0

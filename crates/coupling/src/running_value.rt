@@ -2,7 +2,7 @@
 // the eight wear amounts in force. Each call returns 0; or it refuses, returns 1,000,000 × number of the refusal and leaves the slice as it was.
 ghost use mathlib.Core.Path.{_≡_};
 ghost use Rattle.refusals.specs.Answer.{coded};
-ghost use Rattle.running.specs.History.{given, loaded};
+ghost use Rattle.running.specs.History.{take, exchange};
 ghost use Rattle.coupling.specs.RunningValue.{gauged, startIn, takeIn, amountsIn, wordsAfter, Begins, GoesOn};
 use crate::running_words::WORDS;
 use crate::running_words::put;
@@ -43,7 +43,7 @@ pub extern "C" fn coupling_running_take(
     ensures left { λ r. ⌜ now (value .exit) ≡ wordsAfter
         (takeIn (now (value .entry)) (gauged «a_lower» «a_upper» «a_class») (gauged «b_lower» «b_upper» «b_class»)) (now (value .entry)) ⌝ }
     ensures goes_on { λ r. ⌜ GoesOn
-        (λ h. given h (gauged «a_lower» «a_upper» «a_class») (gauged «b_lower» «b_upper» «b_class»)) (now (value .entry)) (now (value .exit)) ⌝ }
+        (λ h. take h (gauged «a_lower» «a_upper» «a_class») (gauged «b_lower» «b_upper» «b_class»)) (now (value .entry)) (now (value .exit)) ⌝ }
 {
     if value.len() < WORDS {
         return Refusal::of_matrix(2, 0).code();
@@ -66,7 +66,7 @@ pub extern "C" fn coupling_running_take(
 pub extern "C" fn coupling_running_amounts(value: &mut [u32], load: &[u8]) -> u32
     ensures answer { λ r. ⌜ r ≡ coded (λ _. 0) (amountsIn (now (value .entry)) (now (load .entry))) ⌝ }
     ensures left { λ r. ⌜ now (value .exit) ≡ wordsAfter (amountsIn (now (value .entry)) (now (load .entry))) (now (value .entry)) ⌝ }
-    ensures goes_on { λ r. ⌜ GoesOn (λ h. loaded h (now (load .entry))) (now (value .entry)) (now (value .exit)) ⌝ }
+    ensures goes_on { λ r. ⌜ GoesOn (λ h. exchange h (now (load .entry))) (now (value .entry)) (now (value .exit)) ⌝ }
 {
     if value.len() < WORDS {
         return Refusal::of_matrix(2, 0).code();

@@ -28,7 +28,7 @@ use Rattle.running.specs.declared.Running.{Running}
 use Rattle.running.specs.declared.Shown.{Shown}
 use Rattle.running.specs.Gauged.{gaugedOf}
 use Rattle.running.specs.Value.{newOf, sumsOf, takeOf, exchangeOf, showOf}
-use Rattle.running.specs.History.{History, begun, given, loaded, carried, entryOver, takenWith, takenLoad, taken}
+use Rattle.running.specs.History.{History, new, take, exchange, carried, entryOver, takenWith, takenLoad, taken}
 
 abbrev cell : ℕ → ℕ → ℕ → Gauged
 cell l u c = record { lower = l; upper = u; class = c }
@@ -40,16 +40,16 @@ shown l u n = record { lower = l; upper = u; pairs = n }
 
 -- [1, 2] and [-1, 3], both of class 0; then a class above 7; then amounts of which the last is 1/2; then [1, 1] of class 7 and [2, 2] of class 0
 abbrev one : History
-one = given begun (cell 0x3F800000 0x40000000 0) (cell 0xBF800000 0x40400000 0)
+one = take new (cell 0x3F800000 0x40000000 0) (cell 0xBF800000 0x40400000 0)
 
 abbrev load : List ℕ
 load = replicate 31 0 ++ (63 ∷ [])
 
 abbrev two : History
-two = given (loaded (given one (cell 0 0 0) (cell 0 0 8)) load) (cell 0x3F800000 0x3F800000 7) (cell 0x40000000 0x40000000 0)
+two = take (exchange (take one (cell 0 0 0) (cell 0 0 8)) load) (cell 0x3F800000 0x3F800000 7) (cell 0x40000000 0x40000000 0)
 
 -- [0, 0]; [-2, 6]; and [-2, 6] with [1/2, 3/2] × [2, 2] added, [-1, 9]. A load of no bytes is refused and changes nothing
-none-shown : showOf (carried begun) ≡ shown 0 0 0
+none-shown : showOf (carried new) ≡ shown 0 0 0
 unfolding newOf showOf carried
 none-shown = refl
 
@@ -57,12 +57,12 @@ one-shown : showOf (carried one) ≡ shown 0xC0000000 0x40C00000 1
 unfolding newOf sumsOf takeOf showOf carried gaugedOf wornFault widenedOf faultOf fixedAmounts amountOf unitsOf pairFault pairAdded addPair leastTerm greatestTerm bind minℤ maxℤ answer valueOf val encode expo size MAX ceil lo hi up down
 one-shown = refl
 
-two-shown : showOf (carried (loaded two [])) ≡ shown 0xBF800000 0x41100000 2
+two-shown : showOf (carried (exchange two [])) ≡ shown 0xBF800000 0x41100000 2
 unfolding newOf sumsOf takeOf exchangeOf showOf carried gaugedOf wornFault widenedOf faultOf fixedAmounts amountOf unitsOf loadOf loadFault amountsFault allFinite ascending rising allFrom patternsOf u32At pairFault pairAdded addPair leastTerm greatestTerm bind minℤ maxℤ answer valueOf val encode expo size MAX ceil lo hi up down
 two-shown = refl
 
 -- two pairs are taken, the second as it was widened
-two-taken : taken (loaded two []) .pairs ≡ ((0x3F800000, 0x40000000), (0xBF800000, 0x40400000)) ∷ ((0x3F000000, 0x3FC00000), (0x40000000, 0x40000000)) ∷ []
+two-taken : taken (exchange two []) .pairs ≡ ((0x3F800000, 0x40000000), (0xBF800000, 0x40400000)) ∷ ((0x3F000000, 0x3FC00000), (0x40000000, 0x40000000)) ∷ []
 unfolding taken takenWith takenLoad entryOver entry entry₁ total sum gaugedOf wornFault widenedOf faultOf fixedAmounts amountOf unitsOf loadOf loadFault amountsFault allFinite ascending rising allFrom patternsOf u32At leastTerm greatestTerm bind minℤ maxℤ answer valueOf val encode expo size MAX ceil lo hi up down
 two-taken = refl
 

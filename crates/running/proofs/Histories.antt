@@ -16,7 +16,7 @@ use Rattle.products.specs.Pair.{rangeAnswer}
 use Rattle.running.specs.declared.cell.Gauged.{Gauged}
 use Rattle.running.specs.declared.Running.{Running}
 use Rattle.running.specs.Value.{takeOf, exchangeOf, showOf, orSame}
-use Rattle.running.specs.History.{History, begun, given, loaded, carried, Pair, firstAt, secondAt, entryOver, Taken, takenWith, takenLoad, taken, ShowsAfter, AnswersAfter, ShowsEntry}
+use Rattle.running.specs.History.{History, new, take, exchange, carried, Pair, firstAt, secondAt, entryOver, Taken, takenWith, takenLoad, taken, ShowsAfter, AnswersAfter, ShowsEntry}
 use Rattle.running.proofs.Standing.{Stands, Agree, range-is, stands-new, agree-take, agree-exchange}
 
 -- the same answer on both sides leaves a value that stands for what is taken
@@ -34,9 +34,9 @@ same-answer (refuses r) (gives u) a = absurd a
 
 pub stands : (h : History) → Stands (carried h) (taken h)
 unfolding carried taken
-stands begun = stands-new
-stands (given h a b) = left (takeOf (carried h) a b) (takenWith (taken h) a b) (carried h) (taken h) (agree-take (carried h) (taken h) (stands h) a b) (stands h)
-stands (loaded h load) = left (exchangeOf (carried h) load) (takenLoad (taken h) load) (carried h) (taken h) (agree-exchange (carried h) (taken h) (stands h) load) (stands h)
+stands new = stands-new
+stands (take h a b) = left (takeOf (carried h) a b) (takenWith (taken h) a b) (carried h) (taken h) (agree-take (carried h) (taken h) (stands h) a b) (stands h)
+stands (exchange h load) = left (exchangeOf (carried h) load) (takenLoad (taken h) load) (carried h) (taken h) (agree-exchange (carried h) (taken h) (stands h) load) (stands h)
 
 -- ---- a cell without fault
 valid : (lo hi : ℕ) → faultOf lo hi ≡ 0 → Valid binary32 (patternCell lo hi)

@@ -33,7 +33,7 @@ use Rattle.running.specs.declared.cell.Gauged.{Gauged}
 use Rattle.running.specs.declared.Running.{Running}
 use Rattle.running.specs.Gauged.{gaugedOf}
 use Rattle.running.specs.Value.{newOf, sumsOf, takeOf, exchangeOf}
-use Rattle.running.specs.History.{Pair, Taken, firstAt, secondAt, entryOver, takenWith, takenLoad, taken, begun}
+use Rattle.running.specs.History.{Pair, Taken, firstAt, secondAt, entryOver, takenWith, takenLoad, taken, new}
 use Rattle.running.proofs.Widening.{NotBelow, fixed-not-below, load-not-below, gauged-fine}
 use Rattle.running.proofs.Entries.{over-none, over-more}
 
@@ -76,7 +76,7 @@ module _ (v : Running) (t : Taken) (s : Stands v t) where
       ∙ rw (is-finite (patternOf (s .range .lower)) (pattern-finite (numbers .lower)), is-finite (patternOf (s .range .upper)) (pattern-finite (numbers .upper)))
 
 -- ---- the first value
-pub stands-new : Stands newOf (taken begun)
+pub stands-new : Stands newOf (taken new)
 unfolding newOf taken encode expo size
 stands-new =
     record {

@@ -28,16 +28,16 @@ use Rattle.running.specs.Value.{newOf, takeOf, exchangeOf, orSame}
 
 -- the calls on a value from its beginning, refused ones too: none yet; or those of a history and then a pair of cells, or a load
 pub data History : Type 0 where
-  begun : History
-  given : History → Gauged → Gauged → History
-  loaded : History → List ℕ → History
+  new : History
+  take : History → Gauged → Gauged → History
+  exchange : History → List ℕ → History
 
 -- ---- the value that the calls carry on
 
 unfoldable pub carried : History → Running
-carried begun = newOf
-carried (given h a b) = orSame (takeOf (carried h) a b) (carried h)
-carried (loaded h load) = orSame (exchangeOf (carried h) load) (carried h)
+carried new = newOf
+carried (take h a b) = orSame (takeOf (carried h) a b) (carried h)
+carried (exchange h load) = orSame (exchangeOf (carried h) load) (carried h)
 
 -- ---- what it stands for
 
@@ -75,9 +75,9 @@ takenLoad t load = andThen (loadOf load) λ amounts. gives (record { amounts = a
 
 -- what is taken after a history: what was refused changes nothing
 unfoldable pub taken : History → Taken
-taken begun = record { amounts = fixedAmounts; pairs = [] }
-taken (given h a b) = orSame (takenWith (taken h) a b) (taken h)
-taken (loaded h load) = orSame (takenLoad (taken h) load) (taken h)
+taken new = record { amounts = fixedAmounts; pairs = [] }
+taken (take h a b) = orSame (takenWith (taken h) a b) (taken h)
+taken (exchange h load) = orSame (takenLoad (taken h) load) (taken h)
 
 -- ---- the promise: a range shown after a history is the entry over all pairs taken, as patterns, and the number is theirs; and whatever fractions are
 -- picked from the cells as they were taken, the sum of their products lies in the range

@@ -1,4 +1,4 @@
-// The two bounds of one cell: checked before they are written, and moved outward by a wear amount when they are read.
+// The two bounds of one cell: checked before they are written; and when they are read, moved outward by a wear amount once they passed all checks (worn.rt).
 ghost use mathlib.Core.Path.{_≡_};
 ghost use Rattle.binary32.specs.Number.{Finite};
 ghost use Rattle.intervals.specs.Conversion.{faultOf, bounded, outwardOf};

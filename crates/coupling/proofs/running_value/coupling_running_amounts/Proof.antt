@@ -5,7 +5,7 @@ use borrow.Author.Needs.{needs}
 use Rattle.refusals.specs.Refusal.{codeOf}
 use Rattle.refusals.specs.Answer.{outcome, done, then}
 use Rattle.running.specs.Value.{exchangeOf, orSame}
-use Rattle.running.specs.History.{loaded}
+use Rattle.running.specs.History.{exchange}
 use Rattle.coupling.specs.RunningValue.{valueIn, amountsIn, GoesOn}
 use Rattle.coupling.proofs.RunningWords.{short-left, next-left, amounts-go-on}
 use Rattle.coupling.proofs.running_value.coupling_running_amounts.Statement.{statement}
@@ -22,7 +22,7 @@ unfolding amountsIn
 returns c =
     let a = c .before .before .before .before .before .args in
     let d = a .value .now in
-    short-left d (exchangeOf (valueIn d) (a .load .now)) (GoesOn (λ h. loaded h (a .load .now)) d) (amounts-go-on d (a .load .now)) (omega (arith, c .before .before .if1 .taken))
+    short-left d (exchangeOf (valueIn d) (a .load .now)) (GoesOn (λ h. exchange h (a .load .now)) d) (amounts-go-on d (a .load .now)) (omega (arith, c .before .before .if1 .taken))
     (c .code .ensures ∙ ap codeOf (c .before .of-matrix .ensures))
 
 value-in-requires : tie.Need-value-in-requires
@@ -46,7 +46,7 @@ returns-2 c =
     let a = i .before .before .before .before .before .args in
     let d = a .value .now in
     let k = subst (λ v. (outcome (t .exchange .result .outcome) ≡ then (exchangeOf v (a .load .now)) done) × (t .exchange .result .value ≡ orSame (exchangeOf v (a .load .now)) v)) (i .value-in .ensures) (t .exchange .ensures .0, t .exchange .ensures .1) in
-    next-left d (exchangeOf (valueIn d) (a .load .now)) (GoesOn (λ h. loaded h (a .load .now)) d) (amounts-go-on d (a .load .now)) (omega (arith, i .before .before .if1 .left))
+    next-left d (exchangeOf (valueIn d) (a .load .now)) (GoesOn (λ h. exchange h (a .load .now)) d) (amounts-go-on d (a .load .now)) (omega (arith, i .before .before .if1 .left))
     (t .exchange .result .outcome) (t .exchange .result .value) (valueIn d) (k .0) (k .1) (p .put-next .ensures .0) (p .put-next .ensures .1)
 
 pub coupling-running-amounts-spec : {M : Type 1} → statement M

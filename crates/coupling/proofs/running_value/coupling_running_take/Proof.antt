@@ -5,7 +5,7 @@ use borrow.Author.Needs.{needs}
 use Rattle.refusals.specs.Refusal.{codeOf}
 use Rattle.refusals.specs.Answer.{outcome, done, then}
 use Rattle.running.specs.Value.{takeOf, orSame}
-use Rattle.running.specs.History.{given}
+use Rattle.running.specs.History.{take}
 use Rattle.coupling.specs.RunningValue.{valueIn, gauged, takeIn, GoesOn}
 use Rattle.coupling.proofs.RunningWords.{short-left, next-left, take-goes-on}
 use Rattle.coupling.proofs.running_value.coupling_running_take.Statement.{statement}
@@ -24,7 +24,7 @@ returns c =
     let d = a .value .now in
     let x = gauged (a .a-lower) (a .a-upper) (a .a-class) in
     let y = gauged (a .b-lower) (a .b-upper) (a .b-class) in
-    short-left d (takeOf (valueIn d) x y) (GoesOn (λ h. given h x y) d) (take-goes-on d x y) (omega (arith, c .before .before .if1 .taken))
+    short-left d (takeOf (valueIn d) x y) (GoesOn (λ h. take h x y) d) (take-goes-on d x y) (omega (arith, c .before .before .if1 .taken))
     (c .code .ensures ∙ ap codeOf (c .before .of-matrix .ensures))
 
 value-in-requires : tie.Need-value-in-requires
@@ -50,7 +50,7 @@ returns-2 c =
     let x = gauged (a .a-lower) (a .a-upper) (a .a-class) in
     let y = gauged (a .b-lower) (a .b-upper) (a .b-class) in
     let k = subst (λ v. (outcome (t .take .result .outcome) ≡ then (takeOf v x y) done) × (t .take .result .value ≡ orSame (takeOf v x y) v)) (i .value-in .ensures) (t .take .ensures .0, t .take .ensures .1 .0) in
-    next-left d (takeOf (valueIn d) x y) (GoesOn (λ h. given h x y) d) (take-goes-on d x y) (omega (arith, i .before .before .if1 .left))
+    next-left d (takeOf (valueIn d) x y) (GoesOn (λ h. take h x y) d) (take-goes-on d x y) (omega (arith, i .before .before .if1 .left))
     (t .take .result .outcome) (t .take .result .value) (valueIn d) (k .0) (k .1) (p .put-next .ensures .0) (p .put-next .ensures .1)
 
 pub coupling-running-take-spec : {M : Type 1} → statement M
