@@ -3,21 +3,8 @@
    integer_product.c computes four for each direction, eight in all. */
 #include "integer_product.h"
 
-#include "plain_number.h"
+#include "integer_both.h"
 #include "plain_order.h"
-
-struct both {
-    uint32_t down, up;
-};
-
-static inline struct both rounded_both(struct number x)
-{
-    if (x.sig == 0)
-        return (struct both){0, 0};
-    struct cut c = cut(x, 0);
-    uint32_t near = c.magnitude, far = near + (c.lost != 0);
-    return (struct both){packed(x.negative, x.negative ? far : near, DOWN), packed(x.negative, x.negative ? near : far, UP)};
-}
 
 static inline struct both step(struct both sums, struct number al, struct number au, struct number bl, struct number bu)
 {

@@ -3,12 +3,12 @@ ghost use mathlib.Core.Path.{_≡_};
 ghost use Rattle.refusals.specs.Answer.{done, outcome, then};
 ghost use Rattle.intervals.specs.Conversion.{bounded};
 ghost use Rattle.sheets.specs.Cell.{wornFault, widenedOf};
+use crate::cell::widen;
 use binary32::finite::is_finite;
 use binary32::order::at_most;
 use binary32::order::magnitude;
 use intervals::Bounded;
 use intervals::check;
-use intervals::outward;
 use refusals::Outcome;
 use refusals::Refusal;
 
@@ -31,7 +31,7 @@ pub fn widened(lower: u32, upper: u32, amount: u32) -> Bounded
     if fault != 0 {
         return Bounded::Refused(Refusal::of_matrix(fault, 0));
     }
-    outward(lower, upper, amount)
+    widen(lower, upper, amount)
 }
 
 // The pattern of 2^127. A sum of two numbers below it is at most the largest number.

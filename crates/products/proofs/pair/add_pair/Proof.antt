@@ -63,18 +63,18 @@ module _ (c : tie.After-new) where
   cells : Cells (c .new .result) (start .args .bl) (start .args .bu)
   cells = fine-cells _ _ _ _ (c .new .result) taken (fine (c .before .before) .b-fine)
 
-step-requires : tie.Need-step-requires
-step-requires c κs = (c .before .of-bounds .ensures .0, cells c)
+step-pair-requires : tie.Need-step-pair-requires
+step-pair-requires c κs = (c .before .of-bounds .ensures .0, cells c)
 
-holds : (c : tie.After-step) →
+holds : (c : tie.After-step-pair) →
     let s = start (c .before) in
-    HoldsRange (addPair (of binary32) (rangeOf (sums s)) (patternCell (s .args .al) (s .args .au)) (patternCell (s .args .bl) (s .args .bu))) (c .step .result)
+    HoldsRange (addPair (of binary32) (rangeOf (sums s)) (patternCell (s .args .al) (s .args .au)) (patternCell (s .args .bl) (s .args .bu))) (c .step-pair .result)
 holds c =
     let n = c .before in
     let s = start n in
     let b = patternCell (s .args .bl) (s .args .bu) in
-    step-cells (s .args .al) (s .args .au) b (n .new .result) (taken n) (rangeOf (sums s)) (c .step .result)
-    (subst (λ r. HoldsRange (addPair (of binary32) r (apartCell (n .new .result)) b) (c .step .result)) (n .before .of-bounds .ensures .1) (c .step .ensures))
+    step-cells (s .args .al) (s .args .au) b (n .new .result) (taken n) (rangeOf (sums s)) (c .step-pair .result)
+    (subst (λ r. HoldsRange (addPair (of binary32) r (apartCell (n .new .result)) b) (c .step-pair .result)) (n .before .of-bounds .ensures .1) (c .step-pair .ensures))
 
 refused-requires : tie.Need-refused-requires
 refused-requires c κs = search needs
@@ -87,10 +87,10 @@ returns-2 c =
     let r = c .before .before in
     let t = r .before in
     ap refuses (c .of-matrix2 .ensures)
-    ∙ added-refused _ _ _ (t .step .result) (fault (t .before .before .before)) (holds t) (sym (r .refused .ensures) ∙ c .before .if2 .taken)
+    ∙ added-refused _ _ _ (t .step-pair .result) (fault (t .before .before .before)) (holds t) (sym (r .refused .ensures) ∙ c .before .if2 .taken)
 
 -- the sums go on
-going : (c : tie.Else2) → refusedSums (c .before .before .step .result) ≡ false
+going : (c : tie.Else2) → refusedSums (c .before .before .step-pair .result) ≡ false
 going c = sym (c .before .refused .ensures) ∙ c .if2 .left
 
 lower-requires : tie.Need-lower-requires
@@ -107,7 +107,7 @@ returns-3 c =
     let e = c .before .before in
     let t = e .before .before in
     ap₂ bounds (c .before .lower .ensures) (c .upper .ensures)
-    ∙ added-given _ _ _ (t .step .result) (fault (t .before .before .before)) (holds t) (going e)
+    ∙ added-given _ _ _ (t .step-pair .result) (fault (t .before .before .before)) (holds t) (going e)
 
 pub add-pair-spec : {M : Type 1} → statement M
 add-pair-spec =
@@ -118,7 +118,7 @@ add-pair-spec =
     returns
     of-bounds-requires
     new-requires
-    step-requires
+    step-pair-requires
     refused-requires
     of-matrix-requires-2
     returns-2

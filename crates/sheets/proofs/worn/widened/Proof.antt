@@ -1,9 +1,10 @@
 -- `worn::widened` meets its contract: the cell is checked, then its bounds are moved outward.
-use mathlib.Core.Path.{sym, ap, _∙_}
+use mathlib.Core.Path.{_≡_, sym, ap, _∙_}
 use borrow.Author.Needs.{needs}
 use Rattle.refusals.specs.Answer.{refuses, refuse}
 use Rattle.refusals.proofs.Answers.{passing-on, passing-not}
-use Rattle.sheets.specs.Cell.{widenedOf}
+use Rattle.sheets.specs.Cell.{wornFault, widenedOf}
+use Rattle.sheets.proofs.Bounding.{worn-tells}
 use Rattle.sheets.proofs.worn.widened.Statement.{statement}
 use Rattle.sheets.proofs.worn.widened.Tie as tie
 
@@ -19,12 +20,16 @@ returns c =
     let k = c .before .before .worn-fault .ensures in
     ap refuses (c .of-matrix .ensures) ∙ ap refuse k ∙ passing-not _ _ (λ e. c .before .if1 .taken (k ∙ e))
 
-outward-requires : tie.Need-outward-requires
-outward-requires c κs = search needs
+-- the cell has no fault
+none : (c : tie.Else1) → let a = c .before .before .args in wornFault (a .lower) (a .upper) (a .amount) ≡ 0
+none c = sym (c .before .worn-fault .ensures) ∙ c .if1 .left
+
+widen-requires : tie.Need-widen-requires
+widen-requires c κs = let a = c .before .before .args in worn-tells (a .lower) (a .upper) (a .amount) (none c) .1
 
 returns-2 : tie.Need-returns-2
 unfolding widenedOf
-returns-2 c = c .outward .ensures ∙ passing-on _ _ (sym (c .before .before .worn-fault .ensures) ∙ c .before .if1 .left)
+returns-2 c = c .widen .ensures ∙ passing-on _ _ (none (c .before))
 
 pub widened-spec : {M : Type 1} → statement M
-widened-spec = tie.close (tie.spec worn-fault-requires of-matrix-requires returns outward-requires returns-2)
+widened-spec = tie.close (tie.spec worn-fault-requires of-matrix-requires returns widen-requires returns-2)
