@@ -32,6 +32,9 @@ and-first false t e = e
 pub and-second : (s t : Bool) → cond s t false ≡ true → t ≡ true
 and-second s t e = sym (ap (λ x. cond x t false) (and-first s t e)) ∙ e
 
+pub and-both : (s t : Bool) → s ≡ true → t ≡ true → cond s t false ≡ true
+and-both s t e f = ap (λ (x : Bool). cond x t false) e ∙ f
+
 pub finites-first : (a b : ℕ) → finites a b ≡ true → finite a ≡ true
 finites-first a b e = and-first (finite a) (finite b) e
 

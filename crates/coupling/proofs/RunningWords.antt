@@ -11,12 +11,12 @@ use Rattle.refusals.specs.declared.Outcome.{Outcome}
 use Rattle.refusals.specs.declared.Outcome.the-variants.{Done, Refused}
 use Rattle.refusals.specs.Refusal.{ofMatrix, codeOf}
 use Rattle.refusals.specs.Answer.{Answer, gives, refuses, refuse, done, outcome, then, coded, unlessRefused}
-use Rattle.refusals.proofs.Answers.{gives-injective, next-tells, not-both, passing-tells}
+use Rattle.refusals.proofs.Answers.{gives-injective, next-tells, passing-tells}
 use Rattle.sheets.specs.Wear.{fixedAmounts}
 use Rattle.sheets.specs.Load.{patternsOf, loadFault, loadOf}
 use Rattle.running.specs.declared.cell.Gauged.{Gauged}
 use Rattle.running.specs.declared.Running.{Running}
-use Rattle.running.specs.Value.{newOf, sumsOf, takeOf, exchangeOf, showOf, orSame}
+use Rattle.running.specs.Value.{newOf, sumsOf, takeOf, exchangeOf, orSame}
 use Rattle.running.specs.History.{History, new, take, exchange, carried}
 use Rattle.running.proofs.Histories.{shows-entry}
 use Rattle.coupling.specs.RunningValue.{eightFrom, wordsOf, valueIn, inSlice, startIn, takeIn, amountsIn, wordsAfter, HoldsAfter, Begins, GoesOn}
@@ -55,6 +55,10 @@ module _ (v : Running) (n : length (v .amounts) ≡ 8) where
       let k = value-back rest ∙ e in
       record { long = words-long v rest; value = k; shows = shows-entry (valueIn (wordsOf v ++ rest)) h k }
 
+-- ---- a slice that is long enough is not refused
+in-slice : (d : List ℕ) (n : Answer Running) → 11 ≤ length d → inSlice d n ≡ n
+in-slice d n h = rw (le-leb 11 (length d) h)
+
 -- ---- what is left by the outcome o of a call: the front, or what was there
 pub put-done : {o : Outcome} (front d w : List ℕ) → o ≡ Done → w ≡ front ++ drop 11 d
     → (0 ≡ coded (λ _. 0) (outcome o)) × (w ≡ unlessRefused (outcome o) (front ++ drop 11 d) d)
@@ -80,11 +84,8 @@ module _ (d : List ℕ) (n : Answer Running) (P : List ℕ → Type 0) (p : P (w
 
   -- one that is long enough
   module _ (h : 11 ≤ length d) where
-    long-is : inSlice d n ≡ n
-    long-is = rw (le-leb 11 (length d) h)
-
     pub long-left : {r : ℕ} {w : List ℕ} → r ≡ coded (λ _. 0) n → w ≡ wordsAfter n d → Promised r w
-    long-left e f = promised (e ∙ ap (coded (λ _. 0)) (sym long-is)) (f ∙ ap (λ m. wordsAfter m d) (sym long-is))
+    long-left e f = promised (e ∙ ap (coded (λ _. 0)) (sym (in-slice d n h))) (f ∙ ap (λ m. wordsAfter m d) (sym (in-slice d n h)))
 
     -- from the outcome o and the next value v of a call on the value s
     pub next-left : (o : Outcome) (v s : Running) {r : ℕ} {w : List ℕ} → outcome o ≡ then n done → v ≡ orSame n s → r ≡ coded (λ _. 0) (outcome o)
@@ -103,20 +104,14 @@ module _ (d : List ℕ) (n : Answer Running) (P : List ℕ → Type 0) (p : P (w
 -- ---- a start
 pub start-begins : (d : List ℕ) → Begins d (wordsAfter (startIn d) d)
 unfolding startIn newOf carried fixedAmounts
-start-begins d h = subst (λ m. HoldsAfter new (wordsAfter m d)) (sym (start-is d h)) (holds-after newOf refl new (drop 11 d) refl)
-  where
-    start-is : (d : List ℕ) → 11 ≤ length d → inSlice d (gives newOf) ≡ gives newOf
-    start-is d h = rw (le-leb 11 (length d) h)
+start-begins d h = subst (λ m. HoldsAfter new (wordsAfter m d)) (sym (in-slice d (gives newOf) h)) (holds-after newOf refl new (drop 11 d) refl)
 
 -- ---- a call whose answer n has eight amounts, if any, and which carries each history of the value on to `next`
 module _ (next : History → History) (d : List ℕ) (n : Answer Running) (eights : (v : Running) → n ≡ gives v → length (v .amounts) ≡ 8)
     (carries : (h : History) → valueIn d ≡ carried h → carried (next h) ≡ orSame n (valueIn d)) where
   goes-on : GoesOn next d (wordsAfter (inSlice d n) d)
-  goes-on h H = subst (λ m. HoldsAfter (next h) (wordsAfter m d)) (sym (slice-is (H .long))) (go n refl)
+  goes-on h H = subst (λ m. HoldsAfter (next h) (wordsAfter m d)) (sym (in-slice d n (H .long))) (go n refl)
     where
-      slice-is : 11 ≤ length d → inSlice d n ≡ n
-      slice-is k = rw (le-leb 11 (length d) k)
-
       go : (m : Answer Running) → n ≡ m → HoldsAfter (next h) (wordsAfter m d)
       go (gives v) e = holds-after v (eights v e) (next h) (drop 11 d) (sym (carries h (H .value) ∙ ap (λ m. orSame m (valueIn d)) e))
       go (refuses r) e =

@@ -19,7 +19,7 @@ use Rattle.refusals.proofs.Answers.{gives-injective, not-both, both-tell, passi
 use Rattle.enclosure.proofs.Laws.{one}
 use Rattle.binary32.specs.Number.{valueOf, finite, finites, patternOf}
 use Rattle.binary32.specs.Operations.{add, sub, subDown, addUp, answerOf, answer}
-use Rattle.binary32.proofs.Held.{is-finite, pattern-value, pattern-finite}
+use Rattle.binary32.proofs.Held.{and-both, is-finite, pattern-value, pattern-finite}
 use Rattle.binary32.proofs.Orders.{at-most-is}
 use Rattle.intervals.specs.Conversion.{faultOf, midOf, radOf, outwardOf, radiusFaultOf, boundsOf}
 use Rattle.intervals.proofs.Faults.{Ordered, fault-by-order}
@@ -38,9 +38,6 @@ answer-tells op a b p = go (finites a b) (op (valueOf a) (valueOf b)) refl
 
 finite-of : (p : ℕ) (v : ℤ) → patternOf v ≡ p → Num binary32 v → finite p ≡ true
 finite-of p v e n = subst (λ (q : ℕ). finite q ≡ true) e (is-finite (patternOf v) (pattern-finite n))
-
-and-both : {s t : Bool} → s ≡ true → t ≡ true → cond s t false ≡ true
-and-both e f = rw (e, f)
 
 module _ (lo hi w c d : ℕ) (h : outwardOf lo hi w ≡ gives (c, d)) where
   pub outward-below : valueOf c ≼ valueOf lo -ℤ valueOf w
@@ -63,7 +60,7 @@ module _ (lo hi w c d : ℕ) (h : outwardOf lo hi w ≡ gives (c, d)) where
       let b = both-tell (subDown lo w) (addUp hi w) (c, d) h in
       let l = answer-tells (sub down) lo w c (b .0) in
       let u = answer-tells (add up) hi w d (b .1) in
-      and-both (finite-of c (l .0) (l .2) (down-is binary32 1 one (l .1) .num)) (finite-of d (u .0) (u .2) (up-is binary32 1 one (u .1) .num))
+      and-both (finite c) (finite d) (finite-of c (l .0) (l .2) (down-is binary32 1 one (l .1) .num)) (finite-of d (u .0) (u .2) (up-is binary32 1 one (u .1) .num))
 
   -- and in order, where lo and hi are and w is not below zero
   pub outward-fine : valueOf lo ≼ valueOf hi → pos 0 ≼ valueOf w → 0 ≡ faultOf c d

@@ -8,11 +8,14 @@ use native.Mathlib.Omega.{arith}
 use lib.Dec.{ltb}
 use borrow.Author.Tests.{ltb-false, le-ltb}
 use Rattle.rounding.specs.Format.{binary32}
+use Rattle.enclosure.specs.Arithmetic.{of}
+use Rattle.enclosure.specs.Conversion.{cellOf}
 use Rattle.enclosure.specs.Methods.{Range}
 use Rattle.enclosure.specs.Demand.{Valid, ValidCells, Kept}
 use Rattle.enclosure.proofs.Demand.{demand-kept}
 use Rattle.binary32.specs.Number.{valueOf}
 use Rattle.binary32.proofs.Held.{pattern-value}
+use Rattle.intervals.specs.Conversion.{faultOf}
 use Rattle.intervals.proofs.Faults.{fine-tells}
 use Rattle.refusals.specs.Refusal.{ofCell}
 use Rattle.refusals.specs.Answer.{Answer, refuses, done}
@@ -42,11 +45,14 @@ accepted none h = absurd (no h)
     no e = subst (λ x. cond x (Unit {0}) ⊥) e tt
 
 -- ---- a cell without a fault
+pub fine-valid : (lo hi : ℕ) → faultOf lo hi ≡ 0 → Valid binary32 (cellOf (of binary32) (valueOf lo) (valueOf hi))
+fine-valid lo hi h =
+    let o = fine-tells lo hi h in
+    record { low-number = o .low-num; high-number = o .high-num; ordered = o .order; converted = refl }
+
 valid : (X : Matrix) (c : ℕ) → faultAt X c ≡ 0 → Valid binary32 (cellAt X c)
 unfolding cellAt
-valid X c h =
-    let o = fine-tells (lowerAt X c) (upperAt X c) h in
-    record { low-number = o .low-num; high-number = o .high-num; ordered = o .order; converted = refl }
+valid X c = fine-valid (lowerAt X c) (upperAt X c)
 
 module _ (g : Given) (ok : Checked g) where
   row-valid : (i : ℕ) → i < g .a-rows → ValidCells binary32 (g .a-columns) (rowOf g i)

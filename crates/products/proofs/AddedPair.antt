@@ -1,5 +1,5 @@
 -- A pair of cells added to the sums of an entry: the fault of sums and cells by the tests of the code, and the answer from the running sums after the step.
-use mathlib.Core.Path.{_≡_, refl, sym, ap, ap₂, _∙_, subst}
+use mathlib.Core.Path.{_≡_, refl, sym, ap, ap₂, _∙_}
 use mathlib.Core.Bool.{Bool, true, false, cond}
 use Prim.Native.Nat.{ℕ}
 use native.Mathlib.Omega.{arith}
@@ -8,21 +8,19 @@ use borrow.Author.Tests.{eq-eqb, ne-eqb, eqb-true}
 use Rattle.rounding.specs.Format.{binary32}
 use Rattle.enclosure.specs.Arithmetic.{of}
 use Rattle.enclosure.specs.RunningSums.{addPair}
-use Rattle.refusals.specs.Answer.{Answer, gives, refuse}
+use Rattle.refusals.specs.Answer.{gives, refuse}
 use Rattle.refusals.proofs.Answers.{passing-on}
 use Rattle.binary32.specs.Number.{finites, patternOf}
 use Rattle.intervals.specs.Conversion.{faultOf}
 use Rattle.products.specs.declared.sums.Sums.{Sums}
 use Rattle.products.specs.Classical.{patternCell}
 use Rattle.products.specs.Running.{HoldsRange, boundsOf, refusedSums}
+use Rattle.products.proofs.Carrying.{true-false}
 use Rattle.products.specs.Pair.{rangeOf, rangeAnswer, pairFault, pairAdded}
 
 -- by the three tests: has a cell no fault, and are the sums numbers
 abbrev byTests : Bool → Bool → Bool → ℕ → ℕ → ℕ
 byTests x y z m n = cond x (cond y (cond z 0 3) n) m
-
-no : false ≡ true → ⊥
-no t = subst (λ x. cond x ⊥ (Unit {0})) t tt
 
 module _ (s a b : ℕ × ℕ) where
   abbrev first : ℕ
@@ -60,8 +58,8 @@ module _ (s a b : ℕ × ℕ) where
       go : (x y z : Bool) → eqb first 0 ≡ x → eqb second 0 ≡ y → numbers ≡ z → byTests x y z first second ≡ 0 → Faultless
       go true true true p q r h = record { a-fine = eqb-true first 0 p; b-fine = eqb-true second 0 q; sums-fine = r }
       go true true false p q r h = absurd (omega (arith, h))
-      go true false z p q r h = record { a-fine = eqb-true first 0 p; b-fine = h; sums-fine = absurd (no (sym q ∙ eq-eqb second 0 h)) }
-      go false y z p q r h = record { a-fine = h; b-fine = absurd (no (sym p ∙ eq-eqb first 0 h)); sums-fine = absurd (no (sym p ∙ eq-eqb first 0 h)) }
+      go true false z p q r h = record { a-fine = eqb-true first 0 p; b-fine = h; sums-fine = true-false (sym (eq-eqb second 0 h) ∙ q) }
+      go false y z p q r h = record { a-fine = h; b-fine = true-false (sym (eq-eqb first 0 h) ∙ p); sums-fine = true-false (sym (eq-eqb first 0 h) ∙ p) }
 
   -- r holds the sums with the pair added, or their refusal
   module _ (r : Sums) (e : pairFault s a b ≡ 0) (h : HoldsRange (addPair (of binary32) (rangeOf s) (patternCell (a .0) (a .1)) (patternCell (b .0) (b .1))) r) where

@@ -8,6 +8,7 @@ pub mod EntryExt
 pub mod Pairs
 pub mod Zeros
 pub mod ClassicalSums
+pub mod PairStep
 pub mod AddedPair
 -- midpoints and radii, and what is worked out of them
 pub mod Derivations

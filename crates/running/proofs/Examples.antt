@@ -5,7 +5,7 @@ use mathlib.Core.List.{List, [], _∷_, _++_}
 use mathlib.Core.Option.{bind}
 use Prim.Native.Nat.{ℕ}
 use lib.Ieee.{size}
-use lib.ListN.{length, replicate}
+use lib.ListN.{replicate}
 use Rattle.algebra.specs.Extremes.{minℤ, maxℤ}
 use Rattle.rounding.specs.Format.{MAX, expo}
 use Rattle.rounding.specs.Pattern.{val, encode}
@@ -13,7 +13,7 @@ use Rattle.rounding.specs.Rounding.{ceil, lo, hi, up, down}
 use Rattle.enclosure.specs.Sums.{sum}
 use Rattle.enclosure.specs.Methods.{leastTerm, greatestTerm, total, entry₁, entry}
 use Rattle.enclosure.specs.RunningSums.{addPair}
-use Rattle.refusals.specs.Answer.{Answer, gives, refuse}
+use Rattle.refusals.specs.Answer.{refuse}
 use Rattle.binary32.specs.Number.{valueOf}
 use Rattle.binary32.specs.Operations.{answer}
 use Rattle.intervals.specs.Conversion.{faultOf}

@@ -2,16 +2,14 @@
 -- pairs taken.
 use mathlib.Core.Path.{_≡_, refl, sym, ap, ap₂, subst, _∙_}
 use mathlib.Core.List.{List}
-use Prim.Native.Nat.{ℕ, _<_}
+use Prim.Native.Nat.{ℕ}
 use lib.ListN.{length}
 use Rattle.rounding.specs.Format.{binary32, units}
 use Rattle.enclosure.specs.Methods.{classical}
-use Rattle.enclosure.specs.Demand.{Valid, Encloses}
+use Rattle.enclosure.specs.Demand.{Encloses}
 use Rattle.enclosure.proofs.Demand.{binary32-encloses}
 use Rattle.refusals.specs.Answer.{Answer, gives, refuses, done, then}
-use Rattle.intervals.specs.Conversion.{faultOf}
-use Rattle.intervals.proofs.Faults.{fine-tells}
-use Rattle.products.specs.Classical.{patternCell}
+use Rattle.matrices.proofs.Keeping.{fine-valid}
 use Rattle.products.specs.Pair.{rangeAnswer}
 use Rattle.running.specs.declared.cell.Gauged.{Gauged}
 use Rattle.running.specs.declared.Running.{Running}
@@ -38,12 +36,6 @@ stands new = stands-new
 stands (take h a b) = left (takeOf (carried h) a b) (takenWith (taken h) a b) (carried h) (taken h) (agree-take (carried h) (taken h) (stands h) a b) (stands h)
 stands (exchange h load) = left (exchangeOf (carried h) load) (takenLoad (taken h) load) (carried h) (taken h) (agree-exchange (carried h) (taken h) (stands h) load) (stands h)
 
--- ---- a cell without fault
-valid : (lo hi : ℕ) → faultOf lo hi ≡ 0 → Valid binary32 (patternCell lo hi)
-valid lo hi e =
-    let o = fine-tells lo hi e in
-    record { low-number = o .low-num; high-number = o .high-num; ordered = o .order; converted = refl }
-
 -- ---- what is shown
 module _ (h : History) where
   abbrev ps : List Pair
@@ -54,7 +46,7 @@ module _ (h : History) where
   encloses =
       let s = stands h in
       binary32-encloses classical (length ps) (firstAt ps) (secondAt ps) (s .range) (s .few)
-      (λ l k. valid _ _ (s .fine l k .0)) (λ l k. valid _ _ (s .fine l k .1)) (s .over)
+      (λ l k. fine-valid _ _ (s .fine l k .0)) (λ l k. fine-valid _ _ (s .fine l k .1)) (s .over)
 
   pub shows : ShowsAfter h (showOf (carried h))
   unfolding showOf

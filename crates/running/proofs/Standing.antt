@@ -20,7 +20,7 @@ use Rattle.enclosure.specs.RunningSums.{zeroRange, addPair}
 use Rattle.refusals.specs.Refusal.{ofMatrix}
 use Rattle.refusals.specs.Answer.{Answer, gives, refuses, unless, then, andThen}
 use Rattle.refusals.proofs.Answers.{passing-on}
-use Rattle.binary32.specs.Number.{valueOf, finites, patternOf}
+use Rattle.binary32.specs.Number.{finites, patternOf}
 use Rattle.binary32.proofs.Held.{is-finite, pattern-value, pattern-finite}
 use Rattle.intervals.specs.Conversion.{faultOf}
 use Rattle.matrices.specs.Entries.{refused}

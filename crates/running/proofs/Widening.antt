@@ -1,6 +1,6 @@
 -- A cell that is widened by an amount not below zero has no fault: its bounds are numbers, in order. The fixed amounts and those of a load that is accepted
 -- are such.
-use mathlib.Core.Path.{_≡_, sym, ap, subst, _∙_}
+use mathlib.Core.Path.{_≡_, sym, subst}
 use mathlib.Core.List.{List}
 use Prim.Native.Nat.{ℕ, _≤_, _<_}
 use native.Mathlib.Omega.{arith}
@@ -16,7 +16,7 @@ use Rattle.binary32.specs.Number.{valueOf}
 use Rattle.intervals.specs.Conversion.{faultOf}
 use Rattle.intervals.proofs.Back.{outward-fine}
 use Rattle.intervals.proofs.Faults.{fine-tells}
-use Rattle.sheets.specs.Wear.{unitsOf, fixedAmounts, amountIn}
+use Rattle.sheets.specs.Wear.{fixedAmounts, amountIn}
 use Rattle.sheets.specs.Load.{patternsOf, loadFault, loadOf}
 use Rattle.sheets.specs.Cell.{widenedOf}
 use Rattle.sheets.proofs.Amounts.{amount-right, table-is}

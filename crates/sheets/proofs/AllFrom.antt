@@ -1,15 +1,13 @@
 -- Laws of a test at each of several places: one place more, and all of them. Assumes nothing.
-use mathlib.Core.Path.{_≡_, refl, ap, subst, _∙_}
+use mathlib.Core.Path.{_≡_, refl, subst}
 use mathlib.Core.Bool.{Bool, true, false, cond}
 use Prim.Native.Nat.{ℕ, zero, suc, _+_, _≤_, _<_}
 use native.Mathlib.Omega.{arith}
 use lib.Dec.{eqb}
 use borrow.Author.Tests.{eqb-true, eqb-false}
 use Rattle.refusals.proofs.Answers.{and-tells}
+use Rattle.binary32.proofs.Held.{and-both}
 use Rattle.sheets.specs.AllFrom.{allFrom}
-
-pub and-is : (s t : Bool) → s ≡ true → t ≡ true → cond s t false ≡ true
-and-is s t e f = ap (λ (x : Bool). cond x t false) e ∙ f
 
 module _ (test : ℕ → Bool) where
   pub all-end : (i n : ℕ) → n ≡ 0 → true ≡ allFrom test i n
@@ -33,4 +31,4 @@ module _ (test : ℕ → Bool) where
   pub all-are : (n i : ℕ) → ((j : ℕ) → i ≤ j → j < i + n → test j ≡ true) → allFrom test i n ≡ true
   unfolding allFrom
   all-are zero i h = refl
-  all-are (suc n) i h = and-is _ _ (h i (omega arith) (omega arith)) (all-are n (i + 1) (λ j k l. h j (omega arith) (omega arith)))
+  all-are (suc n) i h = and-both _ _ (h i (omega arith) (omega arith)) (all-are n (i + 1) (λ j k l. h j (omega arith) (omega arith)))

@@ -17,11 +17,11 @@ use Rattle.rounding.proofs.Pattern.{val-injective}
 use Rattle.refusals.proofs.Answers.{and-tells}
 use Rattle.binary32.specs.Number.{signedBy, valueOf, finite}
 use Rattle.binary32.specs.Order.{magnitudeOf}
-use Rattle.binary32.proofs.Held.{is-finite}
+use Rattle.binary32.proofs.Held.{and-both, is-finite}
 use Rattle.binary32.proofs.Orders.{val-zero, at-most-tells, at-most-is}
 use Rattle.sheets.specs.Wear.{amountIn}
 use Rattle.sheets.specs.Load.{patternsOf, allFinite, rising, ascending, amountsFault, loadFault}
-use Rattle.sheets.proofs.AllFrom.{and-is, all-tells, all-are}
+use Rattle.sheets.proofs.AllFrom.{all-tells, all-are}
 use Rattle.sheets.proofs.Exact.{Zero}
 
 pub record Valid (amounts : List ℕ) : Type 0 where
@@ -71,7 +71,7 @@ module _ (amounts : List ℕ) where
   unfolding allFinite rising ascending
   tests v = (
     all-are _ 8 0 (λ e h k. v .numbers e (omega arith)),
-    and-is _ _ (eq-eqb _ 0 (of-zero _ (v .first))) (all-are _ 7 0 (λ e h k. at-most-is _ _ (v .rises e (e + 1) (omega arith) (omega arith)))),
+    and-both _ _ (eq-eqb _ 0 (of-zero _ (v .first))) (all-are _ 7 0 (λ e h k. at-most-is _ _ (v .rises e (e + 1) (omega arith) (omega arith)))),
   )
 
 -- ---- a load

@@ -1,6 +1,6 @@
 -- `running_value::coupling_running_start` meets its contract: a slice that is long enough gets the first value.
 use mathlib.Core.Path.{refl, ap, _∙_}
-use mathlib.Core.List.{List, _++_}
+use mathlib.Core.List.{_++_}
 use native.Mathlib.Omega.{arith}
 use lib.ListN.{drop}
 use borrow.Author.Needs.{needs}

@@ -1,13 +1,11 @@
 -- `worn::check_worn` meets its contract: below 2^127 nothing is refused; else the cell is checked and widening is worked out.
-use mathlib.Core.Path.{_≡_, sym, ap, _∙_}
+use mathlib.Core.Path.{sym, ap, _∙_}
 use Prim.Native.Nat.{ℕ}
 use native.Mathlib.Omega.{arith}
 use borrow.Author.Needs.{needs}
-use Rattle.refusals.specs.Answer.{Answer, refuses, refuse, done, then}
-use Rattle.refusals.proofs.Answers.{passing-on, passing-not, said}
+use Rattle.refusals.specs.Answer.{Answer, done, then}
+use Rattle.refusals.proofs.Answers.{said}
 use Rattle.intervals.specs.Conversion.{bounded}
-use Rattle.intervals.specs.declared.Bounded.{Bounded}
-use Rattle.sheets.specs.Cell.{widenedOf}
 use Rattle.sheets.proofs.Halves.{widened-half}
 use Rattle.sheets.proofs.worn.check_worn.Statement.{statement}
 use Rattle.sheets.proofs.worn.check_worn.Tie as tie
