@@ -7,7 +7,8 @@ use Prim.Native.Nat.{ℕ}
 use lib.IntN.{ℤ}
 use Rattle.rounding.specs.Format.{binary32}
 use Rattle.rounding.specs.Rounding.{up, down, near}
-use Rattle.refusals.specs.Answer.{gives, refuse}
+use Rattle.refusals.specs.declared.Refusal.{Refusal}
+use Rattle.refusals.specs.Answer.{Answer, gives, refuses, refuse}
 use Rattle.binary32.specs.declared.parts.Parts.{Parts}
 use Rattle.binary32.specs.declared.exact.Exact.the-variants.{Value, Unknown}
 use Rattle.binary32.specs.Number.{valueOf, finite, finites, held, hold}
@@ -60,3 +61,17 @@ checked-is op a b z f n = go (finites a b) refl
         ≡ cond t (answerOf (op (valueOf a) (valueOf b))) (refuse 3)
     go true e = ap (λ m. cond (finite (hold z m)) (gives (hold z m)) (refuse 5)) (with-some op a b e) ∙ told (op (valueOf a) (valueOf b)) n
     go false e = refl
+
+-- a refusal of an operation names no matrix and no cell: its number is all of it
+pub answer-number : (op : ℤ → ℤ → Option ℤ) (a b : ℕ) (r : Refusal) → refuses r ≡ answer op a b → refuse (r .number) ≡ answer op a b
+unfolding answer
+answer-number op a b r e = ap unnamed e ∙ go (finites a b) (op (valueOf a) (valueOf b))
+  where
+    unnamed : Answer ℕ → Answer ℕ
+    unnamed (gives p) = gives p
+    unnamed (refuses x) = refuse (x .number)
+
+    go : (t : Bool) (m : Option ℤ) → unnamed (cond t (answerOf m) (refuse 3)) ≡ cond t (answerOf m) (refuse 3)
+    go true (some v) = refl
+    go true none = refl
+    go false m = refl

@@ -8,6 +8,7 @@ use intervals::Bounded;
 use intervals::Converted;
 use intervals::to_bounds;
 use intervals::to_midrad;
+use refusals::Refusal;
 
 // Bounds to midpoint and radius. No pair of binary32 numbers that encloses the range has a smaller radius.
 #[no_mangle]
@@ -23,7 +24,7 @@ pub extern "C" fn coupling_to_midrad(lower: u32, upper: u32, mid: &mut u32, rad:
             *rad = r;
             0
         }
-        Converted::Refused(r) => r.code(),
+        Converted::Refused(n) => Refusal::of_matrix(n, 0).code(),
     }
 }
 
@@ -40,6 +41,6 @@ pub extern "C" fn coupling_to_bounds(mid: u32, rad: u32, lower: &mut u32, upper:
             *upper = hi;
             0
         }
-        Bounded::Refused(r) => r.code(),
+        Bounded::Refused(n) => Refusal::of_matrix(n, 0).code(),
     }
 }

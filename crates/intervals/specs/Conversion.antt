@@ -6,7 +6,7 @@ use Rattle.rounding.specs.Rounding.{up}
 use Rattle.enclosure.specs.Arithmetic.{of}
 use Rattle.enclosure.specs.Conversion.{mid, rad}
 use Rattle.enclosure.specs.Optimal.{Optimal}
-use Rattle.refusals.specs.Answer.{Answer, gives, refuses, passing, both}
+use Rattle.refusals.specs.Answer.{Answer, gives, refuses, refuse, passing, both}
 use Rattle.binary32.specs.Number.{valueOf, finites, patternOf, holdUp}
 use Rattle.binary32.specs.Operations.{midpoint, with₂, subDown, addUp}
 use Rattle.binary32.specs.Order.{atMost}
@@ -38,7 +38,7 @@ midUpOf lo hi = holdUp (with₂ (midpoint up) lo hi)
 -- the answer that a `Converted` of the code stands for
 abbrev pub converted : Converted → Answer (ℕ × ℕ)
 converted (C.MidRad m r) = gives (m, r)
-converted (C.Refused x) = refuses x
+converted (C.Refused n) = refuse n
 
 unfoldable pub midradOf : ℕ → ℕ → Answer (ℕ × ℕ)
 midradOf lo hi = passing (faultOf lo hi) (gives (midOf lo hi, radOf lo hi))
@@ -53,7 +53,7 @@ OptimalFor lo hi (refuses x) = Unit {0}
 -- the answer that a `Bounded` of the code stands for
 abbrev pub bounded : Bounded → Answer (ℕ × ℕ)
 bounded (B.Bounds lo hi) = gives (lo, hi)
-bounded (B.Refused x) = refuses x
+bounded (B.Refused n) = refuse n
 
 -- two bounds moved outward by w: lo - w rounded down, hi + w rounded up
 abbrev pub outwardOf : ℕ → ℕ → ℕ → Answer (ℕ × ℕ)

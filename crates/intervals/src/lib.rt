@@ -9,20 +9,19 @@ use binary32::midpoint::near_up;
 use binary32::order::at_most;
 use binary32::partial::sub_up;
 use binary32::sub_down;
-use refusals::Refusal;
 
 pub mod slices;
 
-// A midpoint and a radius, or the refusal.
+// A midpoint and a radius, or the number of the refusal.
 pub enum Converted {
     MidRad(u32, u32),
-    Refused(Refusal),
+    Refused(u8),
 }
 
-// A lower and an upper bound, or the refusal.
+// A lower and an upper bound, or the number of the refusal.
 pub enum Bounded {
     Bounds(u32, u32),
-    Refused(Refusal),
+    Refused(u8),
 }
 
 // The fault of a pair of bounds, as the number of a refusal: 3, a bound has exponent field 255; 4, the lower bound is above the upper; 0, none.
@@ -65,7 +64,7 @@ pub fn to_midrad(lo: u32, hi: u32) -> Converted
 {
     let fault = check(lo, hi);
     if fault != 0 {
-        return Converted::Refused(Refusal::of_matrix(fault, 0));
+        return Converted::Refused(fault);
     }
     let mid = near_up(lo, hi);
     Converted::MidRad(mid.near, radius(lo, hi, mid))
@@ -78,9 +77,9 @@ pub fn outward(lo: u32, hi: u32, amount: u32) -> Bounded
     match sub_down(lo, amount) {
         Rounded::Number(a) => match add_up(hi, amount) {
             Rounded::Number(b) => Bounded::Bounds(a, b),
-            Rounded::Refused(r) => Bounded::Refused(r),
+            Rounded::Refused(r) => Bounded::Refused(r.number),
         },
-        Rounded::Refused(r) => Bounded::Refused(r),
+        Rounded::Refused(r) => Bounded::Refused(r.number),
     }
 }
 
@@ -90,7 +89,7 @@ pub fn to_bounds(m: u32, r: u32) -> Bounded
 {
     let fault = check_radius(m, r);
     if fault != 0 {
-        return Bounded::Refused(Refusal::of_matrix(fault, 0));
+        return Bounded::Refused(fault);
     }
     outward(m, m, r)
 }

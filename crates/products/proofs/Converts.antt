@@ -1,7 +1,6 @@
 -- The conversion of a cell without a fault: what its midpoint and its radius are, and that it is not refused.
 use mathlib.Core.Path.{_≡_, sym, ap, _∙_}
 use Prim.Native.Nat.{ℕ}
-use Rattle.refusals.specs.declared.Refusal.{Refusal}
 use Rattle.refusals.specs.Answer.{gives}
 use Rattle.refusals.proofs.Answers.{gives-injective, not-both, passing-on}
 use Rattle.intervals.specs.declared.Converted.{Converted}
@@ -24,5 +23,5 @@ module _ (X : Matrix) (c : ℕ) (fine : faultAt X c ≡ 0) (z : Converted) (e : 
   pub fine-rad : (m r : ℕ) → z ≡ MidRad m r → r ≡ radAt X c
   fine-rad m r f = ap (λ p. p .1) (pair-is m r f)
 
-  pub fine-refused : (x : Refusal) → z ≡ Refused x → ⊥
-  fine-refused x f = not-both (sym (ap converted f) ∙ is)
+  pub fine-refused : (n : ℕ) → z ≡ Refused n → ⊥
+  fine-refused n f = not-both (sym (ap converted f) ∙ is)

@@ -21,7 +21,6 @@ use crate::sums::Sums;
 use binary32::finite::are_finite;
 use intervals::Bounded;
 use intervals::check;
-use refusals::Refusal;
 
 // The fault of a pair and of the sums so far: 3 or 4 of the first cell, then of the second; 3, a sum is not a number; 0, none.
 fn pair_fault(lower: u32, upper: u32, al: u32, au: u32, bl: u32, bu: u32) -> u8
@@ -62,11 +61,11 @@ pub fn add_pair(lower: u32, upper: u32, al: u32, au: u32, bl: u32, bu: u32) -> B
 {
     let fault = pair_fault(lower, upper, al, au, bl, bu);
     if fault != 0 {
-        return Bounded::Refused(Refusal::of_matrix(fault, 0));
+        return Bounded::Refused(fault);
     }
     let s = step_pair(Sums::of_bounds(lower, upper), Apart::new(al, au), bl, bu);
     if s.refused() {
-        return Bounded::Refused(Refusal::of_matrix(5, 0));
+        return Bounded::Refused(5);
     }
     Bounded::Bounds(s.lower(), s.upper())
 }

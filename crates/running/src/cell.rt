@@ -3,7 +3,6 @@ ghost use mathlib.Core.Path.{_≡_};
 ghost use Rattle.intervals.specs.Conversion.{bounded};
 ghost use Rattle.running.specs.Gauged.{gaugedOf};
 use intervals::Bounded;
-use refusals::Refusal;
 use sheets::worn;
 
 // A cell as it was gauged: its bounds and its wear class.
@@ -22,7 +21,7 @@ impl Gauged {
         ensures { λ r. ⌜ bounded r ≡ gaugedOf (now (amounts .entry)) self ⌝ }
     {
         if self.class > LAST_CLASS {
-            return Bounded::Refused(Refusal::of_matrix(10, 0));
+            return Bounded::Refused(10);
         }
         let class = self.class as usize;
         worn::widened(self.lower, self.upper, amounts[class])

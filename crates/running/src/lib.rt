@@ -58,13 +58,13 @@ impl Running {
         ensures { λ r. ⌜ bounded r ≡ sumsOf self a b ⌝ }
     {
         if self.pairs >= MOST_PAIRS {
-            return Bounded::Refused(Refusal::of_matrix(1, 0));
+            return Bounded::Refused(1);
         }
         let amounts = self.amounts;
         match a.widened(&amounts) {
-            Bounded::Refused(r) => Bounded::Refused(r),
+            Bounded::Refused(n) => Bounded::Refused(n),
             Bounded::Bounds(al, au) => match b.widened(&amounts) {
-                Bounded::Refused(r) => Bounded::Refused(r),
+                Bounded::Refused(n) => Bounded::Refused(n),
                 Bounded::Bounds(bl, bu) => add_pair(self.lower, self.upper, al, au, bl, bu),
             },
         }
@@ -90,8 +90,8 @@ impl Running {
                     },
                 }
             }
-            Bounded::Refused(r) => Next {
-                outcome: Outcome::Refused(r),
+            Bounded::Refused(n) => Next {
+                outcome: Outcome::Refused(Refusal::of_matrix(n, 0)),
                 value: self,
             },
         }

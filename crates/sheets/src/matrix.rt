@@ -31,10 +31,10 @@ fn passed(kind: usize, amounts: &[u32; 8], columns: usize, r: Record) -> Step
             lower: a,
             upper: b,
         }),
-        Bounded::Refused(x) => {
+        Bounded::Refused(n) => {
             let i = row as u8;
             let j = column as u8;
-            Step::Refused(Refusal::of_cell(x.number, x.matrix, i, j))
+            Step::Refused(Refusal::of_cell(n, 0, i, j))
         }
     }
 }

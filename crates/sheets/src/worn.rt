@@ -29,7 +29,7 @@ pub fn widened(lower: u32, upper: u32, amount: u32) -> Bounded
 {
     let fault = worn_fault(lower, upper, amount);
     if fault != 0 {
-        return Bounded::Refused(Refusal::of_matrix(fault, 0));
+        return Bounded::Refused(fault);
     }
     widen(lower, upper, amount)
 }
@@ -52,6 +52,6 @@ pub fn check_worn(lower: u32, upper: u32, amount: u32) -> Outcome
     }
     match widened(lower, upper, amount) {
         Bounded::Bounds(_, _) => Outcome::Done,
-        Bounded::Refused(r) => Outcome::Refused(r),
+        Bounded::Refused(n) => Outcome::Refused(Refusal::of_matrix(n, 0)),
     }
 }

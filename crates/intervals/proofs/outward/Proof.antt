@@ -3,6 +3,7 @@ use mathlib.Core.Path.{ap, ap₂, sym, _∙_}
 use borrow.Author.Needs.{needs}
 use Rattle.refusals.specs.Answer.{both}
 use Rattle.binary32.specs.Operations.{rounded, addUp}
+use Rattle.binary32.proofs.Exacts.{answer-number}
 use Rattle.intervals.proofs.outward.Statement.{statement}
 use Rattle.intervals.proofs.outward.Tie as tie
 
@@ -34,13 +35,13 @@ returns-2 : tie.Need-returns-2
 returns-2 c =
     let u = c .before .before .before in
     let l = u .before .before .before .before in
-    ap₂ both (sym (ap rounded (u .before .before .a .given .1)) ∙ l .sub-down .ensures) (sym (ap rounded (c .before .r .given .1)) ∙ u .add-up .ensures)
+    ap₂ both (sym (ap rounded (u .before .before .a .given .1)) ∙ l .sub-down .ensures) (answer-number _ _ _ _ (sym (ap rounded (c .before .r .given .1)) ∙ u .add-up .ensures))
 
 returns-3 : tie.Need-returns-3
 returns-3 c =
     let l = c .before .before .before in
     let g = l .before .args in
-    ap (λ x. both x (addUp (g .hi) (g .amount))) (sym (ap rounded (c .before .r2 .given .1)) ∙ l .sub-down .ensures)
+    ap (λ x. both x (addUp (g .hi) (g .amount))) (answer-number _ _ _ _ (sym (ap rounded (c .before .r2 .given .1)) ∙ l .sub-down .ensures))
 
 pub outward-spec : {M : Type 1} → statement M
 outward-spec =

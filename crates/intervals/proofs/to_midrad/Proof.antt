@@ -2,7 +2,7 @@
 use mathlib.Core.Path.{ap, ap₂, sym, _∙_, subst₂}
 use Prim.Native.Nat.{ℕ}
 use borrow.Author.Needs.{needs}
-use Rattle.refusals.specs.Answer.{gives, refuses, refuse}
+use Rattle.refusals.specs.Answer.{gives, refuse}
 use Rattle.refusals.proofs.Answers.{passing-on, passing-not}
 use Rattle.intervals.specs.Conversion.{midradOf, OptimalFor}
 use Rattle.intervals.proofs.Faults.{fine-tells}
@@ -13,14 +13,11 @@ use Rattle.intervals.proofs.to_midrad.Tie as tie
 check-requires : tie.Need-check-requires
 check-requires c κs = search needs
 
-of-matrix-requires : tie.Need-of-matrix-requires
-of-matrix-requires c κs = search needs
-
 returns : tie.Need-returns
 unfolding midradOf
 returns c =
-    let k = c .before .before in
-    (ap refuses (c .of-matrix .ensures) ∙ ap refuse (k .check .ensures) ∙ passing-not _ _ (λ e. c .before .if1 .taken (k .check .ensures ∙ e)), tt {0})
+    let k = c .before .check .ensures in
+    (ap refuse k ∙ passing-not _ _ (λ e. c .if1 .taken (k ∙ e)), tt {0})
 
 near-up-requires : tie.Need-near-up-requires
 near-up-requires c κs = search needs
@@ -49,4 +46,4 @@ returns-2 c =
     )
 
 pub to-midrad-spec : {M : Type 1} → statement M
-to-midrad-spec = tie.close (tie.spec check-requires of-matrix-requires returns near-up-requires radius-requires returns-2)
+to-midrad-spec = tie.close (tie.spec check-requires returns near-up-requires radius-requires returns-2)

@@ -6,7 +6,7 @@ use borrow.Author.Needs.{needs}
 use Rattle.rounding.specs.Format.{binary32}
 use Rattle.enclosure.specs.Arithmetic.{of}
 use Rattle.enclosure.specs.RunningSums.{addPair}
-use Rattle.refusals.specs.Answer.{Answer, gives, refuses, refuse}
+use Rattle.refusals.specs.Answer.{Answer, gives, refuse}
 use Rattle.refusals.proofs.Answers.{passing-not}
 use Rattle.products.specs.Apart.{Cells}
 use Rattle.products.specs.Classical.{apartCell, patternCell}
@@ -30,14 +30,11 @@ second s = (s .args .bl, s .args .bu)
 pair-fault-requires : tie.Need-pair-fault-requires
 pair-fault-requires c κs = search needs
 
-of-matrix-requires : tie.Need-of-matrix-requires
-of-matrix-requires c κs = search needs
-
 returns : tie.Need-returns
 unfolding pairAdded
 returns c =
-    let k = c .before .before .pair-fault .ensures in
-    ap refuses (c .of-matrix .ensures) ∙ ap refuse k ∙ passing-not _ _ (λ e. c .before .if1 .taken (k ∙ e))
+    let k = c .before .pair-fault .ensures in
+    ap refuse k ∙ passing-not _ _ (λ e. c .if1 .taken (k ∙ e))
 
 -- none has a fault
 fault : (c : tie.Else1) → pairFault (sums (c .before .before)) (first (c .before .before)) (second (c .before .before)) ≡ 0
@@ -79,15 +76,11 @@ holds c =
 refused-requires : tie.Need-refused-requires
 refused-requires c κs = search needs
 
-of-matrix-requires-2 : tie.Need-of-matrix-requires-2
-of-matrix-requires-2 c κs = search needs
-
 returns-2 : tie.Need-returns-2
 returns-2 c =
-    let r = c .before .before in
+    let r = c .before in
     let t = r .before in
-    ap refuses (c .of-matrix2 .ensures)
-    ∙ added-refused _ _ _ (t .step-pair .result) (fault (t .before .before .before)) (holds t) (sym (r .refused .ensures) ∙ c .before .if2 .taken)
+    added-refused _ _ _ (t .step-pair .result) (fault (t .before .before .before)) (holds t) (sym (r .refused .ensures) ∙ c .if2 .taken)
 
 -- the sums go on
 going : (c : tie.Else2) → refusedSums (c .before .before .step-pair .result) ≡ false
@@ -114,13 +107,11 @@ add-pair-spec =
     tie.close
     (tie.spec
     pair-fault-requires
-    of-matrix-requires
     returns
     of-bounds-requires
     new-requires
     step-pair-requires
     refused-requires
-    of-matrix-requires-2
     returns-2
     lower-requires
     upper-requires

@@ -1,25 +1,21 @@
 -- `running::Running::sums` meets its contract: the number of pairs, the first cell, the second, and then the sums.
-use mathlib.Core.Path.{sym, ap, _∙_}
+use mathlib.Core.Path.{sym, _∙_}
 use native.Mathlib.Omega.{arith}
 use borrow.Author.Needs.{needs}
-use Rattle.refusals.specs.Answer.{refuses}
 use Rattle.refusals.proofs.Answers.{said}
 use Rattle.intervals.specs.Conversion.{bounded}
 use Rattle.running.proofs.Calls.{full, first-refused, second-refused, both-given}
 use Rattle.running.proofs.Running.sums.Statement.{statement}
 use Rattle.running.proofs.Running.sums.Tie as tie
 
-of-matrix-requires : tie.Need-of-matrix-requires
-of-matrix-requires c κs = search needs
-
 returns : tie.Need-returns
-returns c = ap refuses (c .of-matrix .ensures) ∙ full _ _ _ (omega (arith, c .before .if1 .taken))
+returns c = full _ _ _ (omega (arith, c .if1 .taken))
 
 widened-requires : tie.Need-widened-requires
 widened-requires c κs = search needs
 
-enum-known-r : tie.Need-enum-known-r
-enum-known-r c = search needs
+enum-known-n : tie.Need-enum-known-n
+enum-known-n c = search needs
 
 enum-known-al : tie.Need-enum-known-al
 enum-known-al c = search needs
@@ -27,8 +23,8 @@ enum-known-al c = search needs
 widened-requires-2 : tie.Need-widened-requires-2
 widened-requires-2 c κs = search needs
 
-enum-known-r-2 : tie.Need-enum-known-r-2
-enum-known-r-2 c = search needs
+enum-known-n-2 : tie.Need-enum-known-n-2
+enum-known-n-2 c = search needs
 
 enum-known-bl : tie.Need-enum-known-bl
 enum-known-bl c = search needs
@@ -39,7 +35,7 @@ add-pair-requires c κs = search needs
 returns-2 : tie.Need-returns-2
 returns-2 c =
     let w = c .before .before .before in
-    first-refused _ _ _ _ (omega (arith, w .before .before .before .if1 .left)) (sym (said bounded (w .widened .ensures) (c .before .r .given .1)))
+    first-refused _ _ _ _ (omega (arith, w .before .before .before .if1 .left)) (sym (said bounded (w .widened .ensures) (c .before .n .given .1)))
 
 returns-3 : tie.Need-returns-3
 returns-3 c =
@@ -47,7 +43,7 @@ returns-3 c =
     let al = w2 .before .before .before in
     let w = al .before .before in
     second-refused _ _ _ _ _ (omega (arith, w .before .before .before .if1 .left)) (sym (said bounded (w .widened .ensures) (al .al .given .1)))
-    (sym (said bounded (w2 .widened2 .ensures) (c .before .r2 .given .1)))
+    (sym (said bounded (w2 .widened2 .ensures) (c .before .n2 .given .1)))
 
 returns-4 : tie.Need-returns-4
 returns-4 c =
@@ -63,13 +59,12 @@ pub sums-spec : {M : Type 1} → statement M
 sums-spec =
     tie.close
     (tie.spec
-    of-matrix-requires
     returns
     widened-requires
-    enum-known-r
+    enum-known-n
     enum-known-al
     widened-requires-2
-    enum-known-r-2
+    enum-known-n-2
     enum-known-bl
     add-pair-requires
     returns-2

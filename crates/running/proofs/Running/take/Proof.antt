@@ -1,9 +1,9 @@
 -- `running::Running::take` meets its contract: by its sums, and after any calls by the pairs taken.
-use mathlib.Core.Path.{_≡_, refl, sym}
+use mathlib.Core.Path.{_≡_, refl, sym, ap}
 use Prim.Native.Nat.{_<_}
 use native.Mathlib.Omega.{arith}
 use borrow.Author.Needs.{needs}
-use Rattle.refusals.specs.Answer.{gives}
+use Rattle.refusals.specs.Answer.{gives, refuses}
 use Rattle.refusals.specs.declared.Outcome.the-variants as O
 use Rattle.refusals.proofs.Answers.{said}
 use Rattle.intervals.specs.Conversion.{bounded}
@@ -31,8 +31,11 @@ add-pairs c =
     let h : a .self .pairs < 32 = sums-room (a .self) (a .a) (a .b) _ (given t) in
     record { fits = omega arith }
 
-enum-known-r : tie.Need-enum-known-r
-enum-known-r c = search needs
+enum-known-n : tie.Need-enum-known-n
+enum-known-n c = search needs
+
+of-matrix-requires : tie.Need-of-matrix-requires
+of-matrix-requires c κs = search needs
 
 returns : tie.Need-returns
 returns c =
@@ -42,11 +45,11 @@ returns c =
 
 returns-2 : tie.Need-returns-2
 returns-2 c =
-    let s = c .before .before .before in
+    let s = c .before .before .before .before in
     let a = s .before .args in
-    take-left (a .self) (a .a) (a .b) (O.Refused (c .before .r .given .0 .0)) (a .self) _
-    (take-refused (a .self) (a .a) (a .b) _ (sym (said bounded (s .sums .ensures) (c .before .r .given .1)))) refl refl
+    take-left (a .self) (a .a) (a .b) (O.Refused (c .of-matrix .result)) (a .self) _
+    (take-refused (a .self) (a .a) (a .b) _ (sym (said bounded (s .sums .ensures) (c .before .before .n .given .1)))) (ap refuses (c .of-matrix .ensures)) refl
 
 pub take-spec : {M : Type 1} → statement M
 take-spec =
-    tie.close (tie.spec sums-requires enum-known-lower add-pairs enum-known-r returns returns-2)
+    tie.close (tie.spec sums-requires enum-known-lower add-pairs enum-known-n of-matrix-requires returns returns-2)

@@ -33,8 +33,8 @@ add-t16 c =
     let a = c .before .before .before .before .before .args in
     omega (arith, small (a .r .row) (a .columns) (omega arith) (omega arith))
 
-enum-known-x : tie.Need-enum-known-x
-enum-known-x c = search needs
+enum-known-n : tie.Need-enum-known-n
+enum-known-n c = search needs
 
 cast-i : tie.Need-cast-i
 cast-i c = search needs
@@ -60,7 +60,7 @@ returns : tie.Need-returns
 returns c = cell (c .before .before .before) _ (c .before .a .given .1)
 
 returns-2 : tie.Need-returns-2
-returns-2 c = ap refuses (c .of-cell .ensures) ∙ cell (c .before .before .before .before) _ (c .before .before .x .given .1)
+returns-2 c = ap refuses (c .of-cell .ensures) ∙ cell (c .before .before .before .before) _ (c .before .before .n .given .1)
 
 pub passed-spec : {M : Type 1} → statement M
 passed-spec =
@@ -71,7 +71,7 @@ passed-spec =
     enum-known-a
     mul-t15
     add-t16
-    enum-known-x
+    enum-known-n
     cast-i
     cast-j
     of-cell-requires

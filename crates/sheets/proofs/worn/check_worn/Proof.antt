@@ -3,7 +3,7 @@ use mathlib.Core.Path.{sym, ap, _∙_}
 use Prim.Native.Nat.{ℕ}
 use native.Mathlib.Omega.{arith}
 use borrow.Author.Needs.{needs}
-use Rattle.refusals.specs.Answer.{Answer, done, then}
+use Rattle.refusals.specs.Answer.{Answer, refuses, done, then}
 use Rattle.refusals.proofs.Answers.{said}
 use Rattle.intervals.specs.Conversion.{bounded}
 use Rattle.sheets.proofs.Halves.{widened-half}
@@ -38,14 +38,17 @@ widened-requires c κs = search needs
 enum-told : tie.Need-enum-told
 enum-told c = search needs
 
-enum-known-r : tie.Need-enum-known-r
-enum-known-r c = search needs
+enum-known-n : tie.Need-enum-known-n
+enum-known-n c = search needs
+
+of-matrix-requires : tie.Need-of-matrix-requires
+of-matrix-requires c κs = search needs
 
 returns-2 : tie.Need-returns-2
 returns-2 c = ap verdict (said bounded (c .before .before .widened .ensures) (c .enum-told .given .1))
 
 returns-3 : tie.Need-returns-3
-returns-3 c = ap verdict (said bounded (c .before .before .before .widened .ensures) (c .before .r .given .1))
+returns-3 c = ap refuses (c .of-matrix .ensures) ∙ ap verdict (said bounded (c .before .before .before .before .widened .ensures) (c .before .before .n .given .1))
 
 pub check-worn-spec : {M : Type 1} → statement M
 check-worn-spec =
@@ -57,6 +60,7 @@ check-worn-spec =
     returns
     widened-requires
     enum-told
-    enum-known-r
+    enum-known-n
+    of-matrix-requires
     returns-2
     returns-3)

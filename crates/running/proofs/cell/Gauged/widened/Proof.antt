@@ -1,17 +1,13 @@
 -- `running::cell::Gauged::widened` meets its contract: the class is checked, then the cell is widened by its amount.
-use mathlib.Core.Path.{ap, _∙_}
+use mathlib.Core.Path.{_∙_}
 use native.Mathlib.Omega.{arith}
 use borrow.Author.Needs.{needs}
-use Rattle.refusals.specs.Answer.{refuses}
 use Rattle.running.proofs.Calls.{class-refused, class-taken}
 use Rattle.running.proofs.cell.Gauged.widened.Statement.{statement}
 use Rattle.running.proofs.cell.Gauged.widened.Tie as tie
 
-of-matrix-requires : tie.Need-of-matrix-requires
-of-matrix-requires c κs = search needs
-
 returns : tie.Need-returns
-returns c = ap refuses (c .of-matrix .ensures) ∙ class-refused _ _ (omega (arith, c .before .if1 .taken))
+returns c = class-refused _ _ (omega (arith, c .if1 .taken))
 
 cast-class : tie.Need-cast-class
 cast-class c = search needs
@@ -32,7 +28,6 @@ pub widened-spec : {M : Type 1} → statement M
 widened-spec =
     tie.close
     (tie.spec
-    of-matrix-requires
     returns
     cast-class
     mul-widened
