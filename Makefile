@@ -5,7 +5,7 @@
 
 PREFIX ?= /usr/local
 archive := target/staticlib/libcoupling.a
-prove := .ci/prove 'Proving what is not proved yet: about 5 minutes on two cores if that is everything.' check print_product
+prove := .ci/prove 'Proving what is not proved yet: 5 to 9 minutes on two cores if that is everything.' check print_product
 samples := target/samples/motor_to_lever.sheet target/samples/lever_to_bar.sheet
 
 help: ## list the commands
@@ -47,7 +47,7 @@ uninstall: ## remove what install put under PREFIX
 	@rm -f $(DESTDIR)$(PREFIX)/lib/libcoupling.a $(DESTDIR)$(PREFIX)/lib/pkgconfig/coupling.pc
 
 $(archive): $(wildcard crates/*/src/*.rt)
-	@.ci/prove 'Proving the library before it is built: about 5 minutes on two cores if nothing is proved yet.' staticlib coupling
+	@.ci/prove 'Proving the library before it is built: 5 to 9 minutes on two cores if nothing is proved yet.' staticlib coupling
 
 fmt: ## format the Rattle sources
 	@rt fmt

@@ -128,13 +128,15 @@ def test_pipes():
 
 
 def test_interrupt():
-    """The tool has opened the pipe as soon as it opens here, so the interrupt meets it while it reads."""
+    """The tool has opened the pipe as soon as it opens here, so the interrupt meets it while it reads. Where the tests run in the
+    background of a shell interrupts are ignored, and the tool would ignore them too, unless they are handled here."""
+    signal.signal(signal.SIGINT, signal.default_int_handler)
     os.mkfifo("fifo")
     for words in (["pack", "fifo"], ["show", "fifo"]):
         with subprocess.Popen([TOOL, *words], stdout=subprocess.PIPE, stderr=subprocess.PIPE) as child:
             with open("fifo", "wb"):
                 child.send_signal(signal.SIGINT)
-                met = child.communicate()
+                met = child.communicate(timeout=60)
             assert (child.returncode, *met) == (130, b"", b""), (child.returncode, met)
     ok("tools/sheet, interrupted", "2 commands, status 130 and no line")
 
