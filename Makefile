@@ -5,15 +5,15 @@
 
 PREFIX ?= /usr/local
 archive := target/staticlib/libcoupling.a
-prove := .ci/prove 'Proving what is not proved yet: 5 to 9 minutes on two cores if that is everything.' check print_product
+program := target/bin/print_product
+sources := $(wildcard crates/*/src/*.rt)
 samples := target/samples/motor_to_lever.sheet target/samples/lever_to_bar.sheet
 
 help: ## list the commands
 	@sed -n 's/^\([a-z]*\): .*## /make \1	/p' $(MAKEFILE_LIST) | expand -t 16
 
-run: $(samples) ## multiply two sample sheets by method 1 and print the product
-	@$(prove)
-	@printf 1 | cat - $(samples) | target/bin/print_product >target/samples/product
+run: $(program) $(samples) ## multiply two sample sheets by method 1 and print the product
+	@printf 1 | cat - $(samples) | $(program) >target/samples/product
 	@cat target/samples/product
 	@tools/sheet table <target/samples/product
 
@@ -21,11 +21,11 @@ target/samples/%.sheet: samples/%.txt $(wildcard tools/*)
 	@mkdir -p $(@D)
 	@tools/sheet pack $< >$@
 
-test: ## all tests, from nothing: ends in 'N passed, 0 failed'
+test: ## the gate, all proofs and all tests: ends in 'N passed, 0 failed'
 	@.ci/run
 
 check: ## prove what changed since the last check
-	@rt check
+	@rt all check
 
 bench: $(archive) ## time operations, sheets, sheet jobs, trains and running entries beside their peers; ROUNDS=N sets the rounds
 	@$(MAKE) --no-print-directory -C bench $(if $(ROUNDS),ROUNDS=$(ROUNDS))
@@ -46,11 +46,16 @@ uninstall: ## remove what install put under PREFIX
 	@rm -f $(DESTDIR)$(PREFIX)/include/coupling.h $(DESTDIR)$(PREFIX)/include/coupling_sentences.h
 	@rm -f $(DESTDIR)$(PREFIX)/lib/libcoupling.a $(DESTDIR)$(PREFIX)/lib/pkgconfig/coupling.pc
 
-$(archive): $(wildcard crates/*/src/*.rt)
-	@.ci/prove 'Proving the library before it is built: 5 to 9 minutes on two cores if nothing is proved yet.' staticlib coupling
+$(archive): $(sources)
+	@.ci/prove 'Building the archive; what is not proved yet is proved first, which takes minutes if that is everything.' coupling_c lib
+	@install -D -m 644 crates/coupling_c/out/libcoupling_c.a $@
+
+$(program): $(sources)
+	@.ci/prove 'Building the program; what is not proved yet is proved first, which takes minutes if that is everything.' print_product run </dev/null
+	@install -D crates/print_product/out/print_product $@
 
 fmt: ## format the Rattle sources
-	@rt fmt
+	@for crate in crates/*/; do (cd "$$crate" && rt fmt) || exit 1; done
 
-clean: ## remove everything that was built
-	@rm -rf target
+clean: ## remove everything that was built, and what was kept of proofs
+	@rm -rf target crates/*/out

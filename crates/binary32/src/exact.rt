@@ -7,7 +7,7 @@ use crate::finite::are_finite;
 use crate::parts::{Parts, decode, power};
 
 // Value: the exact value, or one with the same roundings. Unknown: an operand has exponent field 255.
-#[derive(Drop)]
+#[derive(Clone, Copy)]
 pub enum Exact {
     Value(Parts),
     Unknown,

@@ -17,7 +17,7 @@ use crate::Binary32;
 use crate::parts::{Parts, magnitude, power, smaller};
 
 // The significands of the three roundings. Each result is its significand × 2^shift units.
-#[derive(Drop)]
+#[derive(Clone, Copy)]
 pub struct Ways {
     pub down: i64,
     pub up: i64,

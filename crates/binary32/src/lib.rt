@@ -1,5 +1,7 @@
 // The operations of binary32 on 32-bit patterns: each rounds the exact result once. Only integer arithmetic is used, no machine floats.
 // The pattern of minus zero is read as zero, and a zero result is the pattern 0.
+#![tactic(auto)]
+
 ghost use Rattle.std.specs.Prelude.{◌≡◌};
 ghost use Rattle.binary32.specs.Operations.{add_down, add_up, add_near, sub_down, sub_up, sub_near, mul_down, mul_up, mul_near};
 ghost use Rattle.binary32.specs.Operations.{midpoint_down, midpoint_up, midpoint_near, rounded, checked_of};
@@ -16,7 +18,7 @@ mod parts;
 use refusals::Refusal;
 
 // The format: its precision, its unit, 2^-149, and the patterns of its extreme values.
-#[derive(Drop)]
+#[derive(Clone, Copy)]
 pub struct Binary32 {
     pub bits: u32,
 }
@@ -39,7 +41,7 @@ impl Binary32 {
 }
 
 // The answer of an operation: the pattern of the result, or refusal 3 (an operand has exponent field 255) or 5 (the result is too large for binary32).
-#[derive(Drop)]
+#[derive(Clone, Copy)]
 pub enum Rounded {
     Number(u32),
     Refused(Refusal),

@@ -12,7 +12,7 @@ use crate::funnel::{cut, pack};
 use crate::parts::Parts;
 
 // A value rounded to nearest and rounded up; infinity where there is no finite result.
-#[derive(Drop)]
+#[derive(Clone, Copy)]
 pub struct NearUp {
     pub near: u32,
     pub up: u32,

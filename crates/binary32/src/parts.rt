@@ -4,7 +4,7 @@ ghost use Rattle.binary32.specs.Number.{Finite, signed_by};
 ghost use Rattle.binary32.specs.Steps.{Decoded};
 
 // sig × 2^exp: in units for the number of a pattern, in 2^-149 of a unit for an exact product or sum.
-#[derive(Drop)]
+#[derive(Clone, Copy)]
 pub struct Parts {
     pub sig: i64,
     pub exp: u32,

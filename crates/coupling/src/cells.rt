@@ -22,8 +22,7 @@ fn sizes_code(s: Shape) -> u32
 }
 
 // Reads the matrix of a sheet, each cell widened by its wear, into the front of the two slices; a refusal leaves both as they were.
-#[unsafe(no_mangle)]
-pub extern "C" fn coupling_read(sheet: &[u8], lowers: &mut [u32], uppers: &mut [u32]) -> u32
+pub fn coupling_read(sheet: &[u8], lowers: &mut [u32], uppers: &mut [u32]) -> u32
     ensures answer { result ≡ coded sizes_code (read_of sheet.now (length lowers.old) (length uppers.old)) }
     ensures below { lowers.new ≡ lowers_after sheet.now
         (read_of sheet.now (length lowers.old) (length uppers.old)) lowers.old }
@@ -34,8 +33,7 @@ pub extern "C" fn coupling_read(sheet: &[u8], lowers: &mut [u32], uppers: &mut [
 }
 
 // The same with a mill's own amounts for the wear classes, eight patterns in 32 bytes, in the place of the fixed ones.
-#[unsafe(no_mangle)]
-pub extern "C" fn coupling_read_with(
+pub fn coupling_read_with(
     amounts: &[u8],
     sheet: &[u8],
     lowers: &mut [u32],
@@ -52,8 +50,7 @@ pub extern "C" fn coupling_read_with(
 }
 
 // Writes the sheet of a matrix into the front of out; a refusal leaves out as it was. A read of the sheet gives a matrix with the same values.
-#[unsafe(no_mangle)]
-pub extern "C" fn coupling_write(
+pub fn coupling_write(
     rows: usize,
     columns: usize,
     lowers: &[u32],
@@ -71,8 +68,7 @@ pub extern "C" fn coupling_write(
 
 // A times B by method 1, 3, 4, 5 or 7: the bounds of the product in lo and up, the midpoints and radii of A and B in ma, ra, mb and rb.
 // The bounds enclose the product of any two matrices of fractions whose entries lie in the cells of A and B.
-#[unsafe(no_mangle)]
-pub extern "C" fn coupling_product(
+pub fn coupling_product(
     method: u32,
     a_rows: usize,
     a_columns: usize,

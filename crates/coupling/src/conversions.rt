@@ -9,8 +9,7 @@ use intervals::{Bounded, Converted, to_bounds, to_midrad};
 use refusals::Refusal;
 
 // Bounds to midpoint and radius. No pair of binary32 numbers that encloses the range has a smaller radius.
-#[unsafe(no_mangle)]
-pub extern "C" fn coupling_to_midrad(lower: u32, upper: u32, mid: &mut u32, rad: &mut u32) -> u32
+pub fn coupling_to_midrad(lower: u32, upper: u32, mid: &mut u32, rad: &mut u32) -> u32
     ensures answer { result ≡ coded (λ _. 0) (midrad_of lower upper) }
     ensures first { mid.new ≡ first_after (midrad_of lower upper) mid.old }
     ensures second { rad.new ≡ second_after (midrad_of lower upper) rad.old }
@@ -27,8 +26,7 @@ pub extern "C" fn coupling_to_midrad(lower: u32, upper: u32, mid: &mut u32, rad:
 }
 
 // Midpoint and radius to bounds.
-#[unsafe(no_mangle)]
-pub extern "C" fn coupling_to_bounds(mid: u32, rad: u32, lower: &mut u32, upper: &mut u32) -> u32
+pub fn coupling_to_bounds(mid: u32, rad: u32, lower: &mut u32, upper: &mut u32) -> u32
     ensures answer { result ≡ coded (λ _. 0) (bounds_of mid rad) }
     ensures first { lower.new ≡ first_after (bounds_of mid rad) lower.old }
     ensures second { upper.new ≡ second_after (bounds_of mid rad) upper.old }

@@ -17,85 +17,73 @@ fn pattern_for(r: Rounded) -> u32
     }
 }
 
-#[unsafe(no_mangle)]
-pub extern "C" fn coupling_add_down(a: u32, b: u32) -> u32
+pub fn coupling_add_down(a: u32, b: u32) -> u32
     ensures { result ≡ pattern_for (add_down a b) }
 {
     pattern_for(binary32::add_down(a, b))
 }
 
-#[unsafe(no_mangle)]
-pub extern "C" fn coupling_add_up(a: u32, b: u32) -> u32
+pub fn coupling_add_up(a: u32, b: u32) -> u32
     ensures { result ≡ pattern_for (add_up a b) }
 {
     pattern_for(binary32::add_up(a, b))
 }
 
-#[unsafe(no_mangle)]
-pub extern "C" fn coupling_add_near(a: u32, b: u32) -> u32
+pub fn coupling_add_near(a: u32, b: u32) -> u32
     ensures { result ≡ pattern_for (add_near a b) }
 {
     pattern_for(binary32::add_near(a, b))
 }
 
-#[unsafe(no_mangle)]
-pub extern "C" fn coupling_sub_down(a: u32, b: u32) -> u32
+pub fn coupling_sub_down(a: u32, b: u32) -> u32
     ensures { result ≡ pattern_for (sub_down a b) }
 {
     pattern_for(binary32::sub_down(a, b))
 }
 
-#[unsafe(no_mangle)]
-pub extern "C" fn coupling_sub_up(a: u32, b: u32) -> u32
+pub fn coupling_sub_up(a: u32, b: u32) -> u32
     ensures { result ≡ pattern_for (sub_up a b) }
 {
     pattern_for(binary32::sub_up(a, b))
 }
 
-#[unsafe(no_mangle)]
-pub extern "C" fn coupling_sub_near(a: u32, b: u32) -> u32
+pub fn coupling_sub_near(a: u32, b: u32) -> u32
     ensures { result ≡ pattern_for (sub_near a b) }
 {
     pattern_for(binary32::sub_near(a, b))
 }
 
-#[unsafe(no_mangle)]
-pub extern "C" fn coupling_mul_down(a: u32, b: u32) -> u32
+pub fn coupling_mul_down(a: u32, b: u32) -> u32
     ensures { result ≡ pattern_for (mul_down a b) }
 {
     pattern_for(binary32::mul_down(a, b))
 }
 
-#[unsafe(no_mangle)]
-pub extern "C" fn coupling_mul_up(a: u32, b: u32) -> u32
+pub fn coupling_mul_up(a: u32, b: u32) -> u32
     ensures { result ≡ pattern_for (mul_up a b) }
 {
     pattern_for(binary32::mul_up(a, b))
 }
 
-#[unsafe(no_mangle)]
-pub extern "C" fn coupling_mul_near(a: u32, b: u32) -> u32
+pub fn coupling_mul_near(a: u32, b: u32) -> u32
     ensures { result ≡ pattern_for (mul_near a b) }
 {
     pattern_for(binary32::mul_near(a, b))
 }
 
-#[unsafe(no_mangle)]
-pub extern "C" fn coupling_midpoint_down(a: u32, b: u32) -> u32
+pub fn coupling_midpoint_down(a: u32, b: u32) -> u32
     ensures { result ≡ pattern_for (midpoint_down a b) }
 {
     pattern_for(binary32::midpoint_down(a, b))
 }
 
-#[unsafe(no_mangle)]
-pub extern "C" fn coupling_midpoint_up(a: u32, b: u32) -> u32
+pub fn coupling_midpoint_up(a: u32, b: u32) -> u32
     ensures { result ≡ pattern_for (midpoint_up a b) }
 {
     pattern_for(binary32::midpoint_up(a, b))
 }
 
-#[unsafe(no_mangle)]
-pub extern "C" fn coupling_midpoint_near(a: u32, b: u32) -> u32
+pub fn coupling_midpoint_near(a: u32, b: u32) -> u32
     ensures { result ≡ pattern_for (midpoint_near a b) }
 {
     pattern_for(binary32::midpoint_near(a, b))

@@ -11,8 +11,7 @@ use running::Running;
 use running::cell::Gauged;
 
 // Begins with [0, 0], no pairs and the fixed wear amounts.
-#[unsafe(no_mangle)]
-pub extern "C" fn coupling_running_start(value: &mut [u32]) -> u32
+pub fn coupling_running_start(value: &mut [u32]) -> u32
     ensures answer { result ≡ coded (λ _. 0) (start_in value.old) }
     ensures left { value.new ≡ words_after (start_in value.old) value.old }
     ensures begins { Begins value.old value.new }
@@ -26,8 +25,7 @@ pub extern "C" fn coupling_running_start(value: &mut [u32]) -> u32
 
 // Takes a pair of cells, each with its wear class. The bounds and the number are then those of the entry by method 1 over all pairs taken since the start, each
 // widened by the amounts in force when it was taken; the bounds enclose whatever is picked from these cells.
-#[unsafe(no_mangle)]
-pub extern "C" fn coupling_running_take(
+pub fn coupling_running_take(
     value: &mut [u32],
     a_lower: u32,
     a_upper: u32,
@@ -60,8 +58,7 @@ pub extern "C" fn coupling_running_take(
 }
 
 // Exchanges the wear amounts for those of a load, 32 bytes, for the pairs that follow.
-#[unsafe(no_mangle)]
-pub extern "C" fn coupling_running_amounts(value: &mut [u32], load: &[u8]) -> u32
+pub fn coupling_running_amounts(value: &mut [u32], load: &[u8]) -> u32
     ensures answer { result ≡ coded (λ _. 0) (amounts_in value.old load.now) }
     ensures left { value.new ≡ words_after (amounts_in value.old load.now) value.old }
     ensures goes_on { GoesOn (λ h. exchange h load.now) value.old value.new }

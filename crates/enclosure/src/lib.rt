@@ -1,5 +1,7 @@
 // One entry of an interval product by the five methods, as definitions (specs/) and laws (proofs/).
 // Nothing calls the function below: every crate must have one.
+#![tactic(auto)]
+
 ghost use Rattle.std.specs.Prelude.{◌≡◌};
 
 pub fn zero() -> u64

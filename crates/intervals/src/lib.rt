@@ -1,4 +1,6 @@
 // Intervals of binary32 numbers in two representations: bounds [a, b] with a ≤ b, and midpoint and radius <m, r> with r ≥ 0.
+#![tactic(auto)]
+
 ghost use Rattle.std.specs.Prelude.{◌≡◌};
 ghost use Rattle.intervals.specs.Conversion.{fault_of, radius_fault_of, mid_of, mid_up_of, rad_of, converted, midrad_of, OptimalFor, bounded, outward_of, bounds_of};
 
@@ -11,14 +13,14 @@ use binary32::{Rounded, add_up, sub_down};
 pub mod slices;
 
 // A midpoint and a radius, or the number of the refusal.
-#[derive(Drop)]
+#[derive(Clone, Copy)]
 pub enum Converted {
     MidRad(u32, u32),
     Refused(u8),
 }
 
 // A lower and an upper bound, or the number of the refusal.
-#[derive(Drop)]
+#[derive(Clone, Copy)]
 pub enum Bounded {
     Bounds(u32, u32),
     Refused(u8),

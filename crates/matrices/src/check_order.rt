@@ -18,7 +18,7 @@ fn check_operands(a: usize, b: usize, al: &[u32], au: &[u32], bl: &[u32], bu: &[
 }
 
 // The lengths of the slices that a caller lends for writing: midpoints and radii of A and B, then the bounds of the result.
-#[derive(Drop)]
+#[derive(Clone, Copy)]
 pub struct Lent {
     pub ma: usize,
     pub ra: usize,

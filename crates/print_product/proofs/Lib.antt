@@ -4,4 +4,5 @@ pub mod LineLaws
 pub mod InputLaws
 pub mod Answers
 pub mod Cuts
+pub mod Reading
 pub mod Examples

@@ -1,7 +1,10 @@
 // Prints the product of two coupling sheets. Standard input is one ASCII digit, the method, then sheet A, then sheet B.
 // A product is printed as "product", method, rows and columns, then a line for each cell: row, column, and both bounds as hexadecimal patterns.
 // A refusal is printed as "refused", number, matrix, row and column. Proved: the text is that of specs/Printed for the bytes that were read.
-ghost use Rattle.std.specs.Prelude.{◌≡◌, ◌++◌, ◌≤◌, ◌<◌, length, drop};
+#![tactic(auto)]
+
+ghost use Rattle.std.specs.Prelude.{◌≡◌, ◌++◌, ◌≤◌, ◌<◌, length, take, drop, IfOk, OnOk, IfSome};
+ghost use Rattle.std.specs.Io.KnownBytes.{Consumes, Appends, IsAtEnd};
 ghost use Rattle.print_product.specs.Printed.{sheets_text, printed_of};
 ghost use Rattle.print_product.specs.Put.{Put};
 
@@ -10,10 +13,11 @@ mod lines;
 mod put;
 
 use intervals::slices::shorter;
-use libc::{STDIN_FILENO, STDOUT_FILENO};
 use refusals::sizes::MOST_CELLS;
 use sheets::Shape;
 use sheets::cut::first_length;
+use std::io;
+use std::io::{Read, Write};
 
 // 1 + 16,400 + 16,401: a digit, the longest sheet A, and a sheet B that is one byte too long. Later bytes change nothing (proofs/Cuts).
 const INPUT: usize = 32802;
@@ -45,10 +49,35 @@ fn sheets_text(method: usize, s: &[u8], out: &mut [u8]) -> usize
     }
 }
 
-fn main() {
-    let mut input = [0u8; INPUT];
-    let n = io::read_full(STDIN_FILENO, &mut input);
-    let mut out = [0u8; TEXT];
-    let k = printed(&input[..n], &mut out);
-    io::write_all(STDOUT_FILENO, &out[..k]);
+// Reads until buf is full or the input ends, and returns how many bytes were put at the start of buf: the first of the input, all of it where buf is
+// not full. A read that fails ends it.
+fn read_full<R: Read>(input: &mut R, buf: &mut [u8]) -> io::Result<usize>
+    ensures bound { IfOk result (λ n. n ≤ length buf.new) }
+    ensures bytes { IfOk result (λ n. Consumes (R.remaining input.old) (R.remaining input.new) (take n buf.new)) }
+    ensures end { IfOk result (λ n. n < length buf.new → IsAtEnd (R.remaining input.new)) }
+{
+    let mut done = 0;
+    while done < buf.len() {
+        let n = input.read(&mut buf[done..])?;
+        if n == 0 {
+            return Ok(done);
+        }
+        done += n;
+    }
+    Ok(done)
+}
+
+// Reads the input and writes the text for the whole of it; bytes behind the first 32,802 are not read. A read that fails ends it before anything is written.
+fn print<R: Read, W: Write>(input: &mut R, output: &mut W) -> io::Result<()>
+    ensures { OnOk result (IfSome (R.remaining input.old) (λ s. Appends (W.contents output.old) (W.contents output.new) (printed_of s))) }
+{
+    let mut bytes = [0u8; INPUT];
+    let n = read_full(input, &mut bytes)?;
+    let mut text = [0u8; TEXT];
+    let k = printed(&bytes[..n], &mut text);
+    output.write_all(&text[..k])
+}
+
+fn main(rt: HostRuntime) -> io::Result<()> {
+    print(&mut rt.stdin(), &mut rt.stdout())
 }

@@ -1,7 +1,6 @@
 // Pieces of text, written into a buffer from index `at` on: bytes, and numbers with the byte behind them. Each function returns the next free index.
 ghost use Rattle.std.specs.Prelude.{◌≡◌, [], ◌∷◌, ◌++◌, ◌+◌, ◌≤◌, ◌<◌, length};
-ghost use Rattle.print_product.specs.Digits.{digit as Digits·digit, digits as Digits·digits, digit_count as Digits·digitCount};
-ghost use Rattle.print_product.specs.Digits.{decimal as Digits·decimal, hexadecimal as Digits·hexadecimal};
+ghost use Rattle.print_product.specs.Digits.{digit, digits, digit_count, decimal, hexadecimal};
 ghost use Rattle.print_product.specs.Put.{Put};
 
 // The bytes of text.
@@ -20,7 +19,7 @@ pub fn bytes(out: &mut [u8], at: usize, text: &[u8]) -> usize
 // The ASCII code of a hexadecimal digit: 0 to 9, then A to F.
 fn digit(d: usize) -> u8
     requires { d < 16 }
-    ensures { result ≡ Digits·digit d }
+    ensures { result ≡ digit d }
 {
     if d < 10 { 48 + d as u8 } else { 55 + d as u8 }
 }
@@ -28,7 +27,7 @@ fn digit(d: usize) -> u8
 // The last count digits of n in this base, then the byte `end`.
 fn digits(out: &mut [u8], at: usize, base: usize, count: usize, n: usize, end: u8) -> usize
     requires { (0 < base) × (base ≤ 16) × (at + count + 1 ≤ length out.old) }
-    ensures { Put at (Digits·digits base count n ++ (end ∷ [])) out.old result out.new }
+    ensures { Put at (digits base count n ++ (end ∷ [])) out.old result out.new }
 {
     let last = at + count;
     out[last] = end;
@@ -45,7 +44,7 @@ fn digits(out: &mut [u8], at: usize, base: usize, count: usize, n: usize, end: u
 // How many decimal digits a number has.
 fn digit_count(n: usize) -> usize
     requires { n < 10000 }
-    ensures { result ≡ Digits·digitCount n }
+    ensures { result ≡ digit_count n }
 {
     if n < 10 {
         return 1;
@@ -58,8 +57,8 @@ fn digit_count(n: usize) -> usize
 
 // n in decimal, then the byte `end`.
 pub fn decimal(out: &mut [u8], at: usize, n: usize, end: u8) -> usize
-    requires { (n < 10000) × (at + Digits·digitCount n + 1 ≤ length out.old) }
-    ensures { Put at (Digits·decimal n ++ (end ∷ [])) out.old result out.new }
+    requires { (n < 10000) × (at + digit_count n + 1 ≤ length out.old) }
+    ensures { Put at (decimal n ++ (end ∷ [])) out.old result out.new }
 {
     digits(out, at, 10, digit_count(n), n, end)
 }
@@ -67,7 +66,7 @@ pub fn decimal(out: &mut [u8], at: usize, n: usize, end: u8) -> usize
 // A pattern in eight hexadecimal capitals, then the byte `end`.
 pub fn hexadecimal(out: &mut [u8], at: usize, p: u32, end: u8) -> usize
     requires { at + 9 ≤ length out.old }
-    ensures { Put at (Digits·hexadecimal p ++ (end ∷ [])) out.old result out.new }
+    ensures { Put at (hexadecimal p ++ (end ∷ [])) out.old result out.new }
 {
     digits(out, at, 16, 8, p as usize, end)
 }

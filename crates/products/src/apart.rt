@@ -10,7 +10,7 @@ use unpacked::{Number, ZERO_EXPONENT};
 const BOTH_ZERO: u32 = ZERO_EXPONENT + ZERO_EXPONENT;
 
 // Significands and exponents of the bounds. The fields are not two Numbers, so that there is no padding and an array is cleared by one memset.
-#[derive(Drop)]
+#[derive(Clone, Copy)]
 pub struct Apart {
     pub lower_sig: i64,
     pub upper_sig: i64,

@@ -13,7 +13,7 @@ use crate::times::times;
 use unpacked::{Number, ZERO_EXPONENT, is_none};
 
 // C, and G negated: the sum of the products, and minus the sum of their magnitudes, both to nearest.
-#[derive(Drop)]
+#[derive(Clone, Copy)]
 pub struct CentreSize {
     pub centre: Number,
     pub size: Number,

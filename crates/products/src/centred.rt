@@ -16,7 +16,7 @@ use binary32::order::magnitude;
 use unpacked::{Number, Product, is_none, zero};
 
 // The lower centre, and the upper centre and the radius negated, so that all three are rounded down.
-#[derive(Drop)]
+#[derive(Clone, Copy)]
 pub struct Centred {
     pub lower: Number,
     pub opposed: Number,

@@ -8,7 +8,7 @@ use binary32::order::{least, magnitude, negate};
 use binary32::partial::{add_up, mul_up};
 
 // Outer: |m| + r. Raised(c): (c × |m|) + r, method 3's rB'. Part: sign(m) × min(|m|, r), p of methods 5 and 7.
-#[derive(Drop)]
+#[derive(Clone, Copy)]
 pub enum Kind {
     Outer,
     Raised(u32),

@@ -1,4 +1,6 @@
 // Products of interval matrices by five methods: 1 (classical), 3, 4, 5 and 7. The result encloses all products of matrices that lie in A and B.
+#![tactic(auto)]
+
 ghost use Rattle.std.specs.Prelude.{◌≤◌, length};
 ghost use Rattle.refusals.specs.Answer.{outcome};
 ghost use Rattle.matrices.specs.Product.{Leaves};

@@ -13,7 +13,7 @@ use binary32::order::magnitude;
 use unpacked::{Number, is_none, zero};
 
 // The centre, rounded to nearest, and the radius, negated and rounded down.
-#[derive(Drop)]
+#[derive(Clone, Copy)]
 pub struct Nearest {
     pub centre: Number,
     pub radius: Number,

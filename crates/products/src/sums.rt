@@ -19,14 +19,14 @@ use crate::rounded::{rounded_down, rounded_up};
 use unpacked::{Number, is_none, zero};
 
 // The lower sum, and the negated upper sum: rounding x up is negating -x rounded down, so both sums are rounded down. Each is a number or none.
-#[derive(Drop)]
+#[derive(Clone, Copy)]
 pub struct Sums {
     pub lower: Number,
     pub opposed: Number,
 }
 
 // The row and column of the first refused entry by rows, if there is one.
-#[derive(Drop)]
+#[derive(Clone, Copy)]
 pub enum Place {
     Nowhere,
     At(usize, usize),

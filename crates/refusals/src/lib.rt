@@ -1,4 +1,6 @@
 // A refusal: why a call was not carried out, as a number with matrix, row and column. Also the checks of sizes and slice lengths (sizes.rt).
+#![tactic(auto)]
+
 ghost use Rattle.std.specs.Prelude.{◌≡◌};
 ghost use Rattle.refusals.specs.Refusal.{of_matrix, of_cell, named, code_of};
 ghost use Rattle.refusals.specs.Answer.{outcome, then, coded};
@@ -7,7 +9,7 @@ pub mod sizes;
 
 // The number, 1 to 14, which says why; the matrix: 1 A, 2 B, 3 the result, 0 none of them, and in a train the sheet's position, 1 to 8, or 9 for a
 // product or the writing; and the row and column of a cell, 0 where no cell is named.
-#[derive(Drop)]
+#[derive(Clone, Copy)]
 pub struct Refusal {
     pub number: u8,
     pub matrix: u8,
@@ -16,7 +18,7 @@ pub struct Refusal {
 }
 
 // The answer of a call that returns no value.
-#[derive(Drop)]
+#[derive(Clone, Copy)]
 pub enum Outcome {
     Done,
     Refused(Refusal),

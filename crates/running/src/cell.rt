@@ -7,7 +7,7 @@ use intervals::Bounded;
 use sheets::worn;
 
 // A cell as it was gauged: its bounds and its wear class.
-#[derive(Drop)]
+#[derive(Clone, Copy)]
 pub struct Gauged {
     pub lower: u32,
     pub upper: u32,

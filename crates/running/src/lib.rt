@@ -1,5 +1,7 @@
 // The running entry: the range of one bar while its linkages are gauged one after another. It is a value that takes a pair of cells, each with its wear
 // class, and comes back with the range by method 1 and the number of pairs taken.
+#![tactic(auto)]
+
 ghost use Rattle.std.specs.Prelude.{◌≡◌};
 ghost use Rattle.refusals.specs.Answer.{outcome, then, done};
 ghost use Rattle.intervals.specs.Conversion.{bounded};
@@ -16,7 +18,7 @@ use sheets::{load, wear};
 pub mod cell;
 
 // The lower and the upper sum over the pairs taken, the number of these pairs, and the wear amounts in force, that of class 0 first.
-#[derive(Drop)]
+#[derive(Clone, Copy)]
 pub struct Running {
     pub lower: u32,
     pub upper: u32,
@@ -25,7 +27,7 @@ pub struct Running {
 }
 
 // What a value shows: the range so far, and the number of pairs taken.
-#[derive(Drop)]
+#[derive(Clone, Copy)]
 pub struct Shown {
     pub lower: u32,
     pub upper: u32,
@@ -33,7 +35,7 @@ pub struct Shown {
 }
 
 // The answer of a call and the value after it, which is the same as before where the call was refused.
-#[derive(Drop)]
+#[derive(Clone, Copy)]
 pub struct Next {
     pub outcome: Outcome,
     pub value: Running,

@@ -41,12 +41,14 @@ module _ (b : Cell → ℕ) where
   put_other (c ∷ cs) a q h = put_other cs (set a c.position (b c)) q (λ d k. h d (inr k)) ∙ get_or-set_other a c.position q (b c) 0 (h c (inl refl))
 
   later : (n l : ℕ) (cs : List Cell) (c : Cell) → Rising n l cs → Among c cs → l ≤ c.position
+  later n l [] c r x = elim x [ ]
   later n l (d ∷ cs) c r (inl e) = subst (λ (x : Cell). l ≤ x.position) (sym e) r.0
   later n l (d ∷ cs) c r (inr k) = omega (arith, r.0, later n (d.position + 1) cs c r.2 k)
 
   -- the position of a cell
   pub put_same : (n l : ℕ) (cs : List Cell) (a : List ℕ) (c : Cell) → length a ≡ n → Rising n l cs → Among c cs → get_or (put_in b a cs) c.position 0 ≡ b c
   unfolding put_in
+  put_same n l [] a c e r x = elim x [ ]
   put_same n l (d ∷ cs) a c e r (inl k) =
       subst (λ (x : Cell). get_or (put_in b (set a d.position (b d)) cs) x.position 0 ≡ b x) (sym k)
       (put_other cs (set a d.position (b d)) d.position (λ x m f. let g : d.position + 1 ≤ x.position = later n (d.position + 1) cs x r.2 m in omega arith)

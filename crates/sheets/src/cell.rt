@@ -7,7 +7,7 @@ ghost use Rattle.sheets.specs.Cell.{canonical_of, both_zero, handed_of};
 use intervals::{Bounded, check, outward};
 
 // A cell to be written: [0, 0], which gets no record; its bounds, with minus zero replaced by 0; or the number of its fault, 3 or 4.
-#[derive(Drop)]
+#[derive(Clone, Copy)]
 pub enum HandedIn {
     Zero,
     Cell(u32, u32),

@@ -12,7 +12,7 @@ use crate::worn::check_worn;
 use refusals::{Outcome, Refusal};
 
 // A cell of the chain with its widened bounds. `next` is the index of the next record, `position` is row × columns + column.
-#[derive(Drop)]
+#[derive(Clone, Copy)]
 pub struct Cell {
     pub next: usize,
     pub position: usize,
@@ -21,7 +21,7 @@ pub struct Cell {
 }
 
 // A cell of the chain, or the refusal of its record.
-#[derive(Drop)]
+#[derive(Clone, Copy)]
 pub enum Step {
     Cell(Cell),
     Refused(Refusal),

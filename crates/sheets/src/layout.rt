@@ -3,7 +3,7 @@ ghost use Rattle.std.specs.Prelude.{◌≡◌, ◌+◌, ◌*◌, ◌≤◌, ◌<
 ghost use Rattle.sheets.specs.Layout.{u16_at, u32_at, blank, record_of, framed};
 
 // A record read as a cell. `wear`, its last four bytes, is a wear class or a wear amount, by the kind of the sheet.
-#[derive(Drop)]
+#[derive(Clone, Copy)]
 pub struct Record {
     pub next: usize,
     pub row: usize,

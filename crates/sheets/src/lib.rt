@@ -1,4 +1,6 @@
 // The coupling sheet: a matrix of intervals as records of 16 bytes, each with the index of the next one. Reading, writing, and the checks of both.
+#![tactic(auto)]
+
 ghost use Rattle.std.specs.Prelude.{◌≡◌, length};
 ghost use Rattle.sheets.specs.Reading.{shape, read_of, lowers_after, uppers_after, read_with, lowers_with, uppers_with};
 ghost use Rattle.sheets.specs.Writing.{written, write_of, out_after, front_of};
@@ -22,14 +24,14 @@ use refusals::{Outcome, Refusal};
 use tally::Tallied;
 
 // The answer of a read: rows and columns of the matrix, or the refusal.
-#[derive(Drop)]
+#[derive(Clone, Copy)]
 pub enum Shape {
     Sizes(usize, usize),
     Refused(Refusal),
 }
 
 // The answer of a write: the length of the sheet in bytes, or the refusal.
-#[derive(Drop)]
+#[derive(Clone, Copy)]
 pub enum Written {
     Bytes(usize),
     Refused(Refusal),

@@ -7,7 +7,7 @@ use binary32::finite::is_finite;
 use binary32::order::{at_most, magnitude};
 
 // A load as read: its eight amounts and 0, or the number of its refusal, 6, 3 or 13, and amounts of no meaning.
-#[derive(Drop)]
+#[derive(Clone, Copy)]
 pub struct Load {
     pub fault: u8,
     pub amounts: [u32; 8],

@@ -6,7 +6,7 @@ use crate::cell::{HandedIn, handed};
 use refusals::Refusal;
 
 // The count, or the refusal of the first faulty cell.
-#[derive(Drop)]
+#[derive(Clone, Copy)]
 pub enum Tallied {
     Counted(usize),
     Refused(Refusal),

@@ -76,6 +76,7 @@ wide_abs (negsuc n) z l = omega (arith, l.upper)
 
 -- ---- the 24 digits
 shr_neg : (k m : ℕ) → 0 < k → mag (shr_z (neg_ℤ (pos k)) m) ≡ (k - 1) / m
+shr_neg zero m h = elim h [ ]
 shr_neg (suc k) m h = ap (λ x. x / m) back
   where
     back : k ≡ suc k - 1

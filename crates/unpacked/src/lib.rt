@@ -1,5 +1,7 @@
 // The forms in which the crate `products` keeps numbers, sums and exact products while it works: a signed significand and an exponent, in place of a pattern.
 // Their definitions are in specs/, their laws in proofs/. The functions on them are private modules of `products`, since they need operands in normal form.
+#![tactic(auto)]
+
 ghost use Rattle.std.specs.Prelude.{◌≡◌, ltb};
 ghost use Rattle.unpacked.specs.Number.{zero_number, no_number, minus_tiny};
 
@@ -20,28 +22,28 @@ pub const NONE_SIGNIFICAND: i64 = -0x80_0000;
 
 // A number, sig × 2^(exp - BIAS) units, with |sig| from 2^23 to 2^24, or zero; or none, which stands for an overflow or a pattern with exponent field 255.
 // None is a negative value far below all numbers, so that a sum with it is far below all numbers too.
-#[derive(Drop)]
+#[derive(Clone, Copy)]
 pub struct Number {
     pub sig: i64,
     pub exp: u32,
 }
 
 // The sum of two numbers before it is rounded: w × 2^(exp - 436) units. 436 is BIAS + 36, since w has 36 guard bits.
-#[derive(Drop)]
+#[derive(Clone, Copy)]
 pub struct Aligned {
     pub w: i64,
     pub exp: u32,
 }
 
 // The exact product of two numbers: sig × 2^(exp - 950) units, with |sig| from 2^47 to 2^48, or zero.
-#[derive(Drop)]
+#[derive(Clone, Copy)]
 pub struct Product {
     pub sig: i64,
     pub exp: u32,
 }
 
 // An exact product and its rank: an integer made of exponent and significand, such that ranks are ordered as the products are.
-#[derive(Drop)]
+#[derive(Clone, Copy)]
 pub struct Corner {
     pub product: Product,
     pub rank: i64,

@@ -1,0 +1,16 @@
+-- `binary32::add_down` meets its contract: `checked` turns what `partial::add_down` holds, a number or none, into the answer (`checked_is`).
+use mathlib.Core.Path.{refl, ap, ◌∙◌}
+use lib.Dec.{lit<}
+use Rattle.rounding.specs.Rounding.{down}
+use Rattle.binary32.specs.Number.{minus_infinity}
+use Rattle.binary32.specs.Operations.{add, checked_of}
+use Rattle.binary32.proofs.Exacts.{checked_is}
+use Rattle.binary32.proofs.Numbers.{down_fits}
+use borrow.Author.Rules.{rules}
+use Rattle.binary32.proofs.add_down.Goals as goal
+
+pub returns : goal.returns
+returns c =
+    let s = c.args in
+    c.checked.ensures ∙ ap (checked_of s.a s.b) c.add_down.ensures
+    ∙ checked_is (add down) s.a s.b minus_infinity refl (down_fits 1 (lit< tt) _)

@@ -1,0 +1,21 @@
+-- `intervals::check_radius` meets its contract: each return is a case of the definition.
+use mathlib.Core.Path.{sym, ◌∙◌}
+use mathlib.Core.Bool.{true, false}
+use borrow.Author.Tests.{not-true, not-false}
+use borrow.Author.Rules.{rules}
+use Rattle.intervals.proofs.Faults.{radius_not_finite, radius_by_sign}
+use Rattle.intervals.proofs.check_radius.Goals as goal
+
+pub returns-then-not-are_finite : goal.returns-then-not-are_finite
+returns-then-not-are_finite c =
+    radius_not_finite c.args.m c.args.r (sym c.are_finite.ensures ∙ c.if-not-are_finite.true)
+
+pub returns-then-at_most : goal.returns-then-at_most
+returns-then-at_most c =
+    radius_by_sign c.args.m c.args.r true (sym c.are_finite.ensures ∙ c.if-not-are_finite.false)
+    (sym c.at_most.ensures ∙ c.if-at_most.true)
+
+pub returns-else-at_most : goal.returns-else-at_most
+returns-else-at_most c =
+    radius_by_sign c.args.m c.args.r false (sym c.are_finite.ensures ∙ c.if-not-are_finite.false)
+    (sym c.at_most.ensures ∙ c.if-at_most.false)

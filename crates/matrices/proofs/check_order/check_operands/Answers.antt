@@ -1,0 +1,10 @@
+-- `products::check_order::check_operands` meets its contract: the answers are put together as in the definition.
+use mathlib.Core.Path.{ap₂, ◌∙◌}
+use Rattle.refusals.specs.Answer.{then}
+use Rattle.matrices.specs.Checks.{check_operands}
+use borrow.Author.Rules.{rules}
+use Rattle.matrices.proofs.check_order.check_operands.Goals as goal
+
+pub returns : goal.returns
+unfolding check_operands
+returns c = c.then.ensures ∙ ap₂ then c.check_lengths.ensures c.check_lengths-second.ensures

@@ -1,0 +1,60 @@
+-- `products::near::cut_near` meets its contract: the shift up does not overflow (`wide_abs`), and the exponent does not go below 0.
+use mathlib.Core.Path.{◌≡◌, sym, ap, subst, ◌∙◌}
+use Prim.Native.Nat.{◌+◌, ◌-◌, ◌*◌, ◌^◌, ◌≤◌}
+use native.Mathlib.Omega.{arith}
+use lib.Count.{count_leading_zeros}
+use lib.IntN.{ℤ, pos, ◌*ℤ◌}
+use lib.Signed.{mag}
+use mir.Syntax.{w64}
+use mir.Val.{to_z, of_z}
+use mir.ValLaws.{to_z-of_z}
+use Rattle.algebra.proofs.Absolute.{nat_abs_mul}
+use Rattle.algebra.proofs.Machine.{mag_of_nat_abs}
+use Rattle.binary32.proofs.Ints.{read}
+use Rattle.unpacked.specs.Cuts.{OrLow}
+use Rattle.unpacked.proofs.Leading.{Lead, lead_of, wide_abs}
+use Rattle.unpacked.proofs.Cutting.{near_cut_found, room_is}
+use borrow.Author.Rules.{rules}
+use Rattle.products.proofs.near.cut_near.Goals as goal
+
+module _ (c : goal.After-digits) where
+  abbrev w : ℤ
+  w = c.args.w
+
+  plain : to_z w64 (of_z w64 w) ≡ w
+  plain = to_z-of_z w64 w c.ranges.w
+
+  found : c.digits.result ≡ mag w
+  found = c.digits.ensures ∙ ap mag plain
+
+  few : c.digits.result ≤ 2 ^ 61
+  few = omega (arith, found, mag_of_nat_abs w {h = 2 ^ 61 + 1} (omega (arith, c.requires.0)))
+
+  led : Lead (mag w) (count_leading_zeros 64 (c.digits.result * 4 + 3))
+  led = subst (Lead (mag w)) (sym (room_is w c.digits.result found)) (lead_of w (omega (arith, c.requires.0)))
+
+pub overflow_mul-z : goal.overflow_mul-z
+overflow_mul-z c = record { fits = omega (arith, few c) }
+
+pub overflow_add-z : goal.overflow_add-z
+overflow_add-z c = record { fits = omega (arith, few c) }
+
+pub widened-requires : goal.widened-requires
+widened-requires c = rw (plain c) ((led c).low, wide_abs (w c) (count_leading_zeros 64 (c.digits.result * 4 + 3)) (led c))
+
+wide_is : (c : goal.After-widened) → to_z w64 (of_z w64 c.widened.result) ≡ w c.before *ℤ pos (2 ^ count_leading_zeros 64 (c.digits.result * 4 + 3))
+wide_is c = read c.widened.result c.widened.type_inv ∙ c.widened.ensures ∙ ap (λ (t : ℤ). t *ℤ pos (2 ^ count_leading_zeros 64 (c.digits.result * 4 + 3))) (plain c.before)
+
+pub nearest-requires : goal.nearest-requires
+nearest-requires c =
+    let z = count_leading_zeros 64 (c.digits.result * 4 + 3) in
+    rw (wide_is c) (omega (arith, nat_abs_mul (w c.before) (pos (2 ^ z)), wide_abs (w c.before) z (led c.before)))
+
+pub overflow_sub-exp : goal.overflow_sub-exp
+overflow_sub-exp c = omega (arith, (led c.before.before).low, c.requires.1)
+
+pub returns : goal.returns
+returns c =
+    near_cut_found (w c.before.before.before) c.args.exp (count_leading_zeros 64 (c.digits.result * 4 + 3)) (to_z w64 (of_z w64 c.widened.result)) _ c.or_low.result
+    (led c.before.before.before) c.requires.1 (wide_is c.before.before) (read c.nearest.result c.nearest.type_inv ∙ c.nearest.ensures)
+    (subst (λ (t : ℤ). OrLow t (c.args.exp + 2 - count_leading_zeros 64 (c.digits.result * 4 + 3)) c.or_low.result) (plain c.before.before.before) c.or_low.ensures)

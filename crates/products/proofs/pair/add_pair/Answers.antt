@@ -1,0 +1,59 @@
+-- `products::pair::add_pair` meets its contract: a step on the sums of the patterns, where neither they nor the cells have a fault.
+use mathlib.Core.Path.{◌≡◌, sym, ap, ap₂, subst, ◌∙◌}
+use Prim.Native.Nat.{ℕ}
+use Rattle.rounding.specs.Format.{binary32}
+use Rattle.enclosure.specs.Arithmetic.{of}
+use Rattle.enclosure.specs.RunningSums.{add_pair}
+use Rattle.refusals.specs.Answer.{Answer, gives, refuse}
+use Rattle.refusals.proofs.Answers.{passing_not}
+use Rattle.products.specs.declared.apart.Apart.{Apart}
+use Rattle.products.specs.declared.sums.Sums.{Sums}
+use Rattle.products.specs.Apart.{IsApart}
+use Rattle.products.specs.Classical.{apart_cell, pattern_cell}
+use Rattle.products.specs.Running.{HoldsRange, bounds_of}
+use Rattle.products.specs.Pair.{range_of, pair_fault, pair_added}
+use Rattle.products.proofs.Pairs.{fine_taken, fine_cells, step_cells}
+use Rattle.products.proofs.AddedPair.{fault_tells, added_refused, added_given}
+use Rattle.products.proofs.pair.add_pair.Goals as goal
+
+pub returns-then-fault-ne0 : goal.returns-then-fault-ne0
+unfolding pair_added
+returns-then-fault-ne0 c =
+    let k = c.pair_fault-fault.ensures in
+    ap refuse k ∙ passing_not _ _ (λ e. c.if-fault-ne0.true (k ∙ e))
+
+pub of_bounds-requires : goal.of_bounds-requires
+of_bounds-requires c =
+    let a = c.args in
+    (fault_tells (a.lower, a.upper) (a.al, a.au) (a.bl, a.bu) (sym c.pair_fault-fault.ensures ∙ c.if-fault-ne0.false)).sums_fine
+
+pub step_pair-s-requires : goal.step_pair-s-requires
+step_pair-s-requires c =
+    let a = c.args in
+    let f = fault_tells (a.lower, a.upper) (a.al, a.au) (a.bl, a.bu) (sym c.pair_fault-fault.ensures ∙ c.if-fault-ne0.false) in
+    (c.of_bounds.ensures.0, fine_cells _ _ _ _ c.new.result (fine_taken a.al a.au c.new.result f.a_fine c.new.ensures) f.b_fine)
+
+-- what the step gives, from what its calls promise
+holds : (s a b : ℕ × ℕ) (t r : Sums) (p : Apart) → pair_fault s a b ≡ 0 → IsApart a.0 a.1 p → bounds_of t ≡ range_of s
+    → HoldsRange (add_pair (of binary32) (bounds_of t) (apart_cell p) (pattern_cell b.0 b.1)) r → HoldsRange (add_pair (of binary32) (range_of s) (pattern_cell a.0 a.1) (pattern_cell b.0 b.1)) r
+holds s a b t r p e i k h =
+    step_cells a.0 a.1 (pattern_cell b.0 b.1) p (fine_taken a.0 a.1 p (fault_tells s a b e).a_fine i) (range_of s) r
+    (subst (λ x. HoldsRange (add_pair (of binary32) x (apart_cell p) (pattern_cell b.0 b.1)) r) k h)
+
+pub returns-then-refused : goal.returns-then-refused
+returns-then-refused c =
+    let a = c.args in
+    let e = sym c.pair_fault-fault.ensures ∙ c.if-fault-ne0.false in
+    added_refused (a.lower, a.upper) (a.al, a.au) (a.bl, a.bu) c.step_pair-s.result e
+    (holds _ _ _ _ _ _ e c.new.ensures c.of_bounds.ensures.1 c.step_pair-s.ensures) (sym c.refused.ensures ∙ c.if-refused.true)
+
+abbrev bounds : ℕ → ℕ → Answer (ℕ × ℕ)
+bounds l u = gives (l, u)
+
+pub returns : goal.returns
+returns c =
+    let a = c.args in
+    let e = sym c.pair_fault-fault.ensures ∙ c.if-fault-ne0.false in
+    ap₂ bounds c.lower.ensures c.upper.ensures
+    ∙ added_given (a.lower, a.upper) (a.al, a.au) (a.bl, a.bu) c.step_pair-s.result e
+    (holds _ _ _ _ _ _ e c.new.ensures c.of_bounds.ensures.1 c.step_pair-s.ensures) (sym c.refused.ensures ∙ c.if-refused.false)

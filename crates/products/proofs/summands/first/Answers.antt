@@ -1,0 +1,13 @@
+-- `products::summands::first` meets its contract: by its test, which is that of `earlier`.
+use Rattle.unpacked.proofs.Ordering.{first_y, first_x}
+use Rattle.products.proofs.summands.first.Goals as goal
+
+pub returns-then-x-y : goal.returns-then-x-y
+returns-then-x-y c =
+    let s = c.args in
+    first_y s.x s.y c.if-x-y.true
+
+pub returns : goal.returns
+returns c =
+    let s = c.args in
+    first_x s.x s.y c.if-x-y.false

@@ -1,0 +1,13 @@
+-- `products::summands::second` meets its contract: by its test, which is that of `later`.
+use Rattle.unpacked.proofs.Ordering.{second_x, second_y}
+use Rattle.products.proofs.summands.second.Goals as goal
+
+pub returns-then-x-y : goal.returns-then-x-y
+returns-then-x-y c =
+    let s = c.args in
+    second_x s.x s.y c.if-x-y.true
+
+pub returns : goal.returns
+returns c =
+    let s = c.args in
+    second_y s.x s.y c.if-x-y.false

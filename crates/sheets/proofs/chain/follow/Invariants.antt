@@ -1,0 +1,13 @@
+-- `chain::follow` meets its contract: what is left of the walk from here ends as the whole walk does.
+use mathlib.Core.Path.{◌≡◌}
+use Prim.Native.Nat.{ℕ, ◌+◌, ◌-◌, ◌*◌, ◌≤◌, ◌<◌}
+use Rattle.sheets.specs.Amount.{cell_amount}
+use Rattle.sheets.specs.Chain.{walk}
+use Rattle.sheets.proofs.chain.follow.Given as goal
+
+abbrev pub invariant-loop-index : goal.invariant-loop-index
+invariant-loop-index l =
+    (t : ℕ) × (l.rows * l.columns < t + l.least) × (l.least ≤ l.rows * l.columns) × ((walk (cell_amount l.kind l.amounts) l.s l.rows l.columns (l.rows * l.columns + 1) l.first 0).verdict ≡ (walk (cell_amount l.kind l.amounts) l.s l.rows l.columns t l.index l.least).verdict)
+
+abbrev pub decreases-loop-index : goal.decreases-loop-index
+decreases-loop-index l = l.rows * l.columns - l.least

@@ -1,0 +1,94 @@
+-- `chain::judge` meets its contract: each return is a case of the definition.
+use mathlib.Core.Path.{◌≡◌, refl, sym, ap, ◌∙◌}
+use mathlib.Core.Bool.{true, false}
+use mathlib.Core.List.{List}
+use Prim.Native.Nat.{ℕ, ◌≤◌, ◌<◌}
+use native.Mathlib.Omega.{arith}
+use lib.Arith.{digits_lt}
+use borrow.Author.Tests.{le-leb, lt-leb, lt-ltb}
+use Rattle.refusals.specs.declared.Outcome.{Outcome}
+use Rattle.refusals.specs.declared.Outcome.TheVariants as O
+use Rattle.refusals.specs.Refusal.{placed}
+use Rattle.refusals.specs.Answer.{Answer, gives, refuses, done, outcome, and_then, then}
+use Rattle.refusals.proofs.Answers.{said}
+use Rattle.refusals.proofs.SizeLaws.{small}
+use Rattle.sheets.specs.declared.layout.Record.{Record}
+use Rattle.sheets.specs.declared.chain.Cell.{Cell}
+use Rattle.sheets.specs.Amount.{cell_amount}
+use Rattle.sheets.specs.Cell.{widened_of}
+use Rattle.sheets.specs.Chain.{position_of, cell_from, worn_cell, judge_of}
+use Rattle.sheets.proofs.CellAmounts.{amount_given, amount_unnamed, amount_named}
+use Rattle.sheets.proofs.Judging.{judge_by, judge_ruled}
+use Rattle.sheets.proofs.chain.judge.Goals as goal
+
+abbrev verdict : Answer Cell → Answer (Unit {0})
+verdict j = then j done
+
+-- a verdict on the bounds of the cell in row i and column j
+abbrev placing : ℕ → ℕ → Answer (Unit {0}) → Answer (Unit {0})
+placing i j (gives v) = gives v
+placing i j (refuses x) = refuses (placed i j x)
+
+placing_is : (columns : ℕ) (r : Record) (a : Answer (ℕ × ℕ)) → placing r.row r.column (then a done) ≡ verdict (cell_from columns r a)
+placing_is columns r (gives x) = refl
+placing_is columns r (refuses x) = refl
+
+pub returns-then-row-rows : goal.returns-then-row-rows
+returns-then-row-rows c = ap refuses c.of_matrix.ensures ∙ ap verdict (judge_by _ _ _ _ _ true _ _ (le-leb _ _ c.if-row-rows.true) refl refl)
+
+pub returns-then-column-columns : goal.returns-then-column-columns
+returns-then-column-columns c =
+    ap refuses c.of_matrix-then-column-columns.ensures ∙ ap verdict (judge_by _ _ _ _ _ false true _ (lt-leb _ _ c.if-row-rows.false) (le-leb _ _ c.if-column-columns.true) refl)
+
+pub overflow_mul-position : goal.overflow_mul-position
+overflow_mul-position c =
+    let a = c.args in
+    omega (arith, digits_lt c.if-row-rows.false c.if-column-columns.false, small a.rows a.columns (omega arith) (omega arith))
+
+pub overflow_add-position : goal.overflow_add-position
+overflow_add-position c =
+    let a = c.args in
+    omega (arith, digits_lt c.if-row-rows.false c.if-column-columns.false, small a.rows a.columns (omega arith) (omega arith))
+
+pub returns-then-position-least : goal.returns-then-position-least
+returns-then-position-least c =
+    ap refuses c.of_matrix-then-position-least.ensures
+    ∙ ap verdict (judge_by _ _ _ _ _ false false true (lt-leb _ _ c.if-row-rows.false) (lt-leb _ _ c.if-column-columns.false) (lt-ltb _ _ c.if-position-least.true))
+
+module _ (kind : ℕ) (amounts : List ℕ) (rows columns least : ℕ) (r : Record) (h : r.row < rows) (k : r.column < columns) (l : least ≤ position_of columns r) where
+  -- 7 and 8 have passed: by the amount x
+  amounted : (x : Answer ℕ) → x ≡ cell_amount kind amounts r → verdict (and_then x (worn_cell columns r)) ≡ verdict (judge_of (cell_amount kind amounts) rows columns least r)
+  amounted x e = ap (λ v. verdict (and_then v (worn_cell columns r))) e ∙ ap verdict (judge_ruled _ _ _ _ _ h k l)
+
+  -- with the amount w: by the answer o on 3, 4 and 5
+  worn : (w : ℕ) (z o : Outcome) → gives w ≡ cell_amount kind amounts r → outcome z ≡ then (widened_of r.lower r.upper w) done → z ≡ o
+      → placing r.row r.column (outcome o) ≡ verdict (judge_of (cell_amount kind amounts) rows columns least r)
+  worn w z o e f g = ap (placing r.row r.column) (said outcome f g) ∙ placing_is columns r (widened_of r.lower r.upper w) ∙ amounted (gives w) e
+
+pub returns-then-fault-eq6 : goal.returns-then-fault-eq6
+returns-then-fault-eq6 c =
+    let a = c.args in
+    ap refuses c.of_matrix-then-fault-eq6.ensures
+    ∙ amounted a.kind a.amounts.now a.rows a.columns a.least a.r c.if-row-rows.false c.if-column-columns.false c.if-position-least.false _ (amount_unnamed _ _ _ _ c.wear_fault-fault.ensures c.if-fault-eq6.true)
+
+pub returns-then-fault-ne0 : goal.returns-then-fault-ne0
+returns-then-fault-ne0 c =
+    let a = c.args in
+    ap refuses c.of_cell.ensures
+    ∙ amounted a.kind a.amounts.now a.rows a.columns a.least a.r c.if-row-rows.false c.if-column-columns.false c.if-position-least.false _ (amount_named _ _ _ _ c.wear_fault-fault.ensures c.if-fault-eq6.false c.if-fault-ne0.true)
+
+pub wear_amount-requires : goal.wear_amount-requires
+wear_amount-requires c = sym c.wear_fault-fault.ensures ∙ c.if-fault-ne0.false
+
+pub returns-in-Done : goal.returns-in-Done
+returns-in-Done c =
+    let a = c.args in
+    worn a.kind a.amounts.now a.rows a.columns a.least a.r c.if-row-rows.false c.if-column-columns.false c.if-position-least.false _ _ O.Done
+    (ap gives c.wear_amount.ensures ∙ amount_given _ _ _ (sym c.wear_fault-fault.ensures ∙ c.if-fault-ne0.false)) c.check_worn.ensures c.in-Done.is
+
+pub returns-in-Refused : goal.returns-in-Refused
+returns-in-Refused c =
+    let a = c.args in
+    ap refuses c.of_cell-in-Refused.ensures
+    ∙ worn a.kind a.amounts.now a.rows a.columns a.least a.r c.if-row-rows.false c.if-column-columns.false c.if-position-least.false _ _ (O.Refused _)
+    (ap gives c.wear_amount.ensures ∙ amount_given _ _ _ (sym c.wear_fault-fault.ensures ∙ c.if-fault-ne0.false)) c.check_worn.ensures c.in-Refused.is

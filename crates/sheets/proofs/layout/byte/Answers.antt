@@ -1,0 +1,10 @@
+-- `layout::byte` meets its contract.
+use mathlib.Core.Path.{refl}
+use native.Mathlib.Omega.{arith}
+use Rattle.sheets.proofs.layout.byte.Goals as goal
+
+pub overflow_cast-result : goal.overflow_cast-result
+overflow_cast-result c = omega (arith, c.type_inv.s c.args.p)
+
+pub returns : goal.returns
+returns c = (refl, omega (arith, c.type_inv.s c.args.p))

@@ -1,0 +1,123 @@
+use mathlib.Core.Path.{◌≡◌, refl, sym, ap, ◌∙◌}
+use mathlib.Core.List.{List}
+use Prim.Native.Nat.{ℕ, ◌+◌, ◌-◌, ◌*◌, ◌≤◌, ◌<◌}
+use native.Mathlib.Omega.{arith}
+use lib.ListN.{length-set}
+use Rattle.refusals.specs.Answer.{gives, refuses, done}
+use Rattle.refusals.proofs.SizeLaws.{small}
+use Rattle.sheets.specs.declared.layout.Record.{Record}
+use Rattle.sheets.specs.declared.chain.Cell.{Cell}
+use Rattle.sheets.specs.declared.chain.Step.{Step}
+use Rattle.sheets.specs.declared.chain.Step.TheVariants as S
+use Rattle.sheets.specs.Layout.{record_of}
+use Rattle.sheets.specs.Amount.{wear_fault, wear_amount, cell_amount}
+use Rattle.sheets.specs.Cell.{worn_fault}
+use Rattle.sheets.specs.Chain.{stepped, worn_cell, visit_of, Walk, more, walk}
+use Rattle.sheets.specs.Reading.{cell_lower, cell_upper}
+use Rattle.sheets.proofs.CellAmounts.{amount_given, amount_tells}
+use Rattle.sheets.proofs.Walking.{Passing, walk_passing, visit_passing, visit_position, walk_end, walk_turn}
+use Rattle.sheets.proofs.Putting.{put_none, put_more}
+use Rattle.sheets.proofs.matrix.fill.Goals as goal
+
+pub loop-index-init : goal.loop-index-init
+loop-index-init c =
+    (c.args.rows * c.args.columns + 1, omega arith, omega arith, refl, refl, c.requires.5, refl, refl)
+
+module _ (kind : ℕ) (amounts s : List ℕ) (rows columns t index least : ℕ) (b : (rows * columns < t + least) × (least ≤ rows * columns)) (n : index ≡ 0 → ⊥)
+    (v : (walk (cell_amount kind amounts) s rows columns t index least).verdict ≡ done) where
+  -- the record at the index passes
+  passing : Passing (cell_amount kind amounts) s rows columns index least
+  passing = walk_passing _ _ _ _ t (t - 1) index least (omega arith) n v
+
+  module _ (r : Record) (e : r ≡ record_of s index) where
+    -- its wear and its bounds have no fault
+    fine : (wear_fault kind r.wear ≡ 0) × (worn_fault r.lower r.upper (wear_amount kind amounts r.wear) ≡ 0)
+    fine =
+        let p = passing.passed in
+        let t = amount_tells _ _ _ _ p.ruled in
+        rw e (t.0, ap (worn_fault _ _) t.1 ∙ p.fine)
+
+    -- what is visited there
+    visited : (z y : Step) → stepped z ≡ worn_cell columns r (wear_amount kind amounts r.wear) → z ≡ y → visit_of (cell_amount kind amounts) s rows columns index least ≡ stepped y
+    visited z y f g = visit_passing _ _ _ _ _ _ _ _ _ passing e (amount_given _ _ _ fine.0) f ∙ ap stepped g
+
+    -- a turn that passes the cell x
+    turned : (z : Step) (x : Cell) → rows ≤ 32 → columns ≤ 32 → stepped z ≡ worn_cell columns r (wear_amount kind amounts r.wear) → z ≡ S.Cell x
+        → (least ≤ x.position) × (x.position < rows * columns) × (rows * columns ≤ 1024)
+        × (walk (cell_amount kind amounts) s rows columns t index least ≡ more x (walk (cell_amount kind amounts) s rows columns (t - 1) x.next (x.position + 1)))
+    turned z x i k f g =
+        let v = visited z (S.Cell x) f g in
+        let j = visit_position (cell_amount kind amounts) s rows columns index least x v in
+        (j.0, j.1, small rows columns i k, walk_turn _ _ _ _ t (t - 1) _ _ (omega arith) n (gives x) v)
+
+pub record_at-requires : goal.record_at-requires
+record_at-requires c =
+    let a = c.args in
+    let h = c.loop-index in
+    omega (arith, (passing a.kind a.amounts.now a.s.now a.rows a.columns h.invariant.0 h.index h.least (omega arith, omega arith) (omega arith) h.invariant.5).index)
+
+pub passed-requires : goal.passed-requires
+passed-requires c =
+    let a = c.args in
+    let h = c.loop-index in
+    let p = (passing a.kind a.amounts.now a.s.now a.rows a.columns h.invariant.0 h.index h.least (omega arith, omega arith) (omega arith) h.invariant.5).passed in
+    let f = fine a.kind a.amounts.now a.s.now a.rows a.columns h.invariant.0 h.index h.least (omega arith, omega arith) (omega arith) h.invariant.5 _ c.record_at.ensures in
+    let e = c.record_at.ensures in
+    (omega arith, rw e (omega (arith, p.row)), rw e (omega (arith, p.column)), f.0, f.1)
+
+turn : (c : goal.In-Cell) →
+    let a = c.args in
+    let h = c.loop-index in
+    let x = c.in-Cell.c in
+    (h.least ≤ x.position) × (x.position < a.rows * a.columns) × (a.rows * a.columns ≤ 1024)
+    × (walk (cell_amount a.kind a.amounts.now) a.s.now a.rows a.columns h.invariant.0 h.index h.least ≡ more x (walk (cell_amount a.kind a.amounts.now) a.s.now a.rows a.columns (h.invariant.0 - 1) x.next (x.position + 1)))
+turn c =
+    let a = c.args in
+    let h = c.loop-index in
+    turned a.kind a.amounts.now a.s.now a.rows a.columns h.invariant.0 h.index h.least (omega arith, omega arith) (omega arith) h.invariant.5 _ c.record_at.ensures _ _ c.requires.0 c.requires.1 c.passed.ensures
+    c.in-Cell.is
+
+pub offset_bounds-lowers-position : goal.offset_bounds-lowers-position
+offset_bounds-lowers-position c = let j = turn c in omega arith
+
+pub bounds-lowers-position : goal.bounds-lowers-position
+bounds-lowers-position c = let j = turn c in omega arith
+
+pub offset_bounds-uppers-position : goal.offset_bounds-uppers-position
+offset_bounds-uppers-position c = let j = turn c in omega arith
+
+pub bounds-uppers-position : goal.bounds-uppers-position
+bounds-uppers-position c = let j = turn c in omega arith
+
+pub overflow_add-least : goal.overflow_add-least
+overflow_add-least c = let j = turn c in omega arith
+
+pub loop-index-smaller : goal.loop-index-smaller
+loop-index-smaller c = let j = turn c in omega arith
+
+pub loop-index-preserved : goal.loop-index-preserved
+loop-index-preserved c =
+    let h = c.loop-index in
+    let j = turn c in (
+      h.invariant.0 - 1,
+      omega arith,
+      omega arith,
+      simp length-set h.invariant.3,
+      simp length-set h.invariant.4,
+      sym (ap (λ (w : Walk). w.verdict) j.3) ∙ h.invariant.5,
+      put_more cell_lower _ _ _ _ j.3 ∙ h.invariant.6,
+      put_more cell_upper _ _ _ _ j.3 ∙ h.invariant.7,
+    )
+
+pub returns-in-Refused : goal.returns-in-Refused
+returns-in-Refused c =
+    let a = c.args in
+    let h = c.loop-index in
+    let w = walk_turn _ _ _ _ h.invariant.0 (h.invariant.0 - 1) _ _ (omega arith) (omega arith) (refuses _) (visited a.kind a.amounts.now a.s.now a.rows a.columns h.invariant.0 h.index h.least (omega arith, omega arith) (omega arith) h.invariant.5 _ c.record_at.ensures _ _ c.passed.ensures c.in-Refused.is) in
+    (sym (put_none cell_lower _ _ _ w) ∙ h.invariant.6, sym (put_none cell_upper _ _ _ w) ∙ h.invariant.7)
+
+pub returns : goal.returns
+returns c =
+    let h = c.loop-index in
+    let w = walk_end _ _ _ _ h.invariant.0 h.index h.least (omega arith) in
+    (sym (put_none cell_lower _ _ _ w) ∙ h.invariant.6, sym (put_none cell_upper _ _ _ w) ∙ h.invariant.7)
