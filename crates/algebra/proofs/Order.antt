@@ -1,5 +1,5 @@
 -- ℤ as an ordered commutative ring: laws of ≼ and ≺, products of facts, monotony, cancelling a positive factor.
--- What is linear is `lin-`'s, by `omega`; the product of two facts is `h ⊠ k`.
+-- What is linear is `lin_le`'s and its kin's, by `omega`; the product of two facts is `h ⊠ k`.
 use mathlib.Core.Path.{◌≡◌, sym}
 use mathlib.Core.List.{[], ◌∷◌}
 use mathlib.Core.Logic.{◌⊎◌, inl, inr, ⊎_elim}

@@ -107,7 +107,7 @@ cross a b c d e f h = ap nat_abs (sub_zero (pos (c + f + b)) (pos (a + d + e)) (
 pub balance : {ρ : List ℤ} {x y : ℤ} (r : Read₂ ρ x y) → pp y + nn x + Dn r ≡ Up r + nn y + pp x
 balance {ρ} {x} {y} r = cross (Up r) (Dn r) (pp y) (nn y) (pp x) (nn x) (sides r ∙ sym (ap₂ (λ a b. a -ℤ b) (parts y) (parts x)))
 
--- ---- the theorems: `nat-` takes a fact of integers to the naturals, and `int-` brings one back
+-- ---- the theorems: `nat_..` takes a fact of integers to the naturals, and `int_..` brings one back
 step : (a b c d u v : ℕ) → a + b + v ≡ u + c + d → v ≤ u → d + c ≤ a + b
 step a b c d u v e h = omega arith
 

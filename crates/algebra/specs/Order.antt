@@ -1,5 +1,5 @@
 -- The order of the integers. Definitions only.
--- `≼` and `≺` are lib.Signed's `≤ℤ` and `<ℤ`, which bind tighter than `+ℤ`. These bind as loosely as `≡`, so that sums need no brackets.
+-- `≼` and `≺` are the library's `≤ℤ` and `<ℤ`, which bind tighter than `+ℤ`. These bind as loosely as `≡`, so that sums need no brackets.
 use Rattle.std.specs.Prelude.{ℤ, ◌≤ℤ◌, ◌<ℤ◌}
 
 infix 4 ◌≼◌ ◌≺◌

@@ -41,7 +41,7 @@ Encloses Q k a b e = (x y : ℕ → Fraction) → Picked Q k a x → Picked Q k 
 
 -- ---- width
 
--- the bounds of the exact range: the sums of the least and of the greatest corner products. H is half of exactUpper - exactLower
+-- the bounds of the exact range: the sums of the least and of the greatest corner products. H is half of exact_upper - exact_lower
 unfoldable pub exact_lower : (k : ℕ) (a b : ℕ → Cell) → ℤ
 exact_lower k a b = Σ< k (λ l. least_corner (a l) (b l))
 
@@ -57,8 +57,8 @@ unfoldable pub T : (k : ℕ) (a b : ℕ → Cell) → ℕ
 T k a b = Σℕ k (λ l. largest (a l) + largest (b l))
 
 -- The bound of demand 3 for binary32: the width of the entry is at most 3 × H + (k + 4) × S / 2^20 + T / 2^147 + k / 2^146.
--- Here upper - lower and T are in units of 2^-149; exactUpper - exactLower, which is 2 × H, and S are in 2^-298. So the bound is
---   (upper - lower) / 2^149  ≤  3 × (exactUpper - exactLower) / 2^299 + (k + 4) × S / 2^318 + T / 2^296 + k / 2^146,
+-- Here upper - lower and T are in units of 2^-149; exact_upper - exact_lower, which is 2 × H, and S are in 2^-298. So the bound is
+--   (upper - lower) / 2^149  ≤  3 × (exact_upper - exact_lower) / 2^299 + (k + 4) × S / 2^318 + T / 2^296 + k / 2^146,
 -- and both sides are multiplied by 2^319 to be whole: the left factor is 2^170 = 2^21 × 2^149, the right ones are 2^20, 2, 2^23 and 2^173.
 unfoldable pub WidthFour : (k : ℕ) (a b : ℕ → Cell) → Range → Type 0
 WidthFour k a b e =

@@ -1,4 +1,4 @@
--- An integer divided by m: the remainder of the quotient rounded down (which is lib.Signed's `shr_z`), and the quotient rounded up. Definitions only.
+-- An integer divided by m: the remainder of the quotient rounded down (which is the library's `shr_z`), and the quotient rounded up. Definitions only.
 use Rattle.std.specs.Prelude.{Bool, true, false, ℕ, suc, ◌-◌, ◌/◌, ◌%◌, ℤ, pos, negsuc, neg_ℤ}
 use Rattle.rounding.specs.Rounding.{ceil}
 

@@ -72,6 +72,7 @@ fn check(amounts: &[u32; 8]) -> u8
 }
 
 // Reads a load. A length other than 32 is refused with 6 before all else.
+#[tactic(auto, using(crate::proofs::Loads::load_short))]
 pub fn read(bytes: &[u8]) -> Load
     ensures { loaded result ≡ load_of bytes.now }
 {

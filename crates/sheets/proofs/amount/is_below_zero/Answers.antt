@@ -5,7 +5,7 @@ use Rattle.sheets.proofs.CellAmounts.{not_below, below}
 use Rattle.sheets.proofs.amount.is_below_zero.Goals as goal
 
 pub returns-then-p-le2147483648 : goal.returns-then-p-le2147483648
-returns-then-p-le2147483648 c = not_below _ c.if-p-le2147483648.true
+returns-then-p-le2147483648 c = not_below c.args.p (omega arith)
 
 pub returns : goal.returns
-returns c = c.is_finite.ensures ∙ below c.args.p c.if-p-le2147483648.false (omega arith)
+returns c = c.is_finite.ensures ∙ below c.args.p (omega arith) (omega arith)

@@ -18,7 +18,7 @@ returns-then-wear-le7 c =
     wear_by _ a.wear true false false _ (eq-eqb _ _ c.if-kind-ne0.false) (le-ltb 255 a.wear (omega arith)) (le-ltb 7 a.wear (omega arith)) refl
 
 pub returns-then-wear-gt255 : goal.returns-then-wear-gt255
-returns-then-wear-gt255 c = wear_by _ _ true true _ _ (eq-eqb _ _ c.if-kind-ne0.false) (lt-ltb _ _ c.if-wear-gt255.true) refl refl
+returns-then-wear-gt255 c = wear_by _ _ true true _ _ (eq-eqb _ _ c.if-kind-ne0.false) (lt-ltb 255 c.args.wear (omega arith)) refl refl
 
 pub returns-else-wear-gt255 : goal.returns-else-wear-gt255
-returns-else-wear-gt255 c = wear_by _ _ true false true _ (eq-eqb _ _ c.if-kind-ne0.false) (le-ltb _ _ c.if-wear-gt255.false) (lt-ltb _ _ c.if-wear-le7.false) refl
+returns-else-wear-gt255 c = wear_by _ _ true false true _ (eq-eqb _ _ c.if-kind-ne0.false) (le-ltb 255 c.args.wear (omega arith)) (lt-ltb 7 c.args.wear (omega arith)) refl
