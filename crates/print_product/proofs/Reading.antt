@@ -1,7 +1,7 @@
 -- The text for the bytes that were read into the buffer is that for the whole input. Assumes nothing.
-use Rattle.std.proofs.Common.{◌≡◌, ℕ, ◌≤◌, ◌<◌, Bool, true, false, List, ◌++◌, Option, None, Some, IfSome, Result, Ok, Err, OnOk, refl, sym, subst, ap, ◌∙◌, append-nil, arith, ltb, length, take, length-take-le, take_at}
+use Rattle.std.proofs.Common.{◌≡◌, ℕ, ◌≤◌, ◌<◌, Bool, true, false, List, ◌++◌, Option, None, Some, IfSome, refl, sym, subst, ap, ◌∙◌, append-nil, arith, ltb, length, take, length-take-le, take_at}
 use borrow.Author.Tests.{ltb-true, ltb-false}
-use Rattle.std.specs.Io.KnownBytes.{Consumes, Appends, IsAtEnd}
+use Rattle.std.specs.Io.KnownBytes.{Consumes, IsAtEnd}
 use Rattle.print_product.specs.Printed.{printed_of}
 use Rattle.print_product.proofs.Cuts.{printed_cut}
 
@@ -24,8 +24,7 @@ read_whole (Some s) (Some rest) n buf t l h f p e = go (ltb n 32802) refl
 pub text_is : (k : ℕ) (t rest out : List ℕ) → k ≡ length t → out ≡ t ++ rest → take k out ≡ t
 text_is k t rest out h e = ap (take k) e ∙ take_at t rest k (sym h)
 
-pub printed_whole : {E : Type 0} (r : Result (Unit {0}) E) (a u v : Option (List ℕ)) (t : List ℕ) → OnOk r (Appends u v t) → IfSome a (λ s. t ≡ printed_of s)
-    → OnOk r (IfSome a (λ s. Appends u v (printed_of s)))
-printed_whole (Ok x) None u v t p e = tt
-printed_whole (Ok x) (Some s) u v t p e = subst (Appends u v) e p
-printed_whole (Err x) a u v t p e = tt
+-- what holds of the text t that is written holds of the text for the whole input a
+pub whole : (P : List ℕ → Type 0) (a : Option (List ℕ)) (t : List ℕ) → IfSome a (λ s. t ≡ printed_of s) → P t → IfSome a (λ s. P (printed_of s))
+whole P None t e p = tt
+whole P (Some s) t e p = subst P e p

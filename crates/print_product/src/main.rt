@@ -1,10 +1,11 @@
 // Prints the product of two coupling sheets. Standard input is one ASCII digit, the method, then sheet A, then sheet B.
 // A product is printed as "product", method, rows and columns, then a line for each cell: row, column, and both bounds as hexadecimal patterns.
-// A refusal is printed as "refused", number, matrix, row and column. Proved: the text is that of specs/Printed for the bytes that were read.
+// A refusal is printed as "refused", number, matrix, row and column. Proved: what is written is the text of specs/Printed for the whole input.
 #![tactic(auto)]
 
-ghost use Rattle.std.specs.Prelude.{◌≡◌, ◌++◌, ◌≤◌, ◌<◌, length, take, drop, IfOk, OnOk, IfSome};
-ghost use Rattle.std.specs.Io.KnownBytes.{Consumes, Appends, IsAtEnd};
+ghost use Rattle.std.specs.Prelude.{◌≡◌, ◌++◌, ◌≤◌, ◌<◌, length, take, drop, IfOk, OnErr, IfSome};
+ghost use Rattle.std.specs.Io.KnownBytes.{Consumes, IsAtEnd};
+ghost use Rattle.print_product.specs.Streams.{TakesSome, Writes};
 ghost use Rattle.print_product.specs.Printed.{sheets_text, printed_of};
 ghost use Rattle.print_product.specs.Put.{Put};
 
@@ -17,7 +18,7 @@ use refusals::sizes::MOST_CELLS;
 use sheets::Shape;
 use sheets::cut::first_length;
 use std::io;
-use std::io::{Read, Write};
+use std::io::{ErrorKind, Read, Write};
 
 // 1 + 16,400 + 16,401: a digit, the longest sheet A, and a sheet B that is one byte too long. Later bytes change nothing (proofs/Cuts).
 const INPUT: usize = 32802;
@@ -50,11 +51,12 @@ fn sheets_text(method: usize, s: &[u8], out: &mut [u8]) -> usize
 }
 
 // Reads until buf is full or the input ends, and returns how many bytes were put at the start of buf: the first of the input, all of it where buf is
-// not full. A read that fails ends it.
+// not full. A read that fails ends it; some first bytes of the input were taken then.
 fn read_full<R: Read>(input: &mut R, buf: &mut [u8]) -> io::Result<usize>
     ensures bound { IfOk result (λ n. n ≤ length buf.new) }
     ensures bytes { IfOk result (λ n. Consumes (R.remaining input.old) (R.remaining input.new) (take n buf.new)) }
     ensures end { IfOk result (λ n. n < length buf.new → IsAtEnd (R.remaining input.new)) }
+    ensures failed { OnErr result (TakesSome (R.remaining input.old) (R.remaining input.new)) }
 {
     let mut done = 0;
     while done < buf.len() {
@@ -67,15 +69,31 @@ fn read_full<R: Read>(input: &mut R, buf: &mut [u8]) -> io::Result<usize>
     Ok(done)
 }
 
-// Reads the input and writes the text for the whole of it; bytes behind the first 32,802 are not read. A read that fails ends it before anything is written.
+// Writes all of text. A write that fails ends it; a front part of text was written then.
+fn write_full<W: Write>(output: &mut W, text: &[u8]) -> io::Result<()>
+    ensures { Writes (W.contents output.old) (W.contents output.new) result text.now }
+{
+    let mut done = 0;
+    while done < text.len() {
+        let n = output.write(&text[done..])?;
+        if n == 0 {
+            return Err(ErrorKind::WriteZero.into());
+        }
+        done += n;
+    }
+    Ok(())
+}
+
+// Reads the input and writes the text for the whole of it; bytes behind the first 32,802 are not read. A read that fails ends it before anything is written,
+// and a write that fails after a front part of the text.
 fn print<R: Read, W: Write>(input: &mut R, output: &mut W) -> io::Result<()>
-    ensures { OnOk result (IfSome (R.remaining input.old) (λ s. Appends (W.contents output.old) (W.contents output.new) (printed_of s))) }
+    ensures { IfSome (R.remaining input.old) (λ s. Writes (W.contents output.old) (W.contents output.new) result (printed_of s)) }
 {
     let mut bytes = [0u8; INPUT];
     let n = read_full(input, &mut bytes)?;
     let mut text = [0u8; TEXT];
     let k = printed(&bytes[..n], &mut text);
-    output.write_all(&text[..k])
+    write_full(output, &text[..k])
 }
 
 fn main(rt: HostRuntime) -> io::Result<()> {
