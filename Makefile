@@ -6,7 +6,7 @@
 PREFIX ?= /usr/local
 archive := target/staticlib/libcoupling.a
 program := target/bin/print_product
-sources := $(wildcard crates/*/src/*.rt)
+sources := crates.txt $(wildcard crates/*/src/*.rt crates/*/specs/*.antt) $(shell find crates/*/proofs -name '*.antt')
 samples := target/samples/motor_to_lever.sheet target/samples/lever_to_bar.sheet
 
 help: ## list the commands

@@ -1,6 +1,7 @@
 // Prints the product of two coupling sheets. Standard input is one ASCII digit, the method, then sheet A, then sheet B.
 // A product is printed as "product", method, rows and columns, then a line for each cell: row, column, and both bounds as hexadecimal patterns.
-// A refusal is printed as "refused", number, matrix, row and column. Proved: what is written is the text of specs/Printed for the whole input.
+// A refusal is printed as "refused", number, matrix, row and column. Proved: the text is that of specs/Printed for the bytes that were
+// read (`printed`), and over a reader and a writer whose bytes are known it is that for the whole input (`print`).
 #![tactic(auto)]
 
 ghost use Rattle.std.specs.Prelude.{◌≡◌, ◌++◌, ◌≤◌, ◌<◌, length, take, drop, IfOk, OnErr, IfSome};
