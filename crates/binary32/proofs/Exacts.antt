@@ -3,18 +3,19 @@ use mathlib.Core.Path.{◌≡◌, refl, sym, ap, ap₂, ◌∙◌}
 use mathlib.Core.Bool.{Bool, true, false, cond}
 use mathlib.Core.Logic.{◌⊎◌, inl, inr}
 use mathlib.Core.Option.{Option, none, some, bind}
-use Prim.Native.Nat.{ℕ}
+use Prim.Native.Nat.{ℕ, ◌<◌}
 use lib.IntN.{ℤ}
 use Rattle.rounding.specs.Format.{binary32}
 use Rattle.rounding.specs.Rounding.{up, down, near}
-use Rattle.refusals.specs.declared.Refusal.{Refusal}
-use Rattle.refusals.specs.Answer.{Answer, gives, refuses, refuse}
+use Rattle.refusals.specs.Answer.{Answer, gives, refuse}
 use Rattle.binary32.specs.declared.parts.Parts.{Parts}
+use Rattle.binary32.specs.declared.funnel.Ways.{Ways}
 use Rattle.binary32.specs.declared.exact.Exact.TheVariants.{Value, Unknown}
 use Rattle.binary32.specs.Number.{value_of, finite, finites, held, hold}
 use Rattle.binary32.specs.Operations.{Way, on₂, with₂, answer_of, answer, checked_of}
 use Rattle.binary32.specs.Steps.{of, Decoded, Same, Rounds}
-use Rattle.binary32.proofs.Held.{Fits, is_finite, pattern_finite, held_finite, held_none, with_some}
+use Rattle.binary32.specs.Directions.{DirectionLaws}
+use Rattle.binary32.proofs.Held.{Fits, is_finite, pattern_finite, finites_first, finites_second, held_finite, held_none, with_some}
 
 -- ---- an operation on two partial results: F in units of 1 / D, where both are numbers
 pub rounds_some : (D : ℕ) (F : ℤ → ℤ → ℤ) (m n : Option ℤ) (x y : Parts) {r : Parts} → m ≡ some (of x) → n ≡ some (of y) → Same D (F (of x) (of y)) r
@@ -46,6 +47,12 @@ held_either a b e = go (finite a) refl
     go false f = inl (held_none a f)
     go true f = inr (held_none b (sym (ap (λ t. cond t (finite b) false) f) ∙ e))
 
+pub rounds_finite : (D : ℕ) (F : ℤ → ℤ → ℤ) (a b : ℕ) {x y r : Parts} → finites a b ≡ true → Decoded a x → Decoded b y → Same D (F (of x) (of y)) r
+    → Rounds (λ way. with₂ (λ u v. way binary32 D (F u v)) a b) (Value r)
+unfolding with₂
+rounds_finite D F a b {x} {y} t d e s =
+    rounds_some D F (held a) (held b) x y (held_decoded a (finites_first a b t) d) (held_decoded b (finites_second a b t) e) s
+
 -- ---- the answer, from a result that holds a number or none
 pub checked_is : (op : ℤ → ℤ → Option ℤ) (a b z : ℕ) → finite z ≡ false → Fits (op (value_of a) (value_of b))
     → checked_of a b (hold z (with₂ op a b)) ≡ answer op a b
@@ -62,16 +69,9 @@ checked_is op a b z f n = go (finites a b) refl
     go true e = ap (λ m. cond (finite (hold z m)) (gives (hold z m)) (refuse 5)) (with_some op a b e) ∙ told (op (value_of a) (value_of b)) n
     go false e = refl
 
--- a refusal of an operation names no matrix and no cell: its number is all of it
-pub answer_number : (op : ℤ → ℤ → Option ℤ) (a b : ℕ) (r : Refusal) → refuses r ≡ answer op a b → refuse r.number ≡ answer op a b
-unfolding answer
-answer_number op a b r e = ap unnamed e ∙ go (finites a b) (op (value_of a) (value_of b))
-  where
-    unnamed : Answer ℕ → Answer ℕ
-    unnamed (gives p) = gives p
-    unnamed (refuses x) = refuse x.number
-
-    go : (t : Bool) (m : Option ℤ) → unnamed (cond t (answer_of m) (refuse 3)) ≡ cond t (answer_of m) (refuse 3)
-    go true (some v) = refl
-    go true none = refl
-    go false m = refl
+-- the same in one direction, of the whole number F x y in units of 1 / D
+pub answered : {way : Way} {picked : Ways → ℤ} {z below above : ℕ} → DirectionLaws way picked z below above
+    → (D : ℕ) (F : ℤ → ℤ → ℤ) (a b : ℕ) {p : ℕ} {r : Answer ℕ} → 0 < D → r ≡ checked_of a b p → p ≡ hold z (with₂ (λ x y. way binary32 D (F x y)) a b)
+    → r ≡ answer (λ x y. way binary32 D (F x y)) a b
+unfolding Fits
+answered {z} laws D F a b d e f = e ∙ ap (checked_of a b) f ∙ checked_is _ a b z laws.outside (λ v. laws.numbers D _ v d)

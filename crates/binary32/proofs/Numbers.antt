@@ -2,9 +2,8 @@
 use Prim.Native.Nat.{ℕ, ◌<◌}
 use lib.IntN.{ℤ}
 use Rattle.rounding.specs.Format.{binary32}
-use Rattle.rounding.specs.Rounding.{up, down, near}
+use Rattle.rounding.specs.Rounding.{up, down}
 use Rattle.rounding.proofs.Directed.{up_is, down_is}
-use Rattle.rounding.proofs.Nearest.{near_is}
 use Rattle.binary32.proofs.Held.{Fits}
 
 module _ (D : ℕ) (d : 0 < D) (X : ℤ) where
@@ -15,7 +14,3 @@ module _ (D : ℕ) (d : 0 < D) (X : ℤ) where
   pub up_fits : Fits (up binary32 D X)
   unfolding Fits
   up_fits v e = (up_is binary32 D d e).num
-
-  pub near_fits : Fits (near binary32 D X)
-  unfolding Fits
-  near_fits v e = (near_is binary32 D d e).num

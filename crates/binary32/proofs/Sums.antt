@@ -4,14 +4,12 @@ use mathlib.Core.Bool.{Bool, true, false, not}
 use mathlib.Core.List.{[], ◌∷◌}
 use Prim.Native.Nat.{ℕ, zero, suc, ◌+◌, ◌-◌, ◌*◌, ◌^◌, ◌≤◌, ◌<◌}
 use native.Mathlib.Omega.{arith}
-use native.Mathlib.Nat.{mul_comm, mul-le-mul, not-suc-le-zero}
+use native.Mathlib.Nat.{mul_comm, mul-le-mul}
 use lib.Pow.{pow_pos, pow-add, pow_mono}
 use lib.Dec.{T, ltb, ltb→lt, nltb→le}
 use lib.IntN.{ℤ, pos, negsuc, nat_abs, ◌+ℤ◌, ◌*ℤ◌}
-use lib.Signed.{lt_z}
 use mir.Syntax.{w64}
 use mir.Val.{of_z, to_z}
-use borrow.Author.Tests.{lt-ltb, le-ltb, ltb-true}
 use Rattle.algebra.proofs.Absolute.{nat_abs_add, nat_abs_mul}
 use Rattle.algebra.proofs.Reading.{by_ring}
 use Rattle.algebra.proofs.Linear.{reading}
@@ -148,33 +146,3 @@ turned x y false = refl
 pub sum_ordered : (D : ℕ) (x y u v r : Parts) → u ≡ earlier x y → v ≡ later x y → Same D (of u +ℤ of v) r → Same D (of x +ℤ of y) r
 unfolding earlier later
 sum_ordered D x y u v r eu ev s = subst (λ X. Same D X r) (ap₂ (λ a b. of a +ℤ of b) eu ev ∙ turned x y (ltb x.exp y.exp)) s
-
--- the two ways of `first` and of `second`
-pub first_y : (x y : Parts) → x.exp < y.exp → y ≡ earlier x y
-unfolding earlier
-first_y x y h = ap (λ t. choose t x y) (sym (lt-ltb x.exp y.exp h))
-
-pub first_x : (x y : Parts) → y.exp ≤ x.exp → x ≡ earlier x y
-unfolding earlier
-first_x x y h = ap (λ t. choose t x y) (sym (le-ltb x.exp y.exp h))
-
-pub second_x : (x y : Parts) → x.exp < y.exp → x ≡ later x y
-unfolding later
-second_x x y h = ap (λ t. choose t y x) (sym (lt-ltb x.exp y.exp h))
-
-pub second_y : (x y : Parts) → y.exp ≤ x.exp → y ≡ later x y
-unfolding later
-second_y x y h = ap (λ t. choose t y x) (sym (le-ltb x.exp y.exp h))
-
--- ---- the sign
-pub sgn_below : (x : ℤ) → lt_z x (pos 0) ≡ true → negsuc 0 ≡ sgn x
-sgn_below (pos n) t = absurd (not-suc-le-zero (ltb-true n 0 t))
-sgn_below (negsuc n) t = refl
-
-pub sgn_zero : (x : ℤ) → x ≡ pos 0 → pos 0 ≡ sgn x
-sgn_zero x e = ap sgn (sym e)
-
-pub sgn_above : (x : ℤ) → lt_z x (pos 0) ≡ false → (of_z w64 x ≡ 0 → ⊥) → pos 1 ≡ sgn x
-sgn_above (pos zero) t h = absurd (h refl)
-sgn_above (pos (suc n)) t h = refl
-sgn_above (negsuc n) t h = absurd (subst T t tt)

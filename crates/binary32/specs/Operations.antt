@@ -3,10 +3,8 @@ use Rattle.std.specs.Prelude.{cond, ℕ, ◌-◌, ◌^◌, ℤ, ◌+ℤ◌, ◌-
 use Rattle.std.proofs.Math.Option.{Option, none, some, bind}
 use Rattle.rounding.specs.Format.{Format, binary32}
 use Rattle.rounding.specs.Rounding.{up, down, near}
-use Rattle.refusals.specs.Answer.{Answer, gives, refuses, refuse}
+use Rattle.refusals.specs.Answer.{Answer, gives, refuse}
 use Rattle.binary32.specs.Number.{value_of, finite, finites, held, pattern_of}
-use Rattle.binary32.specs.declared.Rounded.{Rounded}
-use Rattle.binary32.specs.declared.Rounded.TheVariants.{Number, Refused}
 
 -- a rounding: `up`, `down` or `near`
 abbrev pub Way : Type 0
@@ -43,11 +41,6 @@ abbrev pub plus_of : Way → ℕ → Option ℤ → Option ℤ
 plus_of way s t = on₂ (add way) (held s) t
 
 -- ---- on two patterns, with the refusals: 3 for exponent field 255, 5 where the result is too large for binary32
-
--- the answer that a `Rounded` of the code stands for
-abbrev pub rounded : Rounded → Answer ℕ
-rounded (Number p) = gives p
-rounded (Refused r) = refuses r
 
 -- the pattern of a result, or refusal 5
 abbrev pub answer_of : Option ℤ → Answer ℕ

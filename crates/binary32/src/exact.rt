@@ -28,13 +28,7 @@ pub fn times(x: Parts, y: Parts) -> Parts
 fn sign(x: i64) -> i64
     ensures { result ≡ sgn x }
 {
-    if x < 0 {
-        return -1;
-    }
-    if x == 0 {
-        return 0;
-    }
-    1
+    x.signum()
 }
 
 // x × 2^n + y
@@ -64,23 +58,19 @@ fn joined(x: Parts, y: Parts, lift: u32) -> Parts
 }
 
 // The summand with the larger exponent; x where the exponents are equal.
+#[tactic(auto, unfolding(crate::specs::Steps::earlier))]
 fn first(x: Parts, y: Parts) -> Parts
     ensures { result ≡ earlier x y }
 {
-    if x.exp < y.exp {
-        return y;
-    }
-    x
+    if x.exp < y.exp { y } else { x }
 }
 
 // The other summand.
+#[tactic(auto, unfolding(crate::specs::Steps::later))]
 fn second(x: Parts, y: Parts) -> Parts
     ensures { result ≡ later x y }
 {
-    if x.exp < y.exp {
-        return x;
-    }
-    y
+    if x.exp < y.exp { x } else { y }
 }
 
 // (x + y) × 2^(lift - 149) units.

@@ -8,15 +8,12 @@ use crate::Binary32;
 pub fn is_finite(p: u32) -> bool
     ensures { result ≡ finite p }
 {
-    p % 0x8000_0000 < Binary32::INFINITY
+    p % Binary32::SIGN < Binary32::INFINITY
 }
 
 // Whether neither exponent field is 255.
 pub fn are_finite(a: u32, b: u32) -> bool
     ensures { result ≡ finites a b }
 {
-    if !is_finite(a) {
-        return false;
-    }
-    is_finite(b)
+    is_finite(a) && is_finite(b)
 }

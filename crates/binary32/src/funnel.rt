@@ -8,13 +8,14 @@
 //     2^n / 2 < r                  c       c + 1    c + 1
 ghost use Rattle.std.specs.Prelude.{◌≡◌, ◌^◌, ◌≤◌, ◌<◌, pos, nat_abs, ◌+ℤ◌, ◌*ℤ◌};
 ghost use Rattle.std.specs.Int.Signed.{shr_z};
-ghost use Rattle.rounding.specs.Rounding.{up, down, near};
 ghost use Rattle.rounding.specs.Quotient.{bit, rem};
-ghost use Rattle.binary32.specs.Number.{hold_down, hold_up, hold_near};
-ghost use Rattle.binary32.specs.Steps.{packed, Split, IsCut, Small, exact};
+ghost use Rattle.binary32.specs.Number.{hold};
+ghost use Rattle.binary32.specs.Steps.{packed, Split, IsCut, Small, Safe, exactly};
 
 use crate::Binary32;
-use crate::parts::{Parts, magnitude, power, smaller};
+use crate::direction::Direction;
+use crate::exact::Exact;
+use crate::parts::power;
 
 // The significands of the three roundings. Each result is its significand × 2^shift units.
 #[derive(Clone, Copy)]
@@ -56,14 +57,14 @@ pub fn split(w: i64, n: u32, shift: u32) -> Ways
 {
     let c = floor(w, n);
     let r = rest(w, c, n);
-    let odd = magnitude(c) % 2;
+    let odd = c.unsigned_abs() % 2;
     let up = next(c, 0 < r);
     let near = next(c, (1u64 << n) < 2 * r + odd);
     Ways {
         down: c,
-        up: up,
-        near: near,
-        shift: shift,
+        up,
+        near,
+        shift,
     }
 }
 
@@ -92,56 +93,46 @@ pub fn cut(s: i64, e: u32) -> Ways
             shift: 0,
         };
     }
-    let zeros = u64::leading_zeros(magnitude(s));
+    let zeros = s.unsigned_abs().leading_zeros();
     let top = 64 - zeros + e;
     let wide = s * power(zeros - 3);
     if FULL <= top {
         return split(wide, DROPPED, top - FULL);
     }
-    split(wide, smaller(WIDE_UNITS - top, 62), 0)
+    split(wide, (WIDE_UNITS - top).min(62), 0)
 }
 
 // The pattern of c × 2^shift units. Where that is too large for binary32: `below` for negative c, `above` for positive c.
-pub fn pack(c: i64, shift: u32, below: u32, above: u32) -> u32
+#[tactic(auto, unfolding(crate::specs::Steps::packed))]
+fn pack(c: i64, shift: u32, below: u32, above: u32) -> u32
     requires { (nat_abs c ≤ 2 ^ 24) × (shift ≤ 500) }
     ensures { result ≡ packed c shift below above }
 {
-    let t = shift * 0x80_0000 + magnitude(c) as u32;
+    let t = shift * Binary32::HIDDEN + c.unsigned_abs() as u32;
     if t < Binary32::INFINITY {
-        if c < 0 {
-            return 0x8000_0000 + t;
-        }
-        return t;
+        if c < 0 { Binary32::SIGN + t } else { t }
+    } else if c < 0 {
+        below
+    } else {
+        above
     }
-    if c < 0 {
-        return below;
+}
+
+// The pattern of this direction's significand.
+pub fn pattern<D: Direction>(c: Ways) -> u32
+    requires { (nat_abs (D.picked c) ≤ 2 ^ 24) × (c.shift ≤ 500) }
+    ensures { result ≡ packed (D.picked c) c.shift D.BELOW D.ABOVE }
+{
+    pack(D::pick(c), c.shift, D::BELOW, D::ABOVE)
+}
+
+// An exact value, rounded in this direction; D::NONE where an operand has exponent field 255 or there is no finite result.
+pub fn round<D: Direction>(x: Exact) -> u32
+    requires { Safe x }
+    ensures { result ≡ hold D.NONE (exactly D.way x) }
+{
+    match x {
+        Exact::Value(x) => pattern::<D>(cut(x.sig, x.exp)),
+        Exact::Unknown => D::NONE,
     }
-    above
-}
-
-// x, rounded down: minus infinity where x is below all numbers, the largest number where x is above all.
-pub fn round_down(x: Parts) -> u32
-    requires { Small x.sig x.exp }
-    ensures { result ≡ hold_down (exact down x) }
-{
-    let c = cut(x.sig, x.exp);
-    pack(c.down, c.shift, Binary32::MINUS_INFINITY, Binary32::LARGEST)
-}
-
-// x, rounded up: infinity where x is above all numbers, the least number, -MAX, where x is below all.
-pub fn round_up(x: Parts) -> u32
-    requires { Small x.sig x.exp }
-    ensures { result ≡ hold_up (exact up x) }
-{
-    let c = cut(x.sig, x.exp);
-    pack(c.up, c.shift, Binary32::LEAST, Binary32::INFINITY)
-}
-
-// x, rounded to nearest: infinity where |x| is 2^128 - 2^103 or more, half an ulp above the largest number.
-pub fn round_near(x: Parts) -> u32
-    requires { Small x.sig x.exp }
-    ensures { result ≡ hold_near (exact near x) }
-{
-    let c = cut(x.sig, x.exp);
-    pack(c.near, c.shift, Binary32::INFINITY, Binary32::INFINITY)
 }

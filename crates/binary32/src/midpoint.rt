@@ -7,8 +7,9 @@ ghost use Rattle.binary32.specs.Operations.{midpoint, with₂};
 ghost use Rattle.binary32.specs.Steps.{Small, exact};
 
 use crate::Binary32;
+use crate::direction::{Near, Up};
 use crate::exact::{Exact, total};
-use crate::funnel::{cut, pack};
+use crate::funnel::{cut, pattern};
 use crate::parts::Parts;
 
 // A value rounded to nearest and rounded up; infinity where there is no finite result.
@@ -26,8 +27,8 @@ fn round(x: Parts) -> NearUp
 {
     let c = cut(x.sig, x.exp);
     NearUp {
-        near: pack(c.near, c.shift, Binary32::INFINITY, Binary32::INFINITY),
-        up: pack(c.up, c.shift, Binary32::LEAST, Binary32::INFINITY),
+        near: pattern::<Near>(c),
+        up: pattern::<Up>(c),
     }
 }
 

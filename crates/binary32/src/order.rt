@@ -3,32 +3,38 @@ ghost use Rattle.std.specs.Prelude.{◌≡◌};
 ghost use Rattle.binary32.specs.Number.{negated};
 ghost use Rattle.binary32.specs.Order.{magnitude_of, key_of, at_most, least_of, greatest_of};
 
+use crate::Binary32;
+
 // The pattern with its sign bit changed.
+#[tactic(auto, unfolding(crate::specs::Number::negated))]
 pub fn negate(p: u32) -> u32
     ensures { result ≡ negated p }
 {
-    if p < 0x8000_0000 {
-        return p + 0x8000_0000;
+    if p < Binary32::SIGN {
+        p + Binary32::SIGN
+    } else {
+        p - Binary32::SIGN
     }
-    p - 0x8000_0000
 }
 
 // The pattern with its sign bit cleared.
 pub fn magnitude(p: u32) -> u32
     ensures { result ≡ magnitude_of p }
 {
-    p % 0x8000_0000
+    p % Binary32::SIGN
 }
 
 // An integer that rises with the value of the pattern, 0 for both zeros.
+#[tactic(auto, unfolding(crate::specs::Order::key_of))]
 fn key(p: u32) -> i64
     ensures { result ≡ key_of p }
 {
-    let m = (p % 0x8000_0000) as i64;
-    if p < 0x8000_0000 { m } else { -m }
+    let m = i64::from(magnitude(p));
+    if p < Binary32::SIGN { m } else { -m }
 }
 
 // Whether the value of a is at most that of b.
+#[tactic(auto, using(crate::proofs::Orders::key_order))]
 pub fn at_most(a: u32, b: u32) -> bool
     ensures { result ≡ at_most a b }
 {
@@ -36,6 +42,7 @@ pub fn at_most(a: u32, b: u32) -> bool
 }
 
 // The pattern with the lesser value; a where the values are equal.
+#[tactic(auto, unfolding(crate::specs::Order::least_of))]
 pub fn least(a: u32, b: u32) -> u32
     ensures { result ≡ least_of a b }
 {
@@ -43,6 +50,7 @@ pub fn least(a: u32, b: u32) -> u32
 }
 
 // The pattern with the greater value; b where the values are equal.
+#[tactic(auto, unfolding(crate::specs::Order::greatest_of))]
 pub fn greatest(a: u32, b: u32) -> u32
     ensures { result ≡ greatest_of a b }
 {

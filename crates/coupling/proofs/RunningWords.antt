@@ -1,16 +1,13 @@
 -- A running entry's value in a lent slice: the numbers of a value are read back as it, what a call on it answers and leaves, and that histories of calls go on
 -- from slice to slice. Assumes nothing.
-use mathlib.Core.Path.{◌≡◌, refl, sym, ap, ap₂, subst, ◌∙◌}
+use mathlib.Core.Path.{◌≡◌, refl, sym, ap, subst, ◌∙◌}
 use mathlib.Core.List.{List, [], ◌∷◌, ◌++◌}
-use Prim.Native.Nat.{ℕ, ◌+◌, ◌≤◌, ◌<◌}
+use Prim.Native.Nat.{ℕ, ◌≤◌, ◌<◌}
 use native.Mathlib.Omega.{arith}
 use lib.ListN.{length, drop, length-append}
 use borrow.Author.Tests.{le-leb, lt-leb}
-use Rattle.refusals.specs.declared.Refusal.{Refusal}
-use Rattle.refusals.specs.declared.Outcome.{Outcome}
-use Rattle.refusals.specs.declared.Outcome.TheVariants.{Done, Refused}
 use Rattle.refusals.specs.Refusal.{of_matrix, code_of}
-use Rattle.refusals.specs.Answer.{Answer, gives, refuses, refuse, done, outcome, then, coded, unless_refused}
+use Rattle.refusals.specs.Answer.{Answer, gives, refuses, refuse, coded}
 use Rattle.refusals.proofs.Answers.{gives_injective, next_tells, passing_tells}
 use Rattle.sheets.specs.Wear.{fixed_amounts}
 use Rattle.sheets.specs.Load.{patterns_of, load_fault, load_of}
@@ -59,15 +56,6 @@ module _ (v : Running) (n : length v.amounts ≡ 8) where
 in_slice_is : (d : List ℕ) (n : Answer Running) → 11 ≤ length d → in_slice d n ≡ n
 in_slice_is d n h = rw (le-leb 11 (length d) h)
 
--- ---- what is left by the outcome o of a call: the front, or what was there
-pub put_done : {o : Outcome} (front d w : List ℕ) → o ≡ Done → w ≡ front ++ drop 11 d
-    → (0 ≡ coded (λ _. 0) (outcome o)) × (w ≡ unless_refused (outcome o) (front ++ drop 11 d) d)
-put_done front d w e k = (ap (λ z. coded (λ _. 0) (outcome z)) (sym e), k ∙ ap (λ z. unless_refused (outcome z) (front ++ drop 11 d) d) (sym e))
-
-pub put_refused : {o : Outcome} {x : Refusal} {r : ℕ} (front d : List ℕ) → o ≡ Refused x → r ≡ code_of x
-    → (r ≡ coded (λ _. 0) (outcome o)) × (d ≡ unless_refused (outcome o) (front ++ drop 11 d) d)
-put_refused front d e k = (k ∙ ap (λ z. coded (λ _. 0) (outcome z)) (sym e), ap (λ z. unless_refused (outcome z) (front ++ drop 11 d) d) (sym e))
-
 -- ---- a call with the answer n on a slice that holds d, of which P is promised
 module _ (d : List ℕ) (n : Answer Running) (P : List ℕ → Type 0) (p : P (words_after (in_slice d n) d)) where
   abbrev Promised : ℕ → List ℕ → Type 0
@@ -86,20 +74,6 @@ module _ (d : List ℕ) (n : Answer Running) (P : List ℕ → Type 0) (p : P (w
   module _ (h : 11 ≤ length d) where
     pub long_left : {r : ℕ} {w : List ℕ} → r ≡ coded (λ _. 0) n → w ≡ words_after n d → Promised r w
     long_left e f = promised (e ∙ ap (coded (λ _. 0)) (sym (in_slice_is d n h))) (f ∙ ap (λ m. words_after m d) (sym (in_slice_is d n h)))
-
-    -- from the outcome o and the next value v of a call on the value s
-    pub next_left : (o : Outcome) (v s : Running) {r : ℕ} {w : List ℕ} → outcome o ≡ then n done → v ≡ or_same n s → r ≡ coded (λ _. 0) (outcome o)
-        → w ≡ unless_refused (outcome o) (words_of v ++ drop 11 d) d → Promised r w
-    next_left o v s x y e f =
-        long_left (e ∙ ap (coded (λ _. 0)) x ∙ same_code n) (f ∙ ap₂ (λ (m : Answer (Unit {0})) u. unless_refused m (words_of u ++ drop 11 d) d) x y ∙ same_words n)
-      where
-        same_code : (m : Answer Running) → coded (λ _. 0) (then m done) ≡ coded (λ _. 0) m
-        same_code (gives u) = refl
-        same_code (refuses q) = refl
-
-        same_words : (m : Answer Running) → unless_refused (then m done) (words_of (or_same m s) ++ drop 11 d) d ≡ words_after m d
-        same_words (gives u) = refl
-        same_words (refuses q) = refl
 
 -- ---- a start
 pub start_begins : (d : List ℕ) → Begins d (words_after (start_in d) d)

@@ -1,27 +1,24 @@
 -- The answers of a read, a write and a product for a caller in C. Definitions only.
 use Rattle.std.specs.Prelude.{◌≡◌, List, ℕ, ◌+◌, ◌*◌, ◌≤◌}
-use Rattle.refusals.specs.Answer.{coded}
-use Rattle.sheets.specs.declared.Shape.{Shape}
-use Rattle.sheets.specs.declared.Shape.TheVariants as S
-use Rattle.sheets.specs.declared.Written.{Written}
-use Rattle.sheets.specs.declared.Written.TheVariants as W
+use Rattle.refusals.specs.Answer.{Answer, gives, refuses, coded}
+use Rattle.sheets.specs.declared.Sizes.{Sizes}
 use Rattle.matrices.specs.Checks.{Given, called}
 use Rattle.matrices.specs.Product.{product_of, Left}
 use Rattle.matrices.specs.Demand.{Keeps}
 
 -- rows and columns as one number: 100 × rows + columns
-abbrev pub sizes_code : ℕ × ℕ → ℕ
-sizes_code x = 100 * x.0 + x.1
+abbrev pub sizes_code : Sizes → ℕ
+sizes_code z = 100 * z.rows + z.columns
 
 -- sizes that were read are small, so that their number fits 32 bits
-abbrev pub SmallSizes : Shape → Type 0
-SmallSizes (S.Sizes rows columns) = (rows ≤ 32) × (columns ≤ 32)
-SmallSizes (S.Refused r) = Unit {0}
+abbrev pub SmallSizes : Answer Sizes → Type 0
+SmallSizes (gives z) = (z.rows ≤ 32) × (z.columns ≤ 32)
+SmallSizes (refuses r) = Unit {0}
 
 -- a length that was written fits 32 bits: no sheet is longer than 16,400 bytes
-abbrev pub Short : Written → Type 0
-Short (W.Bytes n) = n ≤ 16400
-Short (W.Refused r) = Unit {0}
+abbrev pub Short : Answer ℕ → Type 0
+Short (gives n) = n ≤ 16400
+Short (refuses r) = Unit {0}
 
 -- a product with the arguments g: returns 0 or the refusal's code, leaves the lent slices as `Left` says, and its result meets demand 3 (enclosure, width)
 pub record Answered (g : Given) (ma ra mb rb lo up : List ℕ) (r : ℕ) (ma' ra' mb' rb' lo' up' : List ℕ) : Type 0 where

@@ -2,22 +2,23 @@
 // length of the sheet, a product 0; or, where it refuses, 1,000,000 × number + 10,000 × matrix + 100 × row + column of the refusal.
 ghost use Rattle.std.specs.Prelude.{◌≡◌, length};
 ghost use Rattle.refusals.specs.Answer.{coded};
-ghost use Rattle.sheets.specs.Reading.{shape, read_of, lowers_after, uppers_after, read_with, lowers_with, uppers_with};
+ghost use Rattle.sheets.specs.Reading.{read_of, lowers_after, uppers_after, read_with, lowers_with, uppers_with};
 ghost use Rattle.sheets.specs.Writing.{write_of, out_after};
 ghost use Rattle.sheets.specs.Trip.{TripOf};
 ghost use Rattle.coupling.specs.Cells.{sizes_code, SmallSizes, Called};
 
 use crate::length_code;
-use sheets::Shape;
+use refusals::Refusal;
+use sheets::Sizes;
 
 // The answer of a read: 100 × rows + columns, or the refusal's code.
-fn sizes_code(s: Shape) -> u32
-    requires { SmallSizes s }
-    ensures { result ≡ coded sizes_code (shape s) }
+fn sizes_code(answer: Result<Sizes, Refusal>) -> u32
+    requires { SmallSizes answer }
+    ensures { result ≡ coded sizes_code answer }
 {
-    match s {
-        Shape::Sizes(rows, columns) => (100 * rows + columns) as u32,
-        Shape::Refused(r) => r.code(),
+    match answer {
+        Ok(Sizes { rows, columns }) => (100 * rows + columns) as u32,
+        Err(r) => r.code(),
     }
 }
 
@@ -90,8 +91,7 @@ pub fn coupling_product(
         ma.old ra.old mb.old rb.old lo.old up.old
         result ma.new ra.new mb.new rb.new lo.new up.new }
 {
-    products::product(
+    refusals::code(products::product(
         method, a_rows, a_columns, b_rows, b_columns, al, au, bl, bu, ma, ra, mb, rb, lo, up,
-    )
-    .code()
+    ))
 }

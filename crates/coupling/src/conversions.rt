@@ -5,8 +5,7 @@ ghost use Rattle.refusals.specs.Answer.{coded};
 ghost use Rattle.intervals.specs.Conversion.{midrad_of, bounds_of};
 ghost use Rattle.coupling.specs.Conversions.{first_after, second_after, OptimalWords};
 
-use intervals::{Bounded, Converted, to_bounds, to_midrad};
-use refusals::Refusal;
+use intervals::{to_bounds, to_midrad};
 
 // Bounds to midpoint and radius. No pair of binary32 numbers that encloses the range has a smaller radius.
 pub fn coupling_to_midrad(lower: u32, upper: u32, mid: &mut u32, rad: &mut u32) -> u32
@@ -16,12 +15,12 @@ pub fn coupling_to_midrad(lower: u32, upper: u32, mid: &mut u32, rad: &mut u32) 
     ensures optimal { OptimalWords lower upper (midrad_of lower upper) mid.new rad.new }
 {
     match to_midrad(lower, upper) {
-        Converted::MidRad(m, r) => {
+        Ok((m, r)) => {
             *mid = m;
             *rad = r;
             0
         }
-        Converted::Refused(n) => Refusal::of_matrix(n, 0).code(),
+        Err(r) => r.code(),
     }
 }
 
@@ -32,11 +31,11 @@ pub fn coupling_to_bounds(mid: u32, rad: u32, lower: &mut u32, upper: &mut u32) 
     ensures second { upper.new ≡ second_after (bounds_of mid rad) upper.old }
 {
     match to_bounds(mid, rad) {
-        Bounded::Bounds(lo, hi) => {
+        Ok((lo, hi)) => {
             *lower = lo;
             *upper = hi;
             0
         }
-        Bounded::Refused(n) => Refusal::of_matrix(n, 0).code(),
+        Err(r) => r.code(),
     }
 }

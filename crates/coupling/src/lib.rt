@@ -4,7 +4,6 @@
 
 ghost use Rattle.std.specs.Prelude.{◌≡◌, length};
 ghost use Rattle.refusals.specs.Answer.{coded};
-ghost use Rattle.sheets.specs.Writing.{written};
 ghost use Rattle.job.specs.Delivery.{out_of};
 ghost use Rattle.job.specs.Job.{job_product, job_of};
 ghost use Rattle.job.specs.Train.{train_product, train_of};
@@ -12,7 +11,7 @@ ghost use Rattle.job.specs.Demand.{JobKeeps};
 ghost use Rattle.job.specs.TrainDemand.{TrainKeeps};
 ghost use Rattle.coupling.specs.Cells.{Short};
 
-use sheets::Written;
+use refusals::Refusal;
 
 pub mod cells;
 pub mod conversions;
@@ -21,13 +20,13 @@ pub mod running_value;
 mod running_words;
 
 // The answer of a write: the length of the sheet, or the refusal's code.
-fn length_code(w: Written) -> u32
-    requires { Short w }
-    ensures { result ≡ coded (λ n. n) (written w) }
+fn length_code(answer: Result<usize, Refusal>) -> u32
+    requires { Short answer }
+    ensures { result ≡ coded (λ n. n) answer }
 {
-    match w {
-        Written::Bytes(n) => n as u32,
-        Written::Refused(r) => r.code(),
+    match answer {
+        Ok(n) => n as u32,
+        Err(r) => r.code(),
     }
 }
 

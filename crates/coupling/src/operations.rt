@@ -1,19 +1,20 @@
 // The operations of binary32, for callers in C. Each takes two patterns and returns the pattern of the result; or it refuses and returns
 // 0x7F800003 (refusal 3, an operand has exponent field 255) or 0x7F800005 (refusal 5, the result is too large for binary32).
 ghost use Rattle.std.specs.Prelude.{◌≡◌};
-ghost use Rattle.binary32.specs.Operations.{rounded, add_down, add_up, add_near, sub_down, sub_up, sub_near};
+ghost use Rattle.binary32.specs.Operations.{add_down, add_up, add_near, sub_down, sub_up, sub_near};
 ghost use Rattle.binary32.specs.Operations.{mul_down, mul_up, mul_near, midpoint_down, midpoint_up, midpoint_near};
 ghost use Rattle.coupling.specs.Operations.{pattern_for};
 
-use binary32::{Binary32, Rounded};
+use binary32::Binary32;
+use refusals::Refusal;
 
 // The pattern of the result, or the refusal's number added to the pattern of infinity: no result has exponent field 255.
-fn pattern_for(r: Rounded) -> u32
-    ensures { result ≡ pattern_for (rounded r) }
+fn pattern_for(answer: Result<u32, Refusal>) -> u32
+    ensures { result ≡ pattern_for answer }
 {
-    match r {
-        Rounded::Number(p) => p,
-        Rounded::Refused(x) => Binary32::INFINITY + x.number as u32,
+    match answer {
+        Ok(p) => p,
+        Err(r) => Binary32::INFINITY + r.number as u32,
     }
 }
 

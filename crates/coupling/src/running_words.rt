@@ -1,10 +1,10 @@
 // The value of a running entry in a lent slice: its first 11 numbers, which the functions for C (running_value.rt) read and write.
 ghost use Rattle.std.specs.Prelude.{◌≡◌, ◌++◌, ◌≤◌, length, drop};
-ghost use Rattle.refusals.specs.Answer.{outcome, unless_refused, coded};
-ghost use Rattle.coupling.specs.RunningValue.{words_of, value_in};
+ghost use Rattle.refusals.specs.Answer.{coded};
+ghost use Rattle.coupling.specs.RunningValue.{words_of, value_in, words_after};
 
-use refusals::Outcome;
-use running::{Next, Running};
+use refusals::Refusal;
+use running::Running;
 
 // How many numbers a value has.
 pub const WORDS: usize = 11;
@@ -39,28 +39,20 @@ pub fn put(v: Running, words: &mut [u32])
     requires { 11 ≤ length words.old }
     ensures { words.new ≡ words_of v ++ drop 11 words.old }
 {
-    let from = words_of(v);
-    let mut i = 0;
-    while i < WORDS {
-        words[i] = from[i];
-        i += 1;
-    }
+    words[..WORDS].copy_from_slice(&words_of(v));
 }
 
 // Puts the next value into the front of a slice, unless the call was refused. Returns 0 or the refusal's code.
-pub fn put_next(next: Next, words: &mut [u32]) -> u32
+pub fn put_next(next: Result<Running, Refusal>, words: &mut [u32]) -> u32
     requires { 11 ≤ length words.old }
-    ensures answer { result ≡ coded (λ _. 0) (outcome next.outcome) }
-    ensures left { words.new ≡
-        unless_refused (outcome next.outcome) (words_of next.value ++ drop 11 words.old) words.old }
+    ensures answer { result ≡ coded (λ _. 0) next }
+    ensures left { words.new ≡ words_after next words.old }
 {
-    let outcome = next.outcome;
-    match outcome {
-        Outcome::Done => {
-            let value = next.value;
+    match next {
+        Ok(value) => {
             put(value, words);
             0
         }
-        Outcome::Refused(r) => r.code(),
+        Err(r) => r.code(),
     }
 }

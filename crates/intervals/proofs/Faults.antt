@@ -1,5 +1,5 @@
 -- Laws of `fault_of`, one for each way that the code returns; what a pair of bounds without a fault is. Assumes nothing.
-use mathlib.Core.Path.{◌≡◌, refl, sym, ap, ap₂}
+use mathlib.Core.Path.{◌≡◌, refl, sym, ap₂}
 use mathlib.Core.Bool.{Bool, true, false, cond}
 use Prim.Native.Nat.{ℕ}
 use native.Mathlib.Omega.{arith}
@@ -9,29 +9,16 @@ use Rattle.binary32.specs.Number.{value_of, finite, finites}
 use Rattle.binary32.specs.Order.{at_most}
 use Rattle.binary32.proofs.Orders.{at_most_tells}
 use Rattle.binary32.proofs.Held.{and_first, and_second, finite_is, value_num}
-use Rattle.intervals.specs.Conversion.{fault_of, radius_fault_of}
+use Rattle.intervals.specs.Conversion.{fault_of}
 
 -- ---- by the two tests: are both numbers, and are they in order
 abbrev by_tests : Bool → Bool → ℕ
 by_tests s t = cond s (cond t 0 4) 3
 
 module _ (lo hi : ℕ) where
-  pub fault_not_finite : finites lo hi ≡ false → 3 ≡ fault_of lo hi
-  unfolding fault_of
-  fault_not_finite e = sym (ap (λ s. by_tests s (at_most lo hi)) e)
-
   pub fault_by_order : (t : Bool) → finites lo hi ≡ true → at_most lo hi ≡ t → cond t 0 4 ≡ fault_of lo hi
   unfolding fault_of
   fault_by_order t e f = sym (ap₂ by_tests e f)
-
-module _ (m r : ℕ) where
-  pub radius_not_finite : finites m r ≡ false → 3 ≡ radius_fault_of m r
-  unfolding radius_fault_of
-  radius_not_finite e = sym (ap (λ s. by_tests s (at_most 0 r)) e)
-
-  pub radius_by_sign : (t : Bool) → finites m r ≡ true → at_most 0 r ≡ t → cond t 0 4 ≡ radius_fault_of m r
-  unfolding radius_fault_of
-  radius_by_sign t e f = sym (ap₂ by_tests e f)
 
 -- two numbers in order
 pub record Ordered (lo hi : ℕ) : Type 0 where

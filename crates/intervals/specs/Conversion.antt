@@ -5,14 +5,10 @@ use Rattle.rounding.specs.Rounding.{up}
 use Rattle.enclosure.specs.Arithmetic.{of}
 use Rattle.enclosure.specs.Conversion.{mid, rad}
 use Rattle.enclosure.specs.Optimal.{Optimal}
-use Rattle.refusals.specs.Answer.{Answer, gives, refuses, refuse, passing, both}
+use Rattle.refusals.specs.Answer.{Answer, gives, refuses, passing, both}
 use Rattle.binary32.specs.Number.{value_of, finites, pattern_of, hold_up}
 use Rattle.binary32.specs.Operations.{midpoint, with₂, sub_down, add_up}
 use Rattle.binary32.specs.Order.{at_most}
-use Rattle.intervals.specs.declared.Converted.{Converted}
-use Rattle.intervals.specs.declared.Converted.TheVariants as C
-use Rattle.intervals.specs.declared.Bounded.{Bounded}
-use Rattle.intervals.specs.declared.Bounded.TheVariants as B
 
 -- the fault of two bounds: 3, a pattern has exponent field 255; else 4, the lower bound is above the upper; else 0
 unfoldable pub fault_of : ℕ → ℕ → ℕ
@@ -34,11 +30,6 @@ rad_of lo hi = pattern_of (rad (of binary32) (value_of lo) (value_of hi))
 abbrev pub mid_up_of : ℕ → ℕ → ℕ
 mid_up_of lo hi = hold_up (with₂ (midpoint up) lo hi)
 
--- the answer that a `Converted` of the code stands for
-abbrev pub converted : Converted → Answer (ℕ × ℕ)
-converted (C.MidRad m r) = gives (m, r)
-converted (C.Refused n) = refuse n
-
 unfoldable pub midrad_of : ℕ → ℕ → Answer (ℕ × ℕ)
 midrad_of lo hi = passing (fault_of lo hi) (gives (mid_of lo hi, rad_of lo hi))
 
@@ -48,11 +39,6 @@ OptimalFor lo hi (gives (m, r)) = Optimal binary32 (value_of lo) (value_of hi) (
 OptimalFor lo hi (refuses x) = Unit {0}
 
 -- ---- midpoint and radius to bounds: m - r rounded down, m + r rounded up
-
--- the answer that a `Bounded` of the code stands for
-abbrev pub bounded : Bounded → Answer (ℕ × ℕ)
-bounded (B.Bounds lo hi) = gives (lo, hi)
-bounded (B.Refused n) = refuse n
 
 -- two bounds moved outward by w: lo - w rounded down, hi + w rounded up
 abbrev pub outward_of : ℕ → ℕ → ℕ → Answer (ℕ × ℕ)

@@ -2,31 +2,19 @@
 #![tactic(auto)]
 
 ghost use Rattle.std.specs.Prelude.{◌≡◌};
-ghost use Rattle.intervals.specs.Conversion.{fault_of, radius_fault_of, mid_of, mid_up_of, rad_of, converted, midrad_of, OptimalFor, bounded, outward_of, bounds_of};
+ghost use Rattle.intervals.specs.Conversion.{fault_of, radius_fault_of, mid_of, mid_up_of, rad_of, midrad_of, OptimalFor, outward_of, bounds_of};
 
+use binary32::direction::Up;
 use binary32::finite::are_finite;
 use binary32::midpoint::{NearUp, near_up};
 use binary32::order::at_most;
-use binary32::partial::sub_up;
-use binary32::{Rounded, add_up, sub_down};
+use binary32::{add_up, partial, sub_down};
+use refusals::Refusal;
 
 pub mod slices;
 
-// A midpoint and a radius, or the number of the refusal.
-#[derive(Clone, Copy)]
-pub enum Converted {
-    MidRad(u32, u32),
-    Refused(u8),
-}
-
-// A lower and an upper bound, or the number of the refusal.
-#[derive(Clone, Copy)]
-pub enum Bounded {
-    Bounds(u32, u32),
-    Refused(u8),
-}
-
 // The fault of a pair of bounds, as the number of a refusal: 3, a bound has exponent field 255; 4, the lower bound is above the upper; 0, none.
+#[tactic(auto, unfolding(crate::specs::Conversion::fault_of))]
 pub fn check(lo: u32, hi: u32) -> u8
     ensures { result ≡ fault_of lo hi }
 {
@@ -37,6 +25,7 @@ pub fn check(lo: u32, hi: u32) -> u8
 }
 
 // The fault of a midpoint and a radius: 3, one has exponent field 255; 4, the radius is negative; 0, none.
+#[tactic(auto, unfolding(crate::specs::Conversion::radius_fault_of))]
 fn check_radius(m: u32, r: u32) -> u8
     ensures { result ≡ radius_fault_of m r }
 {
@@ -53,45 +42,40 @@ fn radius(lo: u32, hi: u32, mid: NearUp) -> u32
     ensures { result ≡ rad_of lo hi }
 {
     if mid.near == mid.up {
-        return sub_up(mid.near, lo);
+        return partial::sub::<Up>(mid.near, lo);
     }
-    sub_up(hi, mid.near)
+    partial::sub::<Up>(hi, mid.near)
 }
 
 // Bounds [a, b] to <m, r>: m is the exact midpoint to nearest, r is the larger of m - a and b - m, rounded up. Neither overflows, and no pair of
 // binary32 numbers that encloses [a, b] has a smaller radius.
-pub fn to_midrad(lo: u32, hi: u32) -> Converted
-    ensures answer { converted result ≡ midrad_of lo hi }
-    ensures optimal { OptimalFor lo hi (converted result) }
+pub fn to_midrad(lo: u32, hi: u32) -> Result<(u32, u32), Refusal>
+    ensures answer { result ≡ midrad_of lo hi }
+    ensures optimal { OptimalFor lo hi (result) }
 {
     let fault = check(lo, hi);
     if fault != 0 {
-        return Converted::Refused(fault);
+        return Err(Refusal::of_matrix(fault, 0));
     }
     let mid = near_up(lo, hi);
-    Converted::MidRad(mid.near, radius(lo, hi, mid))
+    Ok((mid.near, radius(lo, hi, mid)))
 }
 
 // lo - amount rounded down and hi + amount rounded up.
-pub fn outward(lo: u32, hi: u32, amount: u32) -> Bounded
-    ensures { bounded result ≡ outward_of lo hi amount }
+pub fn outward(lo: u32, hi: u32, amount: u32) -> Result<(u32, u32), Refusal>
+    ensures { result ≡ outward_of lo hi amount }
 {
-    match sub_down(lo, amount) {
-        Rounded::Number(a) => match add_up(hi, amount) {
-            Rounded::Number(b) => Bounded::Bounds(a, b),
-            Rounded::Refused(r) => Bounded::Refused(r.number),
-        },
-        Rounded::Refused(r) => Bounded::Refused(r.number),
-    }
+    Ok((sub_down(lo, amount)?, add_up(hi, amount)?))
 }
 
 // <m, r> to bounds: m - r rounded down and m + r rounded up.
-pub fn to_bounds(m: u32, r: u32) -> Bounded
-    ensures { bounded result ≡ bounds_of m r }
+#[tactic(auto, unfolding(crate::specs::Conversion::bounds_of))]
+pub fn to_bounds(m: u32, r: u32) -> Result<(u32, u32), Refusal>
+    ensures { result ≡ bounds_of m r }
 {
     let fault = check_radius(m, r);
     if fault != 0 {
-        return Bounded::Refused(fault);
+        return Err(Refusal::of_matrix(fault, 0));
     }
     outward(m, m, r)
 }

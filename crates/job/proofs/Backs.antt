@@ -11,7 +11,7 @@ use Rattle.intervals.specs.Conversion.{fault_of}
 use Rattle.sheets.specs.declared.chain.Cell.{Cell}
 use Rattle.sheets.specs.Cell.{canonical_of}
 use Rattle.sheets.specs.Layout.{rows_of, columns_of}
-use Rattle.sheets.specs.Reading.{cell_lower, cell_upper, matrix_of, slice_after}
+use Rattle.sheets.specs.Reading.{sizes, cell_lower, cell_upper, matrix_of, slice_after}
 use Rattle.sheets.specs.Writing.{write_of}
 use Rattle.sheets.specs.Trip.{canonicals, ReadsBack, TripOf}
 use Rattle.sheets.proofs.Answers.{done_tells}
@@ -42,7 +42,7 @@ back_at l m n q h =
 
 -- ---- the sheet s has the values of F
 pub record Back (F : Factor) (s : List ℕ) : Type 0 where
-  pub answer : sheet_read s ≡ gives (F.rows, F.columns)
+  pub answer : sheet_read s ≡ gives (sizes F.rows F.columns)
   pub rows : rows_of s ≡ F.rows
   pub columns : columns_of s ≡ F.columns
   pub ranges : (i j : ℕ) → i < F.rows → j < F.columns → range_in (matrix_in s) i j ≡ range_in F i j
@@ -68,7 +68,7 @@ module _ (F : Factor) (room n : ℕ) (e : write_of F.rows F.columns F.lowers F.u
   finite_at = (bytes_tell F.rows F.columns F.lowers F.uppers room n e).fine
 
   -- one of the two bounds at q
-  bound_back : (b : Cell → ℕ) (l m : List ℕ) (q : ℕ) → q < cells → length (matrix_of b s) ≡ cells → slice_after b s (gives (F.rows, F.columns)) array ≡ canonicals l cells 0 ++ m
+  bound_back : (b : Cell → ℕ) (l m : List ℕ) (q : ℕ) → q < cells → length (matrix_of b s) ≡ cells → slice_after b s (gives (sizes F.rows F.columns)) array ≡ canonicals l cells 0 ++ m
       → get_or (matrix_of b s) q 0 ≡ canonical_of (get_or l q 0)
   unfolding slice_after
   bound_back b l m q h k f = sym (get_or-append (matrix_of b s) _ 0 q (omega arith)) ∙ ap (λ x. get_or x q 0) f ∙ back_at l m cells q h

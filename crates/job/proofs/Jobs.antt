@@ -16,10 +16,6 @@ use Rattle.job.proofs.Folds.{product_unread, product_goes, fold_last}
 use Rattle.job.proofs.Sizes.{Small, product_small}
 
 module _ (method : ℕ) (a b : List ℕ) where
-  pub job_refused : {x : Refusal} → check_method method ≡ refuses x → refuses x ≡ job_product method a b
-  unfolding job_product
-  job_refused e = rw e
-
   module _ (e : check_method method ≡ done) where
     job_product_is : sheets_product method 3 (a ∷ b ∷ []) ≡ job_product method a b
     unfolding job_product

@@ -1,3 +1,4 @@
+pub mod Naming
 pub mod Factors
 pub mod Steps
 pub mod Folds

@@ -4,9 +4,8 @@ use mathlib.Core.List.{List}
 use Prim.Native.Nat.{ℕ, suc, ◌+◌, ◌-◌, ◌≤◌}
 use lib.ListN.{length, take, drop}
 use Rattle.refusals.specs.declared.Refusal.{Refusal}
-use Rattle.refusals.specs.Answer.{gives, refuses}
-use Rattle.sheets.specs.declared.Shape.{Shape}
-use Rattle.sheets.specs.declared.Shape.TheVariants as S
+use Rattle.refusals.specs.Answer.{Answer, gives, refuses}
+use Rattle.sheets.specs.declared.Sizes.{Sizes}
 use Rattle.sheets.proofs.Cuts.{rest_is}
 use Rattle.job.specs.Factor.{Factor, in_front, in_arrays}
 use Rattle.job.specs.Fold.{step_of, fold_from}
@@ -17,25 +16,25 @@ use Rattle.job.proofs.Tells.{Stepped, step_tells}
 use Rattle.job.proofs.Sizes.{sheet_small}
 use Rattle.job.proofs.Trains.{sheets_next}
 
-module _ (method p : ℕ) (X : Factor) (lo up rest : List ℕ) (m left k : ℕ) (e : m ≡ suc left) (f : k ≡ next_length left rest) {o : Shape}
+module _ (method p : ℕ) (X : Factor) (lo up rest : List ℕ) (m left k : ℕ) (e : m ≡ suc left) (f : k ≡ next_length left rest) {o : Answer Sizes}
     (g : in_arrays o lo up ≡ step_of method 9 p X (take k rest)) where
-  pub others_stop : {x : Refusal} → o ≡ S.Refused x → refuses x ≡ fold_from method 9 p X (sheets_in m rest)
+  pub others_stop : {x : Refusal} → o ≡ refuses x → refuses x ≡ fold_from method 9 p X (sheets_in m rest)
   others_stop h =
       fold_stops method 9 (take k rest) (sheets_in left (drop k rest)) p X (arrays_by lo up g h) ∙ ap (fold_from method 9 p X) (sym (sheets_next m left k rest e f))
 
-  module _ {r n : ℕ} (h : o ≡ S.Sizes r n) where
-    stepped : Stepped method X (in_front r n lo up) (take k rest)
-    stepped = step_tells method 9 p X (take k rest) (in_front r n lo up) (sym (arrays_by lo up g h))
+  module _ {z : Sizes} (h : o ≡ gives z) where
+    stepped : Stepped method X (in_front z.rows z.columns lo up) (take k rest)
+    stepped = step_tells method 9 p X (take k rest) (in_front z.rows z.columns lo up) (sym (arrays_by lo up g h))
 
-    pub others_columns : n ≤ 32
+    pub others_columns : z.columns ≤ 32
     others_columns = subst (λ c. c ≤ 32) (sym (ap (λ F. F.columns) stepped.matrix)) (sheet_small (take k rest) stepped.answer).columns
 
     pub others_go : (rows : ℕ) → X.rows ≡ rows → fold_from method 9 p X (sheets_in m rest)
-        ≡ fold_from method 9 (p + 1) (in_front rows n lo up) (sheets_in left (take (length rest - k) (drop k rest)))
+        ≡ fold_from method 9 (p + 1) (in_front rows z.columns lo up) (sheets_in left (take (length rest - k) (drop k rest)))
     others_go rows i =
-        let j : r ≡ rows = ap (λ F. F.rows) stepped.matrix ∙ i in
+        let j : z.rows ≡ rows = ap (λ F. F.rows) stepped.matrix ∙ i in
         ap (fold_from method 9 p X) (sheets_next m left k rest e f) ∙ fold_goes method 9 (take k rest) (sheets_in left (drop k rest)) p X (arrays_by lo up g h)
-        ∙ ap₂ (λ q s. fold_from method 9 (p + 1) (in_front q n lo up) (sheets_in left s)) j (sym (rest_is rest k))
+        ∙ ap₂ (λ q s. fold_from method 9 (p + 1) (in_front q z.columns lo up) (sheets_in left s)) j (sym (rest_is rest k))
 
 pub others_end : (method p : ℕ) (X : Factor) (left : ℕ) (rest : List ℕ) → left ≡ 0 → gives X ≡ fold_from method 9 p X (sheets_in left rest)
 unfolding sheets_in

@@ -2,12 +2,12 @@
 use mathlib.Core.Path.{◌≡◌, sym, subst}
 use mathlib.Core.List.{List, [], ◌∷◌}
 use Prim.Native.Nat.{ℕ, ◌+◌, ◌≤◌}
-use Rattle.refusals.specs.Answer.{Answer, gives}
+use Rattle.refusals.specs.Answer.{Answer, gives, refuses}
 use Rattle.refusals.proofs.Answers.{gives_injective, not_both, next_tells}
 use Rattle.refusals.proofs.SizeLaws.{small}
-use Rattle.sheets.specs.declared.Shape.{Shape}
-use Rattle.sheets.specs.declared.Shape.TheVariants as S
+use Rattle.sheets.specs.declared.Sizes.{Sizes}
 use Rattle.sheets.specs.Layout.{rows_of, columns_of}
+use Rattle.sheets.specs.Reading.{sizes}
 use Rattle.sheets.proofs.Answers.{done_tells}
 use Rattle.job.specs.Factor.{Factor, matrix_in, sheet_read, read_as, in_front, in_arrays, Few}
 use Rattle.job.specs.Fold.{step_of, fold_from, sheets_product}
@@ -18,7 +18,7 @@ pub record Small (F : Factor) : Type 0 where
   pub some_column : 1 ≤ F.columns
   pub columns : F.columns ≤ 32
 
-pub sheet_small : (s : List ℕ) → sheet_read s ≡ gives (rows_of s, columns_of s) → Small (matrix_in s)
+pub sheet_small : (s : List ℕ) → sheet_read s ≡ gives (sizes (rows_of s) (columns_of s)) → Small (matrix_in s)
 sheet_small s e = let z = (done_tells s 1024 1024 (rows_of s) (columns_of s) e).sized in record { rows = z.rows; some_column = z.some_column; columns = z.columns }
 
 pub read_small : (p : ℕ) (s : List ℕ) (Y : Factor) → read_as p s ≡ gives Y → Small Y
@@ -44,7 +44,7 @@ product_small method n (s ∷ ss) Z e =
     let t = next_tells (read_as 1 s) _ Z e in
     fold_small method n 2 t.0 ss Z (read_small 1 s t.0 t.1) t.2
 
--- so the product fits the arrays in which the code's shape o says that it stands
-pub few : (lo up : List ℕ) (o : Shape) {A : Answer Factor} → in_arrays o lo up ≡ A → ((Z : Factor) → A ≡ gives Z → Small Z) → Few o
-few lo up (S.Sizes r c) e h = let z = h (in_front r c lo up) (sym e) in small r c z.rows z.columns
-few lo up (S.Refused x) e h = tt
+-- so the product fits the arrays in which the code's answer o says that it stands
+pub few : (lo up : List ℕ) (o : Answer Sizes) {A : Answer Factor} → in_arrays o lo up ≡ A → ((Z : Factor) → A ≡ gives Z → Small Z) → Few o
+few lo up (gives z) e h = let f = h (in_front z.rows z.columns lo up) (sym e) in small z.rows z.columns f.rows f.columns
+few lo up (refuses x) e h = tt

@@ -6,11 +6,8 @@ use Prim.Native.Nat.{ℕ, ◌*◌}
 use lib.ListN.{take, drop}
 use borrow.Author.Tests.{eq-eqb, ne_eqb}
 use Rattle.refusals.specs.declared.Refusal.{Refusal}
-use Rattle.refusals.specs.declared.Outcome.{Outcome}
-use Rattle.refusals.specs.declared.Outcome.TheVariants.{Done, Refused}
-use Rattle.refusals.specs.Refusal.{of_matrix, named}
-use Rattle.refusals.specs.Answer.{gives, refuses, outcome}
-use Rattle.refusals.proofs.Answers.{outcome_done, outcome_refused}
+use Rattle.refusals.specs.Refusal.{of_matrix}
+use Rattle.refusals.specs.Answer.{Answer, gives, refuses, done, then, naming}
 use Rattle.enclosure.specs.Methods.{Range}
 use Rattle.matrices.specs.Lists.{tabulate}
 use Rattle.matrices.specs.Entries.{lower_of, upper_of}
@@ -18,31 +15,32 @@ use Rattle.matrices.specs.Product.{entries, product_of, result_after}
 use Rattle.matrices.proofs.Fronts.{tabulate_length}
 use Rattle.matrices.proofs.Keeping.{result_done}
 use Rattle.job.specs.Factor.{Factor, read_as, in_front}
-use Rattle.job.specs.Fold.{operands, times_of, step_of}
+use Rattle.job.specs.Fold.{operands, product_in, times_of, step_of}
 use Rattle.job.proofs.Factors.{factor_is, front_is}
 
 -- ---- the product
-module _ (method n : ℕ) (X Y : Factor) {o : Outcome} (e : outcome o ≡ product_of (operands method X Y)) where
-  pub times_refused : {x y : Refusal} → o ≡ Refused x → y ≡ named n x → refuses y ≡ times_of method n X Y
+module _ (method n : ℕ) (X Y : Factor) {o : Answer (Unit {0})} (e : o ≡ product_of (operands method X Y)) where
+  -- by the same with its refusal named
+  pub times_refused : {b : Answer (Unit {0})} {x : Refusal} → b ≡ naming n o → b ≡ refuses x → refuses x ≡ times_of method n X Y
   unfolding times_of
-  times_refused f g = rw (outcome_refused _ _ _ e f, g)
+  times_refused f g = sym (ap (λ a. then a (gives (product_in method X Y))) (ap (naming n) (sym e) ∙ sym f ∙ g))
 
   -- a result array, which held d, is copied to the front of another, which held l
-  copied : (bound : Option Range → ℕ) (d d' l l' : List ℕ) → o ≡ Done → d' ≡ result_after (operands method X Y) bound d
+  copied : (bound : Option Range → ℕ) (d d' l l' : List ℕ) → o ≡ done → d' ≡ result_after (operands method X Y) bound d
       → l' ≡ take (X.rows * Y.columns) d' ++ drop (X.rows * Y.columns) l
       → take (X.rows * Y.columns) l' ≡ tabulate (X.rows * Y.columns) (λ c. bound (entries (operands method X Y) c))
   copied bound d d' l l' f g h =
       let k = X.rows * Y.columns in
       let E : ℕ → ℕ = λ c. bound (entries (operands method X Y) c) in
-      let t : take k d' ≡ tabulate k E = front_is k (tabulate k E) _ d' (tabulate_length k E) (g ∙ result_done (operands method X Y) (outcome_done _ _ e f) bound d) in
+      let t : take k d' ≡ tabulate k E = front_is k (tabulate k E) _ d' (tabulate_length k E) (g ∙ result_done (operands method X Y) (sym e ∙ f) bound d) in
       front_is k (tabulate k E) _ l' (tabulate_length k E) (h ∙ ap (λ x. x ++ drop k l) t)
 
-  pub times_gives : (cl cu cl' cu' lo up lo' up' : List ℕ) → o ≡ Done → cl' ≡ result_after (operands method X Y) lower_of cl → cu' ≡ result_after (operands method X Y) upper_of cu
+  pub times_gives : (cl cu cl' cu' lo up lo' up' : List ℕ) → o ≡ done → cl' ≡ result_after (operands method X Y) lower_of cl → cu' ≡ result_after (operands method X Y) upper_of cu
       → lo' ≡ take (X.rows * Y.columns) cl' ++ drop (X.rows * Y.columns) lo → up' ≡ take (X.rows * Y.columns) cu' ++ drop (X.rows * Y.columns) up
       → gives (in_front X.rows Y.columns lo' up') ≡ times_of method n X Y
   unfolding times_of
   times_gives cl cu cl' cu' lo up lo' up' f l u p q =
-      rw (outcome_done _ _ e f) (ap gives (factor_is refl refl (copied lower_of cl cl' lo lo' f l p) (copied upper_of cu cu' up up' f u q)))
+      rw (sym e ∙ f) (ap gives (factor_is refl refl (copied lower_of cl cl' lo lo' f l p) (copied upper_of cu cu' up up' f u q)))
 
 -- ---- the step
 module _ (method n p : ℕ) (X : Factor) (s : List ℕ) where

@@ -8,13 +8,14 @@ use Rattle.refusals.specs.Refusal.{of_matrix}
 use Rattle.refusals.specs.Answer.{gives, done, naming, unless}
 use Rattle.refusals.proofs.Answers.{gives_injective, then_tells, unless_tells, naming_tells, next_tells}
 use Rattle.sheets.specs.Layout.{rows_of, columns_of}
+use Rattle.sheets.specs.Reading.{sizes}
 use Rattle.sheets.proofs.Answers.{done_tells}
 use Rattle.matrices.specs.Product.{product_of}
 use Rattle.job.specs.Factor.{Factor, matrix_in, sheet_read, read_as}
 use Rattle.job.specs.Fold.{operands, product_in, times_of, step_of}
 
 pub record WasRead (s : List ℕ) (Y : Factor) : Type 0 where
-  pub answer : sheet_read s ≡ gives (rows_of s, columns_of s)
+  pub answer : sheet_read s ≡ gives (sizes (rows_of s) (columns_of s))
   pub matrix : Y ≡ matrix_in s
 
 pub read_tells : (p : ℕ) (s : List ℕ) (Y : Factor) → read_as p s ≡ gives Y → WasRead s Y
@@ -22,11 +23,11 @@ unfolding read_as
 read_tells p s Y e =
     let t = then_tells (naming p (sheet_read s)) (gives (matrix_in s)) Y e in
     let f = naming_tells p (sheet_read s) t.0.0 t.0.1 in
-    let d = done_tells s 1024 1024 t.0.0.0 t.0.0.1 f in
-    record { answer = f ∙ ap₂ (λ (r c : ℕ). gives (r, c)) (sym d.rows) (sym d.columns); matrix = sym (gives_injective t.1) }
+    let d = done_tells s 1024 1024 t.0.0.rows t.0.0.columns f in
+    record { answer = f ∙ ap₂ (λ (r c : ℕ). gives (sizes r c)) (sym d.rows) (sym d.columns); matrix = sym (gives_injective t.1) }
 
 pub record Stepped (method : ℕ) (X Y : Factor) (s : List ℕ) : Type 0 where
-  pub answer : sheet_read s ≡ gives (rows_of s, columns_of s)
+  pub answer : sheet_read s ≡ gives (sizes (rows_of s) (columns_of s))
   pub fits : X.columns ≡ rows_of s
   pub product : product_of (operands method X (matrix_in s)) ≡ done
   pub matrix : Y ≡ product_in method X (matrix_in s)

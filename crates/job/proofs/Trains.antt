@@ -1,17 +1,15 @@
 -- Laws of a train: the count, the sheets in the buffer, and the product by its checks. Assumes nothing.
-use mathlib.Core.Path.{◌≡◌, refl, sym, ap, ap₂, ◌∙◌}
+use mathlib.Core.Path.{◌≡◌, sym, ap, ap₂, ◌∙◌}
 use mathlib.Core.List.{List, ◌∷◌}
-use Prim.Native.Nat.{ℕ, zero, suc, ◌-◌, ◌≤◌, ◌<◌}
+use Prim.Native.Nat.{ℕ, suc, ◌-◌, ◌≤◌}
 use native.Mathlib.Omega.{arith}
 use lib.Dec.{leb}
 use lib.ListN.{length, take, drop}
-use borrow.Author.Tests.{le-leb, lt-leb, leb-true}
+use borrow.Author.Tests.{leb-true}
 use Rattle.refusals.specs.declared.Refusal.{Refusal}
 use Rattle.refusals.specs.Refusal.{of_matrix}
-use Rattle.refusals.specs.declared.Outcome.{Outcome}
-use Rattle.refusals.specs.Answer.{Answer, gives, refuses, done, outcome, then}
+use Rattle.refusals.specs.Answer.{Answer, gives, refuses, done, then}
 use Rattle.refusals.proofs.Answers.{unless_tells, and_tells, then_then, then_tells}
-use Rattle.sheets.specs.Cut.{first_length}
 use Rattle.sheets.proofs.Cuts.{rest_is}
 use Rattle.matrices.specs.Checks.{check_method}
 use Rattle.job.specs.Factor.{Factor, read_as}
@@ -21,18 +19,6 @@ use Rattle.job.proofs.Folds.{product_unread, product_goes}
 use Rattle.job.proofs.Sizes.{Small, product_small}
 
 -- ---- refusal 12
-pub count_none : (n : ℕ) → n < 1 → refuses (of_matrix 12 0) ≡ check_count n
-unfolding check_count
-count_none n h = rw (lt-leb 1 n h)
-
-pub count_many : (n : ℕ) → 1 ≤ n → 8 < n → refuses (of_matrix 12 0) ≡ check_count n
-unfolding check_count
-count_many n h i = rw (le-leb 1 n h, lt-leb n 8 i)
-
-pub count_fine : (n : ℕ) → 1 ≤ n → n ≤ 8 → done ≡ check_count n
-unfolding check_count
-count_fine n h i = rw (le-leb 1 n h, le-leb n 8 i)
-
 count_tells : (n : ℕ) → check_count n ≡ done → (1 ≤ n) × (n ≤ 8)
 unfolding check_count
 count_tells n e =
@@ -40,15 +26,6 @@ count_tells n e =
     (leb-true 1 n t.0, leb-true n 8 t.1)
 
 -- ---- the next sheet
-pub next_last : (n : ℕ) (s : List ℕ) → n ≡ 0 → length s ≡ next_length n s
-unfolding next_length
-next_last n s e = rw e
-
-pub next_cut : (n k : ℕ) (s : List ℕ) → (n ≡ 0 → ⊥) → k ≡ first_length s → k ≡ next_length n s
-unfolding next_length
-next_cut zero k s h e = absurd (h refl)
-next_cut (suc n) k s h e = e
-
 -- n + 1 sheets: the next one, of k bytes, and n others behind it
 pub sheets_next : (m n k : ℕ) (s : List ℕ) → m ≡ suc n → k ≡ next_length n s → sheets_in m s ≡ take k s ∷ sheets_in n (drop k s)
 unfolding sheets_in
@@ -56,10 +33,8 @@ sheets_next m n k s e f = rw (e, f)
 
 -- ---- 9, 12, then the sheets
 
--- the code's answer z on both checks
-pub checks_said : (method count : ℕ) {z y : Outcome} {m k : Answer (Unit {0})} → outcome z ≡ then m k → m ≡ check_method method → k ≡ check_count count → z ≡ y
-    → then (check_method method) (check_count count) ≡ outcome y
-checks_said method count e f g h = sym (ap outcome (sym h) ∙ e ∙ ap₂ then f g)
+pub checks_done : (method count : ℕ) → check_method method ≡ done → check_count count ≡ done → then (check_method method) (check_count count) ≡ done
+checks_done method count e f = ap₂ then e f
 
 pub checks_count : (method count : ℕ) → then (check_method method) (check_count count) ≡ done → (1 ≤ count) × (count ≤ 8)
 checks_count method count e = count_tells count (then_tells (check_method method) (check_count count) tt e).1

@@ -6,6 +6,7 @@ use Rattle.enclosure.specs.Methods.{Range}
 use Rattle.refusals.specs.Answer.{Answer, gives, refuses}
 use Rattle.binary32.specs.Number.{value_of}
 use Rattle.sheets.specs.Layout.{rows_of, columns_of}
+use Rattle.sheets.specs.Reading.{sizes}
 use Rattle.matrices.specs.Matrix.{of_bounds, cell_at}
 use Rattle.matrices.specs.Checks.{chosen}
 use Rattle.job.specs.Factor.{Factor, matrix_in, sheet_read}
@@ -25,10 +26,10 @@ ProductKeeps method X Y Z = (i j : ℕ) → i < X.rows → j < Y.columns → Kep
 
 -- ---- the sheet job: a and b are valid sheets that can be multiplied, s is a sheet of the product's size, and its cells meet demand 3
 pub record Delivered (method : ℕ) (a b s : List ℕ) : Type 0 where
-  pub first : sheet_read a ≡ gives (rows_of a, columns_of a)
-  pub second : sheet_read b ≡ gives (rows_of b, columns_of b)
+  pub first : sheet_read a ≡ gives (sizes (rows_of a) (columns_of a))
+  pub second : sheet_read b ≡ gives (sizes (rows_of b) (columns_of b))
   pub inner : columns_of a ≡ rows_of b
-  pub reads : sheet_read s ≡ gives (rows_of a, columns_of b)
+  pub reads : sheet_read s ≡ gives (sizes (rows_of a) (columns_of b))
   pub keeps : ProductKeeps method (matrix_in a) (matrix_in b) (matrix_in s)
 
 -- the same, for the answer of the job and the buffer afterwards: the sheet is its first n bytes

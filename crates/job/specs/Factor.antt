@@ -2,8 +2,7 @@
 use Rattle.std.specs.Prelude.{List, ℕ, ◌*◌, ◌≤◌, take}
 use Rattle.refusals.specs.Answer.{Answer, gives, refuses, then, naming}
 use Rattle.refusals.specs.Sizes.{most_cells}
-use Rattle.sheets.specs.declared.Shape.{Shape}
-use Rattle.sheets.specs.declared.Shape.TheVariants as S
+use Rattle.sheets.specs.declared.Sizes.{Sizes}
 use Rattle.sheets.specs.Layout.{rows_of, columns_of}
 use Rattle.sheets.specs.Reading.{cell_lower, cell_upper, matrix_of, read_of}
 
@@ -21,7 +20,7 @@ abbrev pub matrix_in : List ℕ → Factor
 matrix_in s = record { rows = rows_of s; columns = columns_of s; lowers = matrix_of cell_lower s; uppers = matrix_of cell_upper s }
 
 -- the answer of a read into two arrays of 1,024 patterns, which are always long enough
-abbrev pub sheet_read : List ℕ → Answer (ℕ × ℕ)
+abbrev pub sheet_read : List ℕ → Answer Sizes
 sheet_read s = read_of s most_cells most_cells
 
 -- the read of the sheet s, whose refusals name the matrix p
@@ -33,12 +32,12 @@ read_as p s = then (naming p (sheet_read s)) (gives (matrix_in s))
 abbrev pub in_front : ℕ → ℕ → List ℕ → List ℕ → Factor
 in_front rows columns lo up = record { rows = rows; columns = columns; lowers = take (rows * columns) lo; uppers = take (rows * columns) up }
 
--- the answer that a `Shape` of the code and the two arrays stand for
-abbrev pub in_arrays : Shape → List ℕ → List ℕ → Answer Factor
-in_arrays (S.Sizes r c) lo up = gives (in_front r c lo up)
-in_arrays (S.Refused x) lo up = refuses x
+-- the answer that the code's own, with the sizes alone, and the two arrays stand for
+abbrev pub in_arrays : Answer Sizes → List ℕ → List ℕ → Answer Factor
+in_arrays (gives z) lo up = gives (in_front z.rows z.columns lo up)
+in_arrays (refuses x) lo up = refuses x
 
 -- the arrays are long enough for it
-abbrev pub Few : Shape → Type 0
-Few (S.Sizes r c) = r * c ≤ most_cells
-Few (S.Refused x) = Unit {0}
+abbrev pub Few : Answer Sizes → Type 0
+Few (gives z) = z.rows * z.columns ≤ most_cells
+Few (refuses x) = Unit {0}

@@ -6,6 +6,7 @@ use Rattle.enclosure.specs.Demand.{Picked, sum_of_products}
 use Rattle.enclosure.specs.Fraction.{Fraction}
 use Rattle.refusals.specs.Answer.{Answer, gives, refuses}
 use Rattle.sheets.specs.Layout.{rows_of, columns_of}
+use Rattle.sheets.specs.Reading.{sizes}
 use Rattle.job.specs.Factor.{Factor, matrix_in, sheet_read}
 use Rattle.job.specs.Fold.{product_in, sheets_product}
 use Rattle.job.specs.Train.{sheets_in}
@@ -44,7 +45,7 @@ exact_product (s ∷ ss) picks = exact_from 2 (picks 1) ss picks
 
 -- ---- each single multiplication: s is a valid sheet, it fits the left factor X, and their product meets demand 3, the width by method 4 too
 pub record StepKeeps (method : ℕ) (X : Factor) (s : List ℕ) : Type 0 where
-  pub reads : sheet_read s ≡ gives (rows_of s, columns_of s)
+  pub reads : sheet_read s ≡ gives (sizes (rows_of s) (columns_of s))
   pub fits : X.columns ≡ rows_of s
   pub keeps : ProductKeeps method X (matrix_in s) (product_in method X (matrix_in s))
 
@@ -56,14 +57,14 @@ StepsKeep method X (s ∷ ss) = StepKeeps method X s × StepsKeep method (produc
 -- the first sheet is valid, and each other keeps its step
 unfoldable pub AllKeep : ℕ → List (List ℕ) → Type 0
 AllKeep method [] = Unit {0}
-AllKeep method (s ∷ ss) = (sheet_read s ≡ gives (rows_of s, columns_of s)) × StepsKeep method (matrix_in s) ss
+AllKeep method (s ∷ ss) = (sheet_read s ≡ gives (sizes (rows_of s) (columns_of s))) × StepsKeep method (matrix_in s) ss
 
 -- ---- the train as a whole: s is a sheet with the ranges of the last product, and these enclose the exact products of all picks
 pub record Carried (method : ℕ) (sheets : List (List ℕ)) (s : List ℕ) : Type 0 where
   pub steps : AllKeep method sheets
   pub last : Factor
   pub product : sheets_product method 9 sheets ≡ gives last
-  pub reads : sheet_read s ≡ gives (last.rows, last.columns)
+  pub reads : sheet_read s ≡ gives (sizes last.rows last.columns)
   pub ranges : (i j : ℕ) → i < last.rows → j < last.columns → range_in (matrix_in s) i j ≡ range_in last i j
   pub encloses : (picks : ℕ → Fractions) → PickedAll 1 sheets picks → PickedFrom (matrix_in s) (exact_product sheets picks)
 

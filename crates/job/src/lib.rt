@@ -4,7 +4,6 @@
 
 ghost use Rattle.std.specs.Prelude.{◌≡◌, length};
 ghost use Rattle.refusals.specs.Sizes.{most_cells};
-ghost use Rattle.sheets.specs.Writing.{written};
 ghost use Rattle.job.specs.Factor.{in_arrays, Few};
 ghost use Rattle.job.specs.Delivery.{written_of, out_of, BackOf};
 ghost use Rattle.job.specs.Job.{job_product, job_of, array_after, factor_lowers, factor_uppers};
@@ -14,44 +13,46 @@ ghost use Rattle.job.specs.TrainDemand.{TrainKeeps};
 
 use factor::{copy, read_as, times_sheet};
 use matrices::methods::check_method;
-use refusals::Outcome;
+use refusals::Refusal;
 use refusals::sizes::MOST_CELLS;
-use sheets::{Shape, Written};
+use sheets::Sizes;
 
 mod factor;
 mod train;
 
 // Checks the method (refusal 9), reads A's sheet, reads B's, and multiplies.
-fn product_of_two(method: u32, a: &[u8], b: &[u8], lo: &mut [u32], up: &mut [u32]) -> Shape
+#[tactic(auto, unfolding(crate::specs::Job::job_product))]
+fn product_of_two(
+    method: u32,
+    a: &[u8],
+    b: &[u8],
+    lo: &mut [u32],
+    up: &mut [u32],
+) -> Result<Sizes, Refusal>
     requires { (length lo.old ≡ most_cells) × (length up.old ≡ most_cells) }
     ensures { in_arrays result lo.new up.new ≡ job_product method a.now b.now }
 {
-    match check_method(method) {
-        Outcome::Refused(r) => Shape::Refused(r),
-        Outcome::Done => match read_as(1, a, lo, up) {
-            Shape::Refused(r) => Shape::Refused(r),
-            Shape::Sizes(rows, columns) => times_sheet(method, 3, 2, rows, columns, b, lo, up),
-        },
-    }
+    check_method(method)?;
+    let left = read_as(1, a, lo, up)?;
+    times_sheet(method, 3, 2, left.rows, left.columns, b, lo, up)
 }
 
 // Writes the sheet of a product, which stands in lo and up. A refusal by the writer gets this matrix number.
-fn deliver(matrix: u8, product: Shape, lo: &[u32], up: &[u32], out: &mut [u8]) -> Written
+fn deliver(
+    matrix: u8,
+    product: Result<Sizes, Refusal>,
+    lo: &[u32],
+    up: &[u32],
+    out: &mut [u8],
+) -> Result<usize, Refusal>
     requires { Few product × (length lo.now ≡ most_cells) × (length up.now ≡ most_cells) }
-    ensures answer { written result ≡ written_of matrix (in_arrays product lo.now up.now) (length out.old) }
-    ensures left { out.new ≡ out_of (in_arrays product lo.now up.now) (written result) out.old }
-    ensures back { BackOf (in_arrays product lo.now up.now) (written result) out.new }
+    ensures answer { result ≡ written_of matrix (in_arrays product lo.now up.now) (length out.old) }
+    ensures left { out.new ≡ out_of (in_arrays product lo.now up.now) result out.old }
+    ensures back { BackOf (in_arrays product lo.now up.now) result out.new }
 {
-    match product {
-        Shape::Refused(r) => Written::Refused(r),
-        Shape::Sizes(rows, columns) => {
-            let n = rows * columns;
-            match sheets::put(rows, columns, &lo[..n], &up[..n], out) {
-                Written::Bytes(k) => Written::Bytes(k),
-                Written::Refused(r) => Written::Refused(r.named(matrix)),
-            }
-        }
-    }
+    let sizes = product?;
+    let n = sizes.rows * sizes.columns;
+    sheets::put(sizes.rows, sizes.columns, &lo[..n], &up[..n], out).map_err(|r| r.named(matrix))
 }
 
 // The product of two sheets: its bounds in the front of lo and up. A refusal leaves both as they were.
@@ -61,30 +62,26 @@ pub fn multiply_sheets(
     b: &[u8],
     lo: &mut [u32; MOST_CELLS],
     up: &mut [u32; MOST_CELLS],
-) -> Shape
+) -> Result<Sizes, Refusal>
     ensures answer { in_arrays result lo.new up.new ≡ job_product method a.now b.now }
     ensures below { lo.new ≡ array_after factor_lowers (job_product method a.now b.now) lo.old }
     ensures above { up.new ≡ array_after factor_uppers (job_product method a.now b.now) up.old }
 {
     let mut l = [0u32; MOST_CELLS];
     let mut u = [0u32; MOST_CELLS];
-    match product_of_two(method, a, b, &mut l, &mut u) {
-        Shape::Refused(r) => Shape::Refused(r),
-        Shape::Sizes(rows, columns) => {
-            let n = rows * columns;
-            copy(n, &l, lo);
-            copy(n, &u, up);
-            Shape::Sizes(rows, columns)
-        }
-    }
+    let sizes = product_of_two(method, a, b, &mut l, &mut u)?;
+    let n = sizes.rows * sizes.columns;
+    copy(n, &l, lo);
+    copy(n, &u, up);
+    Ok(sizes)
 }
 
 // The sheet job: returns the length of the sheet written, or the refusal. A refusal by the writer names matrix 3.
 // The cells of the written sheet enclose the product of any two matrices of fractions whose entries lie in the cells of a and b.
-pub fn run(method: u32, a: &[u8], b: &[u8], out: &mut [u8]) -> Written
-    ensures answer { written result ≡ job_of method a.now b.now (length out.old) }
-    ensures left { out.new ≡ out_of (job_product method a.now b.now) (written result) out.old }
-    ensures keeps { JobKeeps method a.now b.now (written result) out.new }
+pub fn run(method: u32, a: &[u8], b: &[u8], out: &mut [u8]) -> Result<usize, Refusal>
+    ensures answer { result ≡ job_of method a.now b.now (length out.old) }
+    ensures left { out.new ≡ out_of (job_product method a.now b.now) result out.old }
+    ensures keeps { JobKeeps method a.now b.now result out.new }
 {
     let mut lo = [0u32; MOST_CELLS];
     let mut up = [0u32; MOST_CELLS];
@@ -94,10 +91,10 @@ pub fn run(method: u32, a: &[u8], b: &[u8], out: &mut [u8]) -> Written
 
 // The same for a train of count sheets back to back, 1 to 8. The matrix of a refusal is the sheet's position, or 9 for a product and the writing.
 // The cells of the written sheet enclose the product, from the left, of any matrices of fractions whose entries lie in the cells of the sheets.
-pub fn run_train(method: u32, count: u32, sheets: &[u8], out: &mut [u8]) -> Written
-    ensures answer { written result ≡ train_of method count sheets.now (length out.old) }
-    ensures left { out.new ≡ out_of (train_product method count sheets.now) (written result) out.old }
-    ensures keeps { TrainKeeps method count sheets.now (written result) out.new }
+pub fn run_train(method: u32, count: u32, sheets: &[u8], out: &mut [u8]) -> Result<usize, Refusal>
+    ensures answer { result ≡ train_of method count sheets.now (length out.old) }
+    ensures left { out.new ≡ out_of (train_product method count sheets.now) result out.old }
+    ensures keeps { TrainKeeps method count sheets.now result out.new }
 {
     let mut lo = [0u32; MOST_CELLS];
     let mut up = [0u32; MOST_CELLS];

@@ -1,6 +1,5 @@
 // A train of couplings: one buffer of 1 to 8 sheets back to back, multiplied from the left. A sheet is read only when its turn comes.
 ghost use Rattle.std.specs.Prelude.{◌≡◌, ◌≤◌, ◌<◌, length};
-ghost use Rattle.refusals.specs.Answer.{outcome};
 ghost use Rattle.refusals.specs.Sizes.{largest_size, most_cells};
 ghost use Rattle.job.specs.Factor.{in_front, in_arrays};
 ghost use Rattle.job.specs.Fold.{fold_from};
@@ -8,27 +7,29 @@ ghost use Rattle.job.specs.Train.{most_sheets, check_count, next_length, sheets_
 
 use crate::factor::{read_as, times_sheet};
 use matrices::methods::check_method;
-use refusals::{Outcome, Refusal};
-use sheets::Shape;
+use refusals::Refusal;
+use sheets::Sizes;
 use sheets::cut::first_length;
 
 // The most sheets of a train.
 const MOST_SHEETS: u32 = 8;
 
 // Refusal 12 where the number of sheets is not from 1 to 8.
-fn check_count(count: u32) -> Outcome
-    ensures { outcome result ≡ check_count count }
+#[tactic(auto, unfolding(crate::specs::Train::check_count))]
+fn check_count(count: u32) -> Result<(), Refusal>
+    ensures { result ≡ check_count count }
 {
     if count < 1 {
-        return Outcome::Refused(Refusal::of_matrix(12, 0));
+        return Err(Refusal::of_matrix(12, 0));
     }
     if MOST_SHEETS < count {
-        return Outcome::Refused(Refusal::of_matrix(12, 0));
+        return Err(Refusal::of_matrix(12, 0));
     }
-    Outcome::Done
+    Ok(())
 }
 
 // The length of the next sheet in s, after which `more` others come. The last sheet is not cut.
+#[tactic(auto, unfolding(crate::specs::Train::next_length))]
 fn next_length(more: usize, s: &[u8]) -> usize
     ensures { (result ≡ next_length more s.now) × (result ≤ length s.now) }
 {
@@ -47,7 +48,7 @@ fn times_others(
     s: &[u8],
     lo: &mut [u32],
     up: &mut [u32],
-) -> Shape
+) -> Result<Sizes, Refusal>
     requires { (others < most_sheets) × (rows ≤ largest_size) × (columns ≤ largest_size)
         × (length lo.old ≡ most_cells) × (length up.old ≡ most_cells) }
     ensures { in_arrays result lo.new up.new
@@ -60,36 +61,33 @@ fn times_others(
     while left > 0 {
         left -= 1;
         let end = next_length(left, rest);
-        match times_sheet(method, 9, position, rows, inner, &rest[..end], lo, up) {
-            Shape::Refused(r) => {
-                return Shape::Refused(r);
-            }
-            Shape::Sizes(_, n) => {
-                inner = n;
-            }
-        }
+        let sizes = times_sheet(method, 9, position, rows, inner, &rest[..end], lo, up)?;
+        inner = sizes.columns;
         rest = &rest[end..];
         position += 1;
     }
-    Shape::Sizes(rows, inner)
+    Ok(Sizes {
+        rows,
+        columns: inner,
+    })
 }
 
 // Checks the method (refusal 9) and the count (12), then multiplies the count sheets in s from the left.
-pub fn product(method: u32, count: u32, s: &[u8], lo: &mut [u32], up: &mut [u32]) -> Shape
+#[tactic(auto, unfolding(crate::specs::Train::train_product))]
+pub fn product(
+    method: u32,
+    count: u32,
+    s: &[u8],
+    lo: &mut [u32],
+    up: &mut [u32],
+) -> Result<Sizes, Refusal>
     requires { (length lo.old ≡ most_cells) × (length up.old ≡ most_cells) }
     ensures { in_arrays result lo.new up.new ≡ train_product method count s.now }
 {
-    match check_method(method).then(check_count(count)) {
-        Outcome::Refused(r) => Shape::Refused(r),
-        Outcome::Done => {
-            let others = count as usize - 1;
-            let end = next_length(others, s);
-            match read_as(1, &s[..end], lo, up) {
-                Shape::Refused(r) => Shape::Refused(r),
-                Shape::Sizes(rows, columns) => {
-                    times_others(method, others, rows, columns, &s[end..], lo, up)
-                }
-            }
-        }
-    }
+    check_method(method)?;
+    check_count(count)?;
+    let others = count as usize - 1;
+    let end = next_length(others, s);
+    let first = read_as(1, &s[..end], lo, up)?;
+    times_others(method, others, first.rows, first.columns, &s[end..], lo, up)
 }

@@ -1,20 +1,27 @@
 // All checks of a product before it computes anything, in their fixed order: refusals 9, 1, 2, then 3 and 4 for A's cells by rows, then for B's.
 ghost use Rattle.std.specs.Prelude.{◌≡◌};
-ghost use Rattle.refusals.specs.Answer.{outcome};
 ghost use Rattle.matrices.specs.Matrix.{of_bounds};
 ghost use Rattle.matrices.specs.Checks.{Covered, given, check_operands, check_lent, check_both, check_of};
 
 use crate::checks::{check_cells, check_sizes};
 use crate::methods::check_method;
-use refusals::Outcome;
+use refusals::Refusal;
 use refusals::sizes::check_lengths;
 
 // Refusal 2 for the slices of A, then of B, with a and b cells.
-fn check_operands(a: usize, b: usize, al: &[u32], au: &[u32], bl: &[u32], bu: &[u32]) -> Outcome
-    ensures { outcome result ≡ check_operands a b (of_bounds al.now au.now) (of_bounds bl.now bu.now) }
+#[tactic(auto, unfolding(crate::specs::Checks::check_operands))]
+fn check_operands(
+    a: usize,
+    b: usize,
+    al: &[u32],
+    au: &[u32],
+    bl: &[u32],
+    bu: &[u32],
+) -> Result<(), Refusal>
+    ensures { result ≡ check_operands a b (of_bounds al.now au.now) (of_bounds bl.now bu.now) }
 {
-    let second = check_lengths(2, b, bl.len(), bu.len());
-    check_lengths(1, a, al.len(), au.len()).then(second)
+    check_lengths(1, a, al.len(), au.len())?;
+    check_lengths(2, b, bl.len(), bu.len())
 }
 
 // The lengths of the slices that a caller lends for writing: midpoints and radii of A and B, then the bounds of the result.
@@ -29,15 +36,17 @@ pub struct Lent {
 }
 
 // Refusal 2 for the work slices, then for the result, with a, b and c cells.
-fn check_lent(a: usize, b: usize, c: usize, lent: Lent) -> Outcome
-    ensures { outcome result ≡ check_lent a b c lent.ma lent.ra lent.mb lent.rb lent.lo lent.up }
+#[tactic(auto, unfolding(crate::specs::Checks::check_lent))]
+fn check_lent(a: usize, b: usize, c: usize, lent: Lent) -> Result<(), Refusal>
+    ensures { result ≡ check_lent a b c lent.ma lent.ra lent.mb lent.rb lent.lo lent.up }
 {
-    let result = check_lengths(3, c, lent.lo, lent.up);
-    let second = check_lengths(0, b, lent.mb, lent.rb).then(result);
-    check_lengths(0, a, lent.ma, lent.ra).then(second)
+    check_lengths(0, a, lent.ma, lent.ra)?;
+    check_lengths(0, b, lent.mb, lent.rb)?;
+    check_lengths(3, c, lent.lo, lent.up)
 }
 
 // Refusals 3 and 4 for A's cells, then for B's.
+#[tactic(auto, unfolding(crate::specs::Checks::check_both))]
 fn check_both(
     a_rows: usize,
     a_columns: usize,
@@ -47,18 +56,17 @@ fn check_both(
     au: &[u32],
     bl: &[u32],
     bu: &[u32],
-) -> Outcome
+) -> Result<(), Refusal>
     requires { Covered a_rows a_columns al.now au.now × Covered b_rows b_columns bl.now bu.now }
-    ensures { outcome result ≡ check_both a_rows a_columns b_rows b_columns
+    ensures { result ≡ check_both a_rows a_columns b_rows b_columns
         (of_bounds al.now au.now) (of_bounds bl.now bu.now) }
 {
-    match check_cells(1, a_rows, a_columns, al, au) {
-        Outcome::Done => check_cells(2, b_rows, b_columns, bl, bu),
-        Outcome::Refused(r) => Outcome::Refused(r),
-    }
+    check_cells(1, a_rows, a_columns, al, au)?;
+    check_cells(2, b_rows, b_columns, bl, bu)
 }
 
 // All checks, in their order.
+#[tactic(auto, unfolding(crate::specs::Checks::check_of, crate::specs::Checks::check_shapes, crate::specs::Checks::check_slices))]
 pub fn check_all(
     method: u32,
     a_rows: usize,
@@ -70,23 +78,16 @@ pub fn check_all(
     bl: &[u32],
     bu: &[u32],
     lent: Lent,
-) -> Outcome
-    ensures { outcome result ≡ check_of (given method a_rows a_columns b_rows b_columns
+) -> Result<(), Refusal>
+    ensures { result ≡ check_of (given method a_rows a_columns b_rows b_columns
         al.now au.now bl.now bu.now
         lent.ma lent.ra lent.mb lent.rb lent.lo lent.up) }
 {
-    let sizes = check_sizes(a_rows, a_columns, b_rows, b_columns);
-    match check_method(method).then(sizes) {
-        Outcome::Done => {}
-        Outcome::Refused(r) => {
-            return Outcome::Refused(r);
-        }
-    }
+    check_method(method)?;
+    check_sizes(a_rows, a_columns, b_rows, b_columns)?;
     let a = a_rows * a_columns;
     let b = b_rows * b_columns;
-    let rest = check_lent(a, b, a_rows * b_columns, lent);
-    match check_operands(a, b, al, au, bl, bu).then(rest) {
-        Outcome::Done => check_both(a_rows, a_columns, b_rows, b_columns, al, au, bl, bu),
-        Outcome::Refused(r) => Outcome::Refused(r),
-    }
+    check_operands(a, b, al, au, bl, bu)?;
+    check_lent(a, b, a_rows * b_columns, lent)?;
+    check_both(a_rows, a_columns, b_rows, b_columns, al, au, bl, bu)
 }

@@ -1,31 +1,37 @@
 // The checks of a product on its matrices: their sizes (refusal 1), and each cell (refusals 3 and 4).
 ghost use Rattle.std.specs.Prelude.{◌≡◌, eqb};
-ghost use Rattle.refusals.specs.Answer.{outcome, unless};
+ghost use Rattle.refusals.specs.Answer.{unless};
 ghost use Rattle.refusals.specs.Refusal.{of_matrix};
 ghost use Rattle.matrices.specs.Matrix.{of_bounds};
 ghost use Rattle.matrices.specs.Checks.{Covered, check_sizes, check_cells};
 
 use intervals::check;
+use refusals::Refusal;
 use refusals::sizes::check_size;
-use refusals::{Outcome, Refusal};
 
 // Refusal 1 where A's columns are not as many as B's rows.
-fn check_inner(a_columns: usize, b_rows: usize) -> Outcome
-    ensures { outcome result ≡ unless (eqb a_columns b_rows) (of_matrix 1 2) }
+fn check_inner(a_columns: usize, b_rows: usize) -> Result<(), Refusal>
+    ensures { result ≡ unless (eqb a_columns b_rows) (of_matrix 1 2) }
 {
     if a_columns == b_rows {
-        return Outcome::Done;
+        return Ok(());
     }
-    Outcome::Refused(Refusal::of_matrix(1, 2))
+    Err(Refusal::of_matrix(1, 2))
 }
 
 // Refusal 1 for A's sizes, then for B's, then for the mismatch of the two.
-pub fn check_sizes(a_rows: usize, a_columns: usize, b_rows: usize, b_columns: usize) -> Outcome
-    ensures { outcome result ≡ check_sizes a_rows a_columns b_rows b_columns }
+#[tactic(auto, unfolding(crate::specs::Checks::check_sizes))]
+pub fn check_sizes(
+    a_rows: usize,
+    a_columns: usize,
+    b_rows: usize,
+    b_columns: usize,
+) -> Result<(), Refusal>
+    ensures { result ≡ check_sizes a_rows a_columns b_rows b_columns }
 {
-    let inner = check_inner(a_columns, b_rows);
-    let second = check_size(2, b_rows, b_columns).then(inner);
-    check_size(1, a_rows, a_columns).then(second)
+    check_size(1, a_rows, a_columns)?;
+    check_size(2, b_rows, b_columns)?;
+    check_inner(a_columns, b_rows)
 }
 
 // Refusal 3 or 4 for the first faulty cell by rows.
@@ -35,9 +41,9 @@ pub fn check_cells(
     columns: usize,
     lowers: &[u32],
     uppers: &[u32],
-) -> Outcome
+) -> Result<(), Refusal>
     requires { Covered rows columns lowers.now uppers.now }
-    ensures { outcome result ≡ check_cells matrix rows columns (of_bounds lowers.now uppers.now) }
+    ensures { result ≡ check_cells matrix rows columns (of_bounds lowers.now uppers.now) }
 {
     let cells = rows * columns;
     let mut c = 0;
@@ -46,9 +52,9 @@ pub fn check_cells(
         if fault != 0 {
             let row = (c / columns) as u8;
             let column = (c % columns) as u8;
-            return Outcome::Refused(Refusal::of_cell(fault, matrix, row, column));
+            return Err(Refusal::of_cell(fault, matrix, row, column));
         }
         c += 1;
     }
-    Outcome::Done
+    Ok(())
 }

@@ -11,6 +11,7 @@ fn byte(s: &[u8], p: usize) -> usize
 }
 
 // The value of an ASCII digit; 0 for any other byte.
+#[tactic(auto, unfolding(crate::specs::Input::digit_value))]
 fn digit_value(b: usize) -> usize
     ensures { result ≡ digit_value b }
 {

@@ -16,7 +16,6 @@ mod put;
 
 use intervals::slices::shorter;
 use refusals::sizes::MOST_CELLS;
-use sheets::Shape;
 use sheets::cut::first_length;
 use std::io;
 use std::io::{ErrorKind, Read, Write};
@@ -46,8 +45,8 @@ fn sheets_text(method: usize, s: &[u8], out: &mut [u8]) -> usize
     let mut up = [0u32; MOST_CELLS];
     let end = first_length(s);
     match job::multiply_sheets(method as u32, &s[..end], &s[end..], &mut lo, &mut up) {
-        Shape::Sizes(rows, columns) => lines::product_text(out, method, rows, columns, &lo, &up),
-        Shape::Refused(r) => lines::refused_line(out, r),
+        Ok(sizes) => lines::product_text(out, method, sizes.rows, sizes.columns, &lo, &up),
+        Err(r) => lines::refused_line(out, r),
     }
 }
 

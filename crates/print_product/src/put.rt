@@ -4,19 +4,18 @@ ghost use Rattle.print_product.specs.Digits.{digit, digits, digit_count, decimal
 ghost use Rattle.print_product.specs.Put.{Put};
 
 // The bytes of text.
+#[tactic(auto, unfolding(sheets::specs::Sheet::over))]
 pub fn bytes(out: &mut [u8], at: usize, text: &[u8]) -> usize
     requires { at + length text.now ≤ length out.old }
     ensures { Put at text.now out.old result out.new }
 {
-    let mut j = 0;
-    while j < text.len() {
-        out[at + j] = text[j];
-        j += 1;
-    }
-    at + j
+    let end = at + text.len();
+    out[at..end].copy_from_slice(text);
+    end
 }
 
 // The ASCII code of a hexadecimal digit: 0 to 9, then A to F.
+#[tactic(auto, unfolding(crate::specs::Digits::digit))]
 fn digit(d: usize) -> u8
     requires { d < 16 }
     ensures { result ≡ digit d }

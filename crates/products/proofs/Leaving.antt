@@ -1,4 +1,5 @@
 -- What a product leaves on each way out: refused by a check, by method 1, and by methods 3, 4, 5 and 7.
+use Rattle.std.specs.Prelude.{Some, None}
 use mathlib.Core.Path.{◌≡◌, refl, sym, ap, subst, ◌∙◌}
 use mathlib.Core.Bool.{Bool, true, false, cond}
 use mathlib.Core.List.{List, ◌++◌}
@@ -12,20 +13,14 @@ use lib.Seq.{drop-drop, drop_at}
 use borrow.Author.Tests.{ltb-true, ltb-false, eq-eqb, ne_eqb}
 use Rattle.enclosure.specs.Methods.{Method, Range, classical}
 use Rattle.refusals.specs.declared.Refusal.{Refusal}
-use Rattle.refusals.specs.declared.Outcome.{Outcome}
-use Rattle.refusals.specs.declared.Outcome.TheVariants.{Refused}
 use Rattle.refusals.specs.Refusal.{of_cell}
-use Rattle.refusals.specs.Answer.{Answer, refuses, done, outcome}
-use Rattle.refusals.proofs.Answers.{outcome_refused}
-use Rattle.intervals.specs.Slices.{zeros, cleared}
-use Rattle.intervals.proofs.Clearing.{cleared_front}
-use Rattle.products.specs.declared.sums.Place.{Place}
-use Rattle.products.specs.declared.sums.Place.TheVariants.{Nowhere, At}
+use Rattle.refusals.specs.Answer.{Answer, refuses, done}
+use Rattle.intervals.specs.Slices.{zeros}
 use Rattle.matrices.specs.Lists.{tabulate, front}
 use Rattle.matrices.specs.Matrix.{mid_at, rad_at}
 use Rattle.products.specs.MidRad.{entry_from}
 use Rattle.matrices.specs.Entries.{entry_at, refused, lower_of, upper_of, stop_of}
-use Rattle.products.specs.Written.{place_of, Written}
+use Rattle.products.specs.Written.{Found, place_of, Written}
 use Rattle.matrices.specs.Checks.{Given, chosen, check_of}
 use Rattle.matrices.specs.Product.{Left, entries, cells, stop, product_of, result_after, work_after}
 use Rattle.products.specs.Written.{InReach, Finished, answer_at, cleared_at}
@@ -47,40 +42,26 @@ zeros_front n c f d h = ap (λ (l : List ℕ). replicate n 0 ++ l) rest
         subst (λ (t : ℕ). drop t (front c f d) ≡ drop t d) s
         (sym (drop-drop (n - c) c (front c f d)) ∙ ap (λ (l : List ℕ). drop (n - c) l) w ∙ drop-drop (n - c) c d)
 
--- ---- the end, by the entry that is refused
-pub finished_nowhere : (p : Place) (n : ℕ) (lo up : List ℕ) → p ≡ Nowhere → Finished p n lo up done lo up
-finished_nowhere p n lo up e = record { answer = rw e; lowers = rw e; uppers = rw e }
-
-pub finished_at : (p : Place) (n : ℕ) (lo up : List ℕ) (i j : ℕ) (x : Refusal) (lo' up' : List ℕ) → p ≡ At i j → x ≡ of_cell 5 3 i j
-    → n ≤ length lo → n ≤ length up → lo' ≡ cleared n lo → up' ≡ cleared n up → Finished p n lo up (refuses x) lo' up'
-finished_at p n lo up i j x lo' up' e f hl hu l u =
-    record { answer = rw (e, f); lowers = rw e (l ∙ cleared_front n lo hl); uppers = rw e (u ∙ cleared_front n up hu) }
-
 stop_le : (E : ℕ → Option Range) (n : ℕ) → stop_of E n ≤ n
 unfolding stop_of
 stop_le E n = first_le (λ c. refused (E c)) n
 
 -- the place that is told is in reach
-pub reached : {E : ℕ → Option Range} {m n : ℕ} {lo up lo' up' : List ℕ} {p : Place} → Written E m n lo up p lo' up' → m ≤ 32 → 1 ≤ n → n ≤ 32 → InReach p
+pub reached : {E : ℕ → Option Range} {m n : ℕ} {lo up lo' up' : List ℕ} {p : Found} → Written E m n lo up p lo' up' → m ≤ 32 → 1 ≤ n → n ≤ 32 → InReach p
 reached {E = E} {m = m} {n = n} w hm hn hk = subst InReach (sym w.place) (go (ltb (stop_of E (m * n)) (m * n)) refl)
   where
-    go : (b : Bool) → ltb (stop_of E (m * n)) (m * n) ≡ b → InReach (cond b (At (stop_of E (m * n) / n) (stop_of E (m * n) % n)) Nowhere)
+    go : (b : Bool) → ltb (stop_of E (m * n)) (m * n) ≡ b → InReach (cond b (Some (record { row = stop_of E (m * n) / n; column = stop_of E (m * n) % n })) None)
     go true t =
         let row : stop_of E (m * n) / n < m = (div-lt_iff_lt-mul hn).1 (ltb-true _ _ t) in
         let column : stop_of E (m * n) % n < n = mod-lt (stop_of E (m * n)) hn in
         (omega arith, omega arith)
     go false t = tt
 
-pub reach_at : (p : Place) (i j : ℕ) → InReach p → p ≡ At i j → (i < 32) × (j < 32)
-reach_at p i j h e = subst InReach e h
-
 -- refused by a check
-pub left_refused : (g : Given) (z : Outcome) (x : Refusal) (ma ra mb rb lo up : List ℕ) → outcome z ≡ check_of g → z ≡ Refused x
-    → Left g ma ra mb rb lo up (refuses x) ma ra mb rb lo up
+pub left_refused : (g : Given) (z : Answer (Unit {0})) (x : Refusal) (ma ra mb rb lo up : List ℕ) → check_of g ≡ refuses x → z ≡ refuses x → Left g ma ra mb rb lo up z ma ra mb rb lo up
 unfolding product_of work_after result_after
-left_refused g z x ma ra mb rb lo up d f =
-    let e : check_of g ≡ refuses x = outcome_refused z (check_of g) x d f in
-    record { answer = rw e; a_mids = rw e; a_rads = rw e; b_mids = rw e; b_rads = rw e; lowers = rw e; uppers = rw e }
+left_refused g z x ma ra mb rb lo up e f =
+    record { answer = rw (f, e); a_mids = rw e; a_rads = rw e; b_mids = rw e; b_rads = rw e; lowers = rw e; uppers = rw e }
 
 -- accepted by the checks
 module _ (g : Given) (ok : check_of g ≡ done) where
@@ -90,19 +71,19 @@ module _ (g : Given) (ok : check_of g ≡ done) where
   abbrev column : ℕ
   column = stop g % g.b_columns
 
-  abbrev place : Place
+  abbrev place : Found
   place = place_of g.a_rows g.b_columns (stop g)
 
   -- ---- the entries were written up to the first that is refused, then kept or cleared
-  answer_is : (p : Place) (r : Answer (Unit {0})) → p ≡ place → r ≡ answer_at p → r ≡ product_of g
+  answer_is : (p : Found) (r : Answer (Unit {0})) → p ≡ place → r ≡ answer_at p → r ≡ product_of g
   unfolding product_of
   answer_is p r e f = f ∙ ap answer_at e ∙ rw ok (go (ltb (stop g) (cells g)))
     where
-      go : (b : Bool) → answer_at (cond b (At row column) Nowhere) ≡ cond b (refuses (of_cell 5 3 row column)) done
+      go : (b : Bool) → answer_at (cond b (Some (record { row = row; column = column })) None) ≡ cond b (refuses (of_cell 5 3 row column)) done
       go true = refl
       go false = refl
 
-  result_is : (bound : Option Range → ℕ) (p : Place) (d d' d'' : List ℕ) → p ≡ place → d' ≡ front (stop g) (λ c. bound (entries g c)) d → d'' ≡ cleared_at p (cells g) d'
+  result_is : (bound : Option Range → ℕ) (p : Found) (d d' d'' : List ℕ) → p ≡ place → d' ≡ front (stop g) (λ c. bound (entries g c)) d → d'' ≡ cleared_at p (cells g) d'
       → d'' ≡ result_after g bound d
   unfolding result_after
   result_is bound p d d' d'' e w f =
@@ -115,7 +96,7 @@ module _ (g : Given) (ok : check_of g ≡ done) where
       le = stop_le (entries g) (cells g)
 
       go : (b : Bool) → ltb (stop g) (cells g) ≡ b
-          → cleared_at (cond b (At row column) Nowhere) (cells g) (front (stop g) h d) ≡ cond b (zeros (cells g) d) (front (cells g) h d)
+          → cleared_at (cond b (Some (record { row = row; column = column })) None) (cells g) (front (stop g) h d) ≡ cond b (zeros (cells g) d) (front (cells g) h d)
       go true t = zeros_front (cells g) (stop g) h d le
       go false t =
           let all : cells g ≤ stop g = ltb-false (stop g) (cells g) t in
@@ -132,7 +113,7 @@ module _ (g : Given) (ok : check_of g ≡ done) where
   converted_is n f d d' e w = rw (ok, ne_eqb g.method 1 e) w
 
   -- ---- all of it
-  pub left_classical : (ma ra mb rb lo up : List ℕ) (p : Place) (lo' up' : List ℕ) (r : Answer (Unit {0})) (lo'' up'' : List ℕ) → g.method ≡ 1
+  pub left_classical : (ma ra mb rb lo up : List ℕ) (p : Found) (lo' up' : List ℕ) (r : Answer (Unit {0})) (lo'' up'' : List ℕ) → g.method ≡ 1
       → Written (entry_at classical g.a_columns g.b_columns g.A g.B) g.a_rows g.b_columns lo up p lo' up'
       → Finished p (cells g) lo' up' r lo'' up'' → Left g ma ra mb rb lo up r ma ra mb rb lo'' up''
   left_classical ma ra mb rb lo up p lo' up' r lo'' up'' e w f =
@@ -149,7 +130,7 @@ module _ (g : Given) (ok : check_of g ≡ done) where
       }
 
   module _ (ma' ra' mb' rb' : List ℕ) (a : Converted g.A (g.a_rows * g.a_columns) ma' ra') (b : Converted g.B (g.a_columns * g.b_columns) mb' rb') where
-    pub left_converted : (ma ra mb rb lo up : List ℕ) (p : Place) (lo' up' : List ℕ) (r : Answer (Unit {0})) (lo'' up'' : List ℕ) → (g.method ≡ 1 → ⊥) → ByMidRad (chosen g.method)
+    pub left_converted : (ma ra mb rb lo up : List ℕ) (p : Found) (lo' up' : List ℕ) (r : Answer (Unit {0})) (lo'' up'' : List ℕ) → (g.method ≡ 1 → ⊥) → ByMidRad (chosen g.method)
         → ma' ≡ front (g.a_rows * g.a_columns) (mid_at g.A) ma → ra' ≡ front (g.a_rows * g.a_columns) (rad_at g.A) ra
         → mb' ≡ front (g.b_rows * g.b_columns) (mid_at g.B) mb → rb' ≡ front (g.b_rows * g.b_columns) (rad_at g.B) rb
         → Written (entry_from (chosen g.method) g.a_columns g.b_columns ma' ra' mb' rb') g.a_rows g.b_columns lo up p lo' up'

@@ -1,4 +1,5 @@
 -- Entries written by rows until the first that is refused, whatever computes them: what the loops over rows and columns keep, and what their two ways out leave.
+use Rattle.std.specs.Prelude.{Some, None}
 use mathlib.Core.Path.{◌≡◌, refl, sym, ap, ◌∙◌}
 use mathlib.Core.Bool.{true, false}
 use mathlib.Core.List.{List}
@@ -18,25 +19,23 @@ use Rattle.matrices.specs.Entries.{refused, lower_of, upper_of, stop_of}
 use Rattle.matrices.proofs.Firsts.{first_none, first_more, first_here}
 use Rattle.matrices.proofs.Fronts.{Filled, filled_none, filled_more, filled_from, filled_is}
 use Rattle.matrices.proofs.Places.{below, position_row, position_column}
-use Rattle.products.specs.declared.sums.Place.{Place}
-use Rattle.products.specs.declared.sums.Place.TheVariants.{Nowhere, At}
 use Rattle.products.specs.declared.sums.Sums.{Sums}
 use Rattle.products.specs.Running.{HoldsRange, refused_sums}
-use Rattle.products.specs.Written.{place_of, Written}
+use Rattle.products.specs.Written.{Found, place_of, Written}
 
 module _ (E : ℕ → Option Range) where
   -- the entries below `at` are in lo and up, which were lo₀ and up₀, and none of them was refused
-  pub record WrittenTo (at : ℕ) (lo₀ up₀ lo up : List ℕ) (place : Place) : Type 0 where
-    pub nowhere : place ≡ Nowhere
+  pub record WrittenTo (at : ℕ) (lo₀ up₀ lo up : List ℕ) (place : Found) : Type 0 where
+    pub nowhere : place ≡ None
     pub stop : stop_of E at ≡ at
     pub lowers : Filled at (λ c. lower_of (E c)) lo₀ lo
     pub uppers : Filled at (λ c. upper_of (E c)) up₀ up
 
-  pub to_start : (lo up : List ℕ) → WrittenTo 0 lo up lo up Nowhere
+  pub to_start : (lo up : List ℕ) → WrittenTo 0 lo up lo up None
   unfolding stop_of
   to_start lo up = record { nowhere = refl; stop = first_none (λ c. refused (E c)); lowers = filled_none _ lo; uppers = filled_none _ up }
 
-  module _ {at : ℕ} {lo₀ up₀ lo up : List ℕ} {place : Place} (W : WrittenTo at lo₀ up₀ lo up place) where
+  module _ {at : ℕ} {lo₀ up₀ lo up : List ℕ} {place : Found} (W : WrittenTo at lo₀ up₀ lo up place) where
     -- a row begins
     pub to_again : WrittenTo at lo up lo up place
     to_again = record {
@@ -47,11 +46,11 @@ module _ (E : ℕ → Option Range) where
     }
 
     -- a loop within it left the place nowhere
-    pub to_still : {place' : Place} → place' ≡ Nowhere → WrittenTo at lo₀ up₀ lo up place'
+    pub to_still : {place' : Found} → place' ≡ None → WrittenTo at lo₀ up₀ lo up place'
     to_still e = record { nowhere = e; stop = W.stop; lowers = W.lowers; uppers = W.uppers }
 
     -- it has got from `at` to `to`
-    pub to_from : {to : ℕ} {lo' up' : List ℕ} {place' : Place} → at ≤ to → WrittenTo to lo up lo' up' place' → WrittenTo to lo₀ up₀ lo' up' place'
+    pub to_from : {to : ℕ} {lo' up' : List ℕ} {place' : Found} → at ≤ to → WrittenTo to lo up lo' up' place' → WrittenTo to lo₀ up₀ lo' up' place'
     to_from {to} h X = record {
       nowhere = X.nowhere;
       stop = X.stop;
@@ -73,19 +72,19 @@ module _ (E : ℕ → Option Range) where
         }
 
     -- ---- all rows, or up to a refused entry
-    ended : (m n : ℕ) (r : Place) → stop_of E (m * n) ≡ at → r ≡ place_of m n at → Written E m n lo₀ up₀ r lo up
+    ended : (m n : ℕ) (r : Found) → stop_of E (m * n) ≡ at → r ≡ place_of m n at → Written E m n lo₀ up₀ r lo up
     ended m n r t e = record { place = rw t e; lowers = rw t (filled_is at _ lo₀ lo W.lowers); uppers = rw t (filled_is at _ up₀ up W.uppers) }
 
     pub to_all : (m n : ℕ) → at ≡ m * n → Written E m n lo₀ up₀ place lo up
     to_all m n e = ended m n place (ap (stop_of E) (sym e) ∙ W.stop) (rw (le-ltb at (m * n) (omega arith)) W.nowhere)
 
-    pub to_none : (m n i j : ℕ) → at ≡ i * n + j → i < m → j < n → E at ≡ none → Written E m n lo₀ up₀ (At i j) lo up
+    pub to_none : (m n i j : ℕ) → at ≡ i * n + j → i < m → j < n → E at ≡ none → Written E m n lo₀ up₀ (Some (record { row = i; column = j })) lo up
     unfolding stop_of
     to_none m n i j e h k g =
         let l : at < m * n = omega (arith, below i m j n h k) in
-        ended m n (At i j) (first_here (λ c. refused (E c)) at (m * n) W.stop (ap refused g) l) (rw (lt-ltb at (m * n) l, position_row i j n at e k, position_column i j n at e k))
+        ended m n (Some (record { row = i; column = j })) (first_here (λ c. refused (E c)) at (m * n) W.stop (ap refused g) l) (rw (lt-ltb at (m * n) l, position_row i j n at e k, position_column i j n at e k))
 
-    pub to_refused : (m n i j : ℕ) (s : Sums) → at ≡ i * n + j → i < m → j < n → HoldsRange (E at) s → refused_sums s ≡ true → Written E m n lo₀ up₀ (At i j) lo up
+    pub to_refused : (m n i j : ℕ) (s : Sums) → at ≡ i * n + j → i < m → j < n → HoldsRange (E at) s → refused_sums s ≡ true → Written E m n lo₀ up₀ (Some (record { row = i; column = j })) lo up
     to_refused m n i j s e h k H t = to_none m n i j e h k (H.refused t)
 
     pub to_long : (length lo ≡ length lo₀) × (length up ≡ length up₀)

@@ -3,7 +3,7 @@ ghost use Rattle.std.specs.Prelude.{◌≡◌, ◌≤◌, length};
 ghost use Rattle.matrices.specs.Lists.{front};
 ghost use Rattle.matrices.specs.Matrix.{of_bounds, AllFine, mid_at, rad_at};
 
-use intervals::{Converted, to_midrad};
+use intervals::to_midrad;
 
 // Writes the midpoints and radii of the first count cells, which have no fault, to the front of mids and rads.
 pub fn convert(count: usize, lowers: &[u32], uppers: &[u32], mids: &mut [u32], rads: &mut [u32])
@@ -12,17 +12,11 @@ pub fn convert(count: usize, lowers: &[u32], uppers: &[u32], mids: &mut [u32], r
     ensures mids_after { mids.new ≡ front count (mid_at (of_bounds lowers.now uppers.now)) mids.old }
     ensures rads_after { rads.new ≡ front count (rad_at (of_bounds lowers.now uppers.now)) rads.old }
 {
-    let mut c = 0;
-    while c < count {
-        match to_midrad(lowers[c], uppers[c]) {
-            Converted::MidRad(m, r) => {
-                mids[c] = m;
-                rads[c] = r;
-            }
-            Converted::Refused(_) => {
-                return;
-            }
-        }
-        c += 1;
+    for c in 0..count {
+        let Ok((m, r)) = to_midrad(lowers[c], uppers[c]) else {
+            return;
+        };
+        mids[c] = m;
+        rads[c] = r;
     }
 }

@@ -18,7 +18,7 @@ fn is_nonzero(lo: u32, hi: u32) -> bool
     0 < lo % 0x8000_0000 + hi % 0x8000_0000
 }
 
-// Writes the entries by rows until one is refused, and returns its row and column, or Nowhere.
+// Writes the entries by rows until one is refused, and returns its row and column, or None.
 pub fn entries(
     m: usize,
     k: usize,
@@ -29,13 +29,13 @@ pub fn entries(
     bu: &[u32],
     lo: &mut [u32],
     up: &mut [u32],
-) -> Place
+) -> Option<Place>
     requires { Sizes m k n (of_bounds al.now au.now) (of_bounds bl.now bu.now) (length lo.old) (length up.old) }
     ensures { Written (entry_at classical k n (of_bounds al.now au.now) (of_bounds bl.now bu.now))
         m n lo.old up.old result lo.new up.new }
 {
     let mut row = [Apart::zero(); LARGEST_SIZE];
-    let mut place = Place::Nowhere;
+    let mut place = None;
     let mut at = 0;
     'search: for i in 0..m {
         for l in 0..k {
@@ -54,7 +54,7 @@ pub fn entries(
                     if is_nonzero(y, z) {
                         s = s.step(a, y, z);
                         if s.refused() {
-                            place = Place::At(i, j);
+                            place = Some(Place { row: i, column: j });
                             break 'search;
                         }
                     }

@@ -21,7 +21,7 @@ fn by_three(
     rb: &[u32],
     lo: &mut [u32],
     up: &mut [u32],
-) -> Place
+) -> Option<Place>
     requires { Sized m k n ma.now ra.now mb.now rb.now (length lo.old) (length up.old) }
     ensures { Written (entry_from three k n ma.now ra.now mb.now rb.now)
         m n lo.old up.old result lo.new up.new }
@@ -44,7 +44,7 @@ fn by_four(
     rb: &[u32],
     lo: &mut [u32],
     up: &mut [u32],
-) -> Place
+) -> Option<Place>
     requires { Sized m k n ma.now ra.now mb.now rb.now (length lo.old) (length up.old) }
     ensures { Written (entry_from four k n ma.now ra.now mb.now rb.now)
         m n lo.old up.old result lo.new up.new }
@@ -65,7 +65,7 @@ fn by_five(
     rb: &[u32],
     lo: &mut [u32],
     up: &mut [u32],
-) -> Place
+) -> Option<Place>
     requires { Sized m k n ma.now ra.now mb.now rb.now (length lo.old) (length up.old) }
     ensures { Written (entry_from five k n ma.now ra.now mb.now rb.now)
         m n lo.old up.old result lo.new up.new }
@@ -92,7 +92,7 @@ fn by_seven(
     rb: &[u32],
     lo: &mut [u32],
     up: &mut [u32],
-) -> Place
+) -> Option<Place>
     requires { Sized m k n ma.now ra.now mb.now rb.now (length lo.old) (length up.old) }
     ensures { Written (entry_from seven k n ma.now ra.now mb.now rb.now)
         m n lo.old up.old result lo.new up.new }
@@ -106,7 +106,7 @@ fn by_seven(
     seven::entries(m, k, n, ma, ra, &pa, mb, rb, &wb, &pb, lo, up)
 }
 
-// Writes the entries by this method by rows until one is refused, and returns its row and column, or Nowhere.
+// Writes the entries by this method by rows until one is refused, and returns its row and column, or None.
 pub fn entries(
     method: u32,
     m: usize,
@@ -118,7 +118,7 @@ pub fn entries(
     rb: &[u32],
     lo: &mut [u32],
     up: &mut [u32],
-) -> Place
+) -> Option<Place>
     requires { ((method ≡ 3) ⊎ ((method ≡ 4) ⊎ ((method ≡ 5) ⊎ (method ≡ 7))))
         × Sized m k n ma.now ra.now mb.now rb.now (length lo.old) (length up.old) }
     ensures { Written (entry_from (chosen method) k n ma.now ra.now mb.now rb.now)

@@ -4,8 +4,9 @@ ghost use Rattle.binary32.specs.Number.{held};
 ghost use Rattle.products.specs.declared.derived.Kind.TheVariants.{Part};
 ghost use Rattle.products.specs.Derived.{MidRad, MidRads, Derives, Derived, derived_of, raised_factor};
 
+use binary32::direction::Up;
 use binary32::order::{least, magnitude, negate};
-use binary32::partial::{add_up, mul_up};
+use binary32::partial;
 
 // Outer: |m| + r. Raised(c): (c × |m|) + r, method 3's rB'. Part: sign(m) × min(|m|, r), p of methods 5 and 7.
 #[derive(Clone, Copy)]
@@ -78,8 +79,8 @@ pub fn derive(kind: Kind, m: u32, r: u32) -> u32
     ensures { Derives kind m r result }
 {
     match kind {
-        Kind::Outer => add_up(magnitude(m), r),
-        Kind::Raised(c) => add_up(mul_up(c, magnitude(m)), r),
+        Kind::Outer => partial::add::<Up>(magnitude(m), r),
+        Kind::Raised(c) => partial::add::<Up>(partial::mul::<Up>(c, magnitude(m)), r),
         Kind::Part => part_of(m, r),
     }
 }

@@ -91,7 +91,7 @@ pub fn entries(
     pb: &[u32],
     lo: &mut [u32],
     up: &mut [u32],
-) -> Place
+) -> Option<Place>
     requires { Sized m k n ma.now ra.now mb.now rb.now (length lo.old) (length up.old)
         × Derived outer_of (m * k) ma.now ra.now wa.now
         × Derived part_of (m * k) ma.now ra.now pa.now
@@ -102,7 +102,7 @@ pub fn entries(
 {
     let mut xs = [0u64; LARGEST_SIZE];
     let mut ps = [0u64; LARGEST_SIZE];
-    let mut place = Place::Nowhere;
+    let mut place = None;
     let mut at = 0;
     'search: for i in 0..m {
         unpack_row(k, i, ma, &mut xs);
@@ -110,7 +110,7 @@ pub fn entries(
         for j in 0..n {
             let e = entry(k, n, i, j, &xs, mb, &ps, pb, wa, wb);
             if e.refused() {
-                place = Place::At(i, j);
+                place = Some(Place { row: i, column: j });
                 break 'search;
             }
             lo[at] = e.lower();

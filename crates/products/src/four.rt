@@ -22,13 +22,13 @@ pub fn entries(
     wb: &[u32],
     lo: &mut [u32],
     up: &mut [u32],
-) -> Place
+) -> Option<Place>
     requires { Sized m k n ma.now ra.now mb.now rb.now (length lo.old) (length up.old)
         × Derived outer_of (k * n) mb.now rb.now wb.now }
     ensures { Written (entry_from four k n ma.now ra.now mb.now rb.now)
         m n lo.old up.old result lo.new up.new }
 {
-    let mut place = Place::Nowhere;
+    let mut place = None;
     let mut at = 0;
     'search: for i in 0..m {
         for j in 0..n {
@@ -40,19 +40,19 @@ pub fn entries(
                     let b = l * n + j;
                     s = s.step_four(x, mb[b], rb[b]);
                     if s.refused() {
-                        place = Place::At(i, j);
+                        place = Some(Place { row: i, column: j });
                         break 'search;
                     }
                 }
             }
             let radius = outer(s.radius, k, n, i, j, ra, wb);
             if is_none(radius) {
-                place = Place::At(i, j);
+                place = Some(Place { row: i, column: j });
                 break 'search;
             }
             let e = ends(s.lower, s.opposed, radius);
             if e.refused() {
-                place = Place::At(i, j);
+                place = Some(Place { row: i, column: j });
                 break 'search;
             }
             lo[at] = e.lower();

@@ -2,7 +2,6 @@
 #![tactic(auto)]
 
 ghost use Rattle.std.specs.Prelude.{◌≤◌, length};
-ghost use Rattle.refusals.specs.Answer.{outcome};
 ghost use Rattle.matrices.specs.Product.{Leaves};
 ghost use Rattle.products.specs.Written.{InReach, Finished};
 ghost use Rattle.matrices.specs.Demand.{KeepsCalled};
@@ -10,7 +9,7 @@ ghost use Rattle.matrices.specs.Demand.{KeepsCalled};
 use cells::convert;
 use intervals::slices::clear;
 use matrices::check_order::{Lent, check_all};
-use refusals::{Outcome, Refusal};
+use refusals::Refusal;
 use sums::Place;
 
 mod apart;
@@ -41,18 +40,17 @@ mod three;
 mod times;
 
 // The end of a product: where an entry was refused, sets all cells of the result to 0 and returns refusal 5 with its row and column.
-fn finish(place: Place, count: usize, lo: &mut [u32], up: &mut [u32]) -> Outcome
+#[tactic(auto, using(intervals::proofs::Clearing::cleared_front))]
+fn finish(place: Option<Place>, count: usize, lo: &mut [u32], up: &mut [u32]) -> Result<(), Refusal>
     requires { (count ≤ length lo.old) × (count ≤ length up.old) × InReach place }
-    ensures { Finished place count lo.old up.old (outcome result) lo.new up.new }
+    ensures { Finished place count lo.old up.old result lo.new up.new }
 {
     match place {
-        Place::Nowhere => Outcome::Done,
-        Place::At(i, j) => {
+        None => Ok(()),
+        Some(Place { row, column }) => {
             clear(count, lo);
             clear(count, up);
-            let row = i as u8;
-            let column = j as u8;
-            Outcome::Refused(Refusal::of_cell(5, 3, row, column))
+            Err(Refusal::of_cell(5, 3, row as u8, column as u8))
         }
     }
 }
@@ -74,10 +72,10 @@ pub fn product(
     rb: &mut [u32],
     lo: &mut [u32],
     up: &mut [u32],
-) -> Outcome
+) -> Result<(), Refusal>
     ensures left { Leaves method a_rows a_columns b_rows b_columns
         al.now au.now bl.now bu.now
-        ma.old ra.old mb.old rb.old lo.old up.old (outcome result)
+        ma.old ra.old mb.old rb.old lo.old up.old result
         ma.new ra.new mb.new rb.new lo.new up.new }
     ensures keeps { KeepsCalled method a_rows a_columns b_rows b_columns
         al.now au.now bl.now bu.now
@@ -92,31 +90,25 @@ pub fn product(
         lo: lo.len(),
         up: up.len(),
     };
-    match check_all(
+    check_all(
         method, a_rows, a_columns, b_rows, b_columns, al, au, bl, bu, lent,
-    ) {
-        Outcome::Done => {
-            let count = a_rows * b_columns;
-            if method == 1 {
-                finish(
-                    classical::entries(a_rows, a_columns, b_columns, al, au, bl, bu, lo, up),
-                    count,
-                    lo,
-                    up,
-                )
-            } else {
-                convert(a_rows * a_columns, al, au, ma, ra);
-                convert(b_rows * b_columns, bl, bu, mb, rb);
-                finish(
-                    converted::entries(
-                        method, a_rows, a_columns, b_columns, ma, ra, mb, rb, lo, up,
-                    ),
-                    count,
-                    lo,
-                    up,
-                )
-            }
-        }
-        Outcome::Refused(r) => Outcome::Refused(r),
+    )?;
+    let count = a_rows * b_columns;
+    if method == 1 {
+        finish(
+            classical::entries(a_rows, a_columns, b_columns, al, au, bl, bu, lo, up),
+            count,
+            lo,
+            up,
+        )
+    } else {
+        convert(a_rows * a_columns, al, au, ma, ra);
+        convert(b_rows * b_columns, bl, bu, mb, rb);
+        finish(
+            converted::entries(method, a_rows, a_columns, b_columns, ma, ra, mb, rb, lo, up),
+            count,
+            lo,
+            up,
+        )
     }
 }

@@ -4,7 +4,6 @@ ghost use Rattle.std.specs.Prelude.{◌≡◌};
 ghost use Rattle.rounding.specs.Format.{binary32};
 ghost use Rattle.enclosure.specs.Arithmetic.{of};
 ghost use Rattle.enclosure.specs.RunningSums.{add_pair};
-ghost use Rattle.intervals.specs.Conversion.{bounded};
 ghost use Rattle.products.specs.Apart.{Cells};
 ghost use Rattle.products.specs.Classical.{apart_cell, pattern_cell};
 ghost use Rattle.products.specs.Pair.{pair_fault, pair_added};
@@ -17,9 +16,11 @@ use crate::plus::plus_down;
 use crate::rounded::{rounded_down, rounded_up};
 use crate::sums::Sums;
 use binary32::finite::are_finite;
-use intervals::{Bounded, check};
+use intervals::check;
+use refusals::Refusal;
 
 // The fault of a pair and of the sums so far: 3 or 4 of the first cell, then of the second; 3, a sum is not a number; 0, none.
+#[tactic(auto, unfolding(crate::specs::Pair::pair_fault))]
 fn pair_fault(lower: u32, upper: u32, al: u32, au: u32, bl: u32, bu: u32) -> u8
     ensures { result ≡ pair_fault (lower, upper) (al, au) (bl, bu) }
 {
@@ -53,16 +54,24 @@ fn step_pair(s: Sums, a: Apart, bl: u32, bu: u32) -> Sums
 
 // The sums [lower, upper] with the pair of cells [al, au] and [bl, bu] added: the least of the four corner products to the lower sum, all rounded down, and
 // the greatest to the upper sum, all rounded up. Refused with 3 or 4, or with 5 where a step is too large.
-pub fn add_pair(lower: u32, upper: u32, al: u32, au: u32, bl: u32, bu: u32) -> Bounded
-    ensures { bounded result ≡ pair_added (lower, upper) (al, au) (bl, bu) }
+#[tactic(auto, unfolding(crate::specs::Pair::pair_added))]
+pub fn add_pair(
+    lower: u32,
+    upper: u32,
+    al: u32,
+    au: u32,
+    bl: u32,
+    bu: u32,
+) -> Result<(u32, u32), Refusal>
+    ensures { result ≡ pair_added (lower, upper) (al, au) (bl, bu) }
 {
     let fault = pair_fault(lower, upper, al, au, bl, bu);
     if fault != 0 {
-        return Bounded::Refused(fault);
+        return Err(Refusal::of_matrix(fault, 0));
     }
     let s = step_pair(Sums::of_bounds(lower, upper), Apart::new(al, au), bl, bu);
     if s.refused() {
-        return Bounded::Refused(5);
+        return Err(Refusal::of_matrix(5, 0));
     }
-    Bounded::Bounds(s.lower(), s.upper())
+    Ok((s.lower(), s.upper()))
 }

@@ -63,7 +63,7 @@ pub fn entries(
     pb: &[u32],
     lo: &mut [u32],
     up: &mut [u32],
-) -> Place
+) -> Option<Place>
     requires { Sized m k n ma.now ra.now mb.now rb.now (length lo.old) (length up.old)
         × Derived part_of (m * k) ma.now ra.now pa.now
         × Derived outer_of (k * n) mb.now rb.now wb.now
@@ -71,7 +71,7 @@ pub fn entries(
     ensures { Written (entry_from seven k n ma.now ra.now mb.now rb.now)
         m n lo.old up.old result lo.new up.new }
 {
-    let mut place = Place::Nowhere;
+    let mut place = None;
     let mut at = 0;
     'search: for i in 0..m {
         for j in 0..n {
@@ -83,24 +83,24 @@ pub fn entries(
                     let b = l * n + j;
                     s = s.step_seven(x, mb[b], rb[b]);
                     if s.refused() {
-                        place = Place::At(i, j);
+                        place = Some(Place { row: i, column: j });
                         break 'search;
                     }
                 }
             }
             let radius = outer(s.radius, k, n, i, j, ra, wb);
             if is_none(radius) {
-                place = Place::At(i, j);
+                place = Some(Place { row: i, column: j });
                 break 'search;
             }
             let t = parts(s.lower, s.opposed, radius, k, n, i, j, pa, pb);
             if t.refused() {
-                place = Place::At(i, j);
+                place = Some(Place { row: i, column: j });
                 break 'search;
             }
             let e = ends(t.lower, t.opposed, t.radius);
             if e.refused() {
-                place = Place::At(i, j);
+                place = Some(Place { row: i, column: j });
                 break 'search;
             }
             lo[at] = e.lower();

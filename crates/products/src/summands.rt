@@ -13,6 +13,7 @@ const LONGEST: i64 = -0x1000_0000_0000_0000;
 pub const GUARD_AND_CARRY: u32 = GUARD + 1;
 
 // The summand with the larger exponent; x where the exponents are equal.
+#[tactic(auto, unfolding(unpacked::specs::Cuts::earlier))]
 fn first(x: Number, y: Number) -> Number
     ensures { result ≡ earlier x y }
 {
@@ -23,6 +24,7 @@ fn first(x: Number, y: Number) -> Number
 }
 
 // The other summand.
+#[tactic(auto, unfolding(unpacked::specs::Cuts::later))]
 fn second(x: Number, y: Number) -> Number
     ensures { result ≡ later x y }
 {

@@ -25,11 +25,11 @@ pub struct Sums {
     pub opposed: Number,
 }
 
-// The row and column of the first refused entry by rows, if there is one.
+// The row and column of an entry that is refused.
 #[derive(Clone, Copy)]
-pub enum Place {
-    Nowhere,
-    At(usize, usize),
+pub struct Place {
+    pub row: usize,
+    pub column: usize,
 }
 
 impl Sums {

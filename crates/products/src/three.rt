@@ -26,14 +26,14 @@ pub fn entries(
     wb: &[u32],
     lo: &mut [u32],
     up: &mut [u32],
-) -> Place
+) -> Option<Place>
     requires { Sized m k n ma.now ra.now mb.now rb.now (length lo.old) (length up.old)
         × Derived (raised_of (factor_of k)) (k * n) mb.now rb.now vb.now
         × Derived outer_of (k * n) mb.now rb.now wb.now }
     ensures { Written (entry_from three k n ma.now ra.now mb.now rb.now)
         m n lo.old up.old result lo.new up.new }
 {
-    let mut place = Place::Nowhere;
+    let mut place = None;
     let mut at = 0;
     'search: for i in 0..m {
         for j in 0..n {
@@ -45,24 +45,24 @@ pub fn entries(
                 if adds(x, v) {
                     s = s.step(x, mb[b], v);
                     if s.refused() {
-                        place = Place::At(i, j);
+                        place = Some(Place { row: i, column: j });
                         break 'search;
                     }
                 }
             }
             let inner = plus_negative(s.radius, minus_tiny());
             if is_none(inner) {
-                place = Place::At(i, j);
+                place = Some(Place { row: i, column: j });
                 break 'search;
             }
             let radius = outer(inner, k, n, i, j, ra, wb);
             if is_none(radius) {
-                place = Place::At(i, j);
+                place = Some(Place { row: i, column: j });
                 break 'search;
             }
             let e = ends(s.centre, opposite(s.centre), radius);
             if e.refused() {
-                place = Place::At(i, j);
+                place = Some(Place { row: i, column: j });
                 break 'search;
             }
             lo[at] = e.lower();

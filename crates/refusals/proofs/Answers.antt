@@ -6,9 +6,7 @@ use native.Mathlib.Omega.{arith}
 use lib.Dec.{eqb}
 use borrow.Author.Tests.{eq-eqb, ne_eqb, eqb-true}
 use Rattle.refusals.specs.declared.Refusal.{Refusal}
-use Rattle.refusals.specs.declared.Outcome.{Outcome}
-use Rattle.refusals.specs.declared.Outcome.TheVariants.{Done, Refused}
-use Rattle.refusals.specs.Answer.{Answer, gives, refuses, done, refuse, outcome, unless, passing, and_then, then, both, naming}
+use Rattle.refusals.specs.Answer.{Answer, gives, refuses, done, refuse, unless, passing, and_then, then, both, naming}
 
 -- ---- f says a of a value z of the code, and z is v
 pub said : {A B : Type 0} (f : A → B) {z v : A} {a : B} → f z ≡ a → z ≡ v → f v ≡ a
@@ -76,10 +74,3 @@ both_tell (refuses r) b v e = absurd (not_both e)
 pub naming_tells : {A : Type 0} (m : ℕ) (a : Answer A) (v : A) → naming m a ≡ gives v → a ≡ gives v
 naming_tells m (gives u) v e = e
 naming_tells m (refuses r) v e = absurd (not_both e)
-
--- ---- an outcome of the code
-pub outcome_done : (z : Outcome) (a : Answer (Unit {0})) → outcome z ≡ a → z ≡ Done → a ≡ done
-outcome_done z a e f = sym (said outcome e f)
-
-pub outcome_refused : (z : Outcome) (a : Answer (Unit {0})) (r : Refusal) → outcome z ≡ a → z ≡ Refused r → a ≡ refuses r
-outcome_refused z a r e f = sym (said outcome e f)

@@ -1,39 +1,19 @@
 -- Laws of 1 and 2: one for each way out of the tests, and what passing them tells. Assumes nothing.
-use mathlib.Core.Path.{◌≡◌, sym, ap, ap₂, subst, ◌∙◌}
-use mathlib.Core.Bool.{Bool, true, false, cond}
-use Prim.Native.Nat.{ℕ, ◌*◌, ◌≤◌, ◌<◌}
+use mathlib.Core.Path.{◌≡◌, sym, subst}
+use mathlib.Core.Bool.{true}
+use Prim.Native.Nat.{ℕ, ◌*◌, ◌≤◌}
 use native.Mathlib.Nat.{mul-le-mul}
 use lib.Dec.{T, leb, leb→le}
-use borrow.Author.Tests.{le-leb, lt-leb}
-use Rattle.refusals.specs.declared.Outcome.{Outcome}
-use Rattle.refusals.specs.declared.Outcome.TheVariants.{Done}
 use Rattle.refusals.specs.Refusal.{of_matrix}
-use Rattle.refusals.specs.Answer.{refuses, done, outcome, unless}
+use Rattle.refusals.specs.Answer.{done}
 use Rattle.refusals.specs.Sizes.{sized, check_size, check_lengths, check_fit}
-use Rattle.refusals.proofs.Answers.{unless_tells, and_tells, then_tells, outcome_done}
+use Rattle.refusals.proofs.Answers.{unless_tells, and_tells, then_tells}
 
 is_le : (a b : ℕ) → leb a b ≡ true → a ≤ b
 is_le a b e = leb→le a b (subst T (sym e) tt)
 
 -- ---- 1
 module _ (rows columns : ℕ) where
-  abbrev by_sizes : Bool → Bool → Bool → Bool → Bool
-  by_sizes s t u v = cond s (cond t (cond u v false) false) false
-
-  pub sized_1 : rows < 1 → false ≡ sized rows columns
-  sized_1 h = sym (ap (λ s. by_sizes s (leb rows 32) (leb 1 columns) (leb columns 32)) (lt-leb 1 rows h))
-
-  pub sized_2 : 1 ≤ rows → 32 < rows → false ≡ sized rows columns
-  sized_2 h i = sym (ap₂ (λ s t. by_sizes s t (leb 1 columns) (leb columns 32)) (le-leb 1 rows h) (lt-leb rows 32 i))
-
-  pub sized_3 : (u : Bool) → 1 ≤ rows → rows ≤ 32 → leb 1 columns ≡ u → cond u (leb columns 32) false ≡ sized rows columns
-  sized_3 u h i e =
-      sym (ap₂ (λ s t. by_sizes s t (leb 1 columns) (leb columns 32)) (le-leb 1 rows h) (le-leb rows 32 i) ∙ ap (λ s. cond s (leb columns 32) false) e)
-
-  pub size_by : (matrix : ℕ) (s : Bool) → sized rows columns ≡ s → unless s (of_matrix 1 matrix) ≡ check_size matrix rows columns
-  unfolding check_size
-  size_by matrix s e = ap (λ t. unless t (of_matrix 1 matrix)) (sym e)
-
   pub size_tells : (matrix : ℕ) → check_size matrix rows columns ≡ done → (1 ≤ rows) × (rows ≤ 32) × (1 ≤ columns) × (columns ≤ 32)
   unfolding check_size
   size_tells matrix e =
@@ -44,14 +24,6 @@ module _ (rows columns : ℕ) where
 
 -- ---- 2
 module _ (matrix cells lowers uppers : ℕ) where
-  pub lengths_1 : lowers < cells → refuses (of_matrix 2 matrix) ≡ check_lengths matrix cells lowers uppers
-  unfolding check_lengths
-  lengths_1 h = sym (ap (λ s. unless (cond s (leb cells uppers) false) (of_matrix 2 matrix)) (lt-leb cells lowers h))
-
-  pub lengths_2 : (u : Bool) → cells ≤ lowers → leb cells uppers ≡ u → unless u (of_matrix 2 matrix) ≡ check_lengths matrix cells lowers uppers
-  unfolding check_lengths
-  lengths_2 u h e = sym (ap₂ (λ s t. unless (cond s t false) (of_matrix 2 matrix)) (le-leb cells lowers h) e)
-
   pub lengths_tell : check_lengths matrix cells lowers uppers ≡ done → (cells ≤ lowers) × (cells ≤ uppers)
   unfolding check_lengths
   lengths_tell e =
@@ -78,7 +50,3 @@ fit_tells matrix rows columns lowers uppers e =
     let s = size_tells rows columns matrix t.0.1 in
     let l = lengths_tell matrix (rows * columns) lowers uppers t.1 in
     record { some_row = s.0; rows = s.1; some_column = s.2; columns = s.3; lowers = l.0; uppers = l.1 }
-
--- by the code's own answer z
-pub fit_said : (matrix r c l u : ℕ) (z : Outcome) → outcome z ≡ check_fit matrix r c l u → z ≡ Done → Fitting r c l u
-fit_said matrix r c l u z e f = fit_tells matrix r c l u (outcome_done z _ e f)

@@ -1,13 +1,12 @@
 -- The answer of a call: its values, or a refusal. Definitions only (01, "When a call is turned down").
-use Rattle.std.specs.Prelude.{Bool, true, false, cond, ℕ, eqb}
+use Rattle.std.specs.Prelude.{Bool, true, false, cond, ℕ, eqb, Result}
 use Rattle.refusals.specs.declared.Refusal.{Refusal}
-use Rattle.refusals.specs.declared.Outcome.{Outcome}
-use Rattle.refusals.specs.declared.Outcome.TheVariants.{Done, Refused}
 use Rattle.refusals.specs.Refusal.{of_matrix, named, code_of}
+pub use Rattle.std.specs.Prelude.{Ok as gives, Err as refuses}
 
-pub data Answer (A : Type 0) : Type 0 where
-  gives : A → Answer A
-  refuses : Refusal → Answer A
+-- the answer of a function of the code itself: its values, or a refusal
+abbrev pub Answer : Type 0 → Type 0
+Answer A = Result A Refusal
 
 -- the answer of a call that has no values to give
 abbrev pub done : Answer (Unit {0})
@@ -16,11 +15,6 @@ done = gives tt
 -- a refusal with zeros for matrix, row and column
 abbrev pub refuse : {A : Type 0} → ℕ → Answer A
 refuse n = refuses (of_matrix n 0)
-
--- the answer that an `Outcome` of the code stands for
-abbrev pub outcome : Outcome → Answer (Unit {0})
-outcome Done = done
-outcome (Refused r) = refuses r
 
 -- a check: done where the test holds, else the refusal r
 abbrev pub unless : Bool → Refusal → Answer (Unit {0})

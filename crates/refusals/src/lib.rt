@@ -3,7 +3,7 @@
 
 ghost use Rattle.std.specs.Prelude.{◌≡◌};
 ghost use Rattle.refusals.specs.Refusal.{of_matrix, of_cell, named, code_of};
-ghost use Rattle.refusals.specs.Answer.{outcome, then, coded};
+ghost use Rattle.refusals.specs.Answer.{coded};
 
 pub mod sizes;
 
@@ -17,21 +17,14 @@ pub struct Refusal {
     pub column: u8,
 }
 
-// The answer of a call that returns no value.
-#[derive(Clone, Copy)]
-pub enum Outcome {
-    Done,
-    Refused(Refusal),
-}
-
 impl Refusal {
     // A refusal that names no cell.
     pub fn of_matrix(number: u8, matrix: u8) -> Self
         ensures { result ≡ of_matrix number matrix }
     {
         Refusal {
-            number: number,
-            matrix: matrix,
+            number,
+            matrix,
             row: 0,
             column: 0,
         }
@@ -42,10 +35,10 @@ impl Refusal {
         ensures { result ≡ of_cell number matrix row column }
     {
         Refusal {
-            number: number,
-            matrix: matrix,
-            row: row,
-            column: column,
+            number,
+            matrix,
+            row,
+            column,
         }
     }
 
@@ -53,44 +46,26 @@ impl Refusal {
     pub fn named(self, matrix: u8) -> Refusal
         ensures { result ≡ named matrix self }
     {
-        Refusal {
-            number: self.number,
-            matrix: matrix,
-            row: self.row,
-            column: self.column,
-        }
+        Refusal { matrix, ..self }
     }
 
     // As one number: 1,000,000 × number + 10,000 × matrix + 100 × row + column.
     pub fn code(self) -> u32
         ensures { result ≡ code_of self }
     {
-        let number = self.number as u32;
-        let matrix = self.matrix as u32;
-        let row = self.row as u32;
-        let column = self.column as u32;
-        1_000_000 * number + 10_000 * matrix + 100 * row + column
+        1_000_000 * u32::from(self.number)
+            + 10_000 * u32::from(self.matrix)
+            + 100 * u32::from(self.row)
+            + u32::from(self.column)
     }
 }
 
-impl Outcome {
-    // This refusal, or else the next one: the first refusal of two checks.
-    pub fn then(self, next: Outcome) -> Outcome
-        ensures { outcome result ≡ then (outcome self) (outcome next) }
-    {
-        match self {
-            Outcome::Done => next,
-            Outcome::Refused(r) => Outcome::Refused(r),
-        }
-    }
-
-    // For a caller in C: 0, or the refusal's code.
-    pub fn code(self) -> u32
-        ensures { result ≡ coded (λ v. 0) (outcome self) }
-    {
-        match self {
-            Outcome::Done => 0,
-            Outcome::Refused(r) => r.code(),
-        }
+// For a caller in C: 0, or the refusal's code.
+pub fn code(answer: Result<(), Refusal>) -> u32
+    ensures { result ≡ coded (λ v. 0) answer }
+{
+    match answer {
+        Ok(()) => 0,
+        Err(r) => r.code(),
     }
 }

@@ -1,9 +1,8 @@
 // The checks of one matrix for refusals 1 and 2: sizes from 1 to 32, and slices with at least as many words as the matrix has cells.
 ghost use Rattle.std.specs.Prelude.{◌≡◌};
-ghost use Rattle.refusals.specs.Answer.{outcome};
 ghost use Rattle.refusals.specs.Sizes.{sized, check_size, check_lengths, check_fit};
 
-use crate::{Outcome, Refusal};
+use crate::Refusal;
 
 // The most rows or columns of a matrix.
 pub const LARGEST_SIZE: usize = 32;
@@ -15,47 +14,42 @@ pub const MOST_CELLS: usize = LARGEST_SIZE * LARGEST_SIZE;
 fn are_sizes(rows: usize, columns: usize) -> bool
     ensures { result ≡ sized rows columns }
 {
-    if rows < 1 {
-        return false;
-    }
-    if LARGEST_SIZE < rows {
-        return false;
-    }
-    if columns < 1 {
-        return false;
-    }
-    columns <= LARGEST_SIZE
+    1 <= rows && rows <= LARGEST_SIZE && 1 <= columns && columns <= LARGEST_SIZE
 }
 
 // Refusal 1 where a size is not from 1 to 32.
-pub fn check_size(matrix: u8, rows: usize, columns: usize) -> Outcome
-    ensures { outcome result ≡ check_size matrix rows columns }
+#[tactic(auto, unfolding(crate::specs::Sizes::check_size))]
+pub fn check_size(matrix: u8, rows: usize, columns: usize) -> Result<(), Refusal>
+    ensures { result ≡ check_size matrix rows columns }
 {
     if are_sizes(rows, columns) {
-        return Outcome::Done;
+        return Ok(());
     }
-    Outcome::Refused(Refusal::of_matrix(1, matrix))
+    Err(Refusal::of_matrix(1, matrix))
 }
 
 // Refusal 2 where a slice is shorter than the matrix has cells.
-pub fn check_lengths(matrix: u8, cells: usize, lowers: usize, uppers: usize) -> Outcome
-    ensures { outcome result ≡ check_lengths matrix cells lowers uppers }
+#[tactic(auto, unfolding(crate::specs::Sizes::check_lengths))]
+pub fn check_lengths(matrix: u8, cells: usize, lowers: usize, uppers: usize) -> Result<(), Refusal>
+    ensures { result ≡ check_lengths matrix cells lowers uppers }
 {
-    if lowers < cells {
-        return Outcome::Refused(Refusal::of_matrix(2, matrix));
+    if lowers < cells || uppers < cells {
+        return Err(Refusal::of_matrix(2, matrix));
     }
-    if uppers < cells {
-        return Outcome::Refused(Refusal::of_matrix(2, matrix));
-    }
-    Outcome::Done
+    Ok(())
 }
 
 // Refusal 1, then 2.
-pub fn check_fit(matrix: u8, rows: usize, columns: usize, lowers: usize, uppers: usize) -> Outcome
-    ensures { outcome result ≡ check_fit matrix rows columns lowers uppers }
+#[tactic(auto, using(crate::proofs::SizeLaws::size_tells, crate::proofs::SizeLaws::small), unfolding(crate::specs::Sizes::check_fit))]
+pub fn check_fit(
+    matrix: u8,
+    rows: usize,
+    columns: usize,
+    lowers: usize,
+    uppers: usize,
+) -> Result<(), Refusal>
+    ensures { result ≡ check_fit matrix rows columns lowers uppers }
 {
-    match check_size(matrix, rows, columns) {
-        Outcome::Done => check_lengths(matrix, rows * columns, lowers, uppers),
-        Outcome::Refused(r) => Outcome::Refused(r),
-    }
+    check_size(matrix, rows, columns)?;
+    check_lengths(matrix, rows * columns, lowers, uppers)
 }

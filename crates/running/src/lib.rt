@@ -3,16 +3,14 @@
 #![tactic(auto)]
 
 ghost use Rattle.std.specs.Prelude.{◌≡◌};
-ghost use Rattle.refusals.specs.Answer.{outcome, then, done};
-ghost use Rattle.intervals.specs.Conversion.{bounded};
-ghost use Rattle.running.specs.Value.{new_of, sums_of, take_of, exchange_of, show_of, or_same};
+ghost use Rattle.refusals.specs.Answer.{then, done};
+ghost use Rattle.running.specs.Value.{new_of, sums_of, take_of, exchange_of, show_of};
 ghost use Rattle.running.specs.History.{AnswersAfter, ShowsEntry};
 
 use cell::Gauged;
-use intervals::Bounded;
 use products::pair::add_pair;
+use refusals::Refusal;
 use refusals::sizes::LARGEST_SIZE;
-use refusals::{Outcome, Refusal};
 use sheets::{load, wear};
 
 pub mod cell;
@@ -34,18 +32,12 @@ pub struct Shown {
     pub pairs: u32,
 }
 
-// The answer of a call and the value after it, which is the same as before where the call was refused.
-#[derive(Clone, Copy)]
-pub struct Next {
-    pub outcome: Outcome,
-    pub value: Running,
-}
-
 // The most pairs that a value takes: the largest inner size of a product.
 const MOST_PAIRS: u32 = LARGEST_SIZE as u32;
 
 impl Running {
     // The value before the first pair: [0, 0], no pairs, and the fixed amounts.
+    #[tactic(auto, unfolding(crate::specs::Value::new_of))]
     pub fn new() -> Self
         ensures { result ≡ new_of }
     {
@@ -58,75 +50,49 @@ impl Running {
     }
 
     // The sums with a pair of cells added. Refused with 1 for a thirty-third pair, then by the first cell, by the second, and with 5 by the sums.
-    fn sums(self, a: Gauged, b: Gauged) -> Bounded
-        ensures { bounded result ≡ sums_of self a b }
+    #[tactic(auto, unfolding(crate::specs::Value::sums_of))]
+    fn sums(self, a: Gauged, b: Gauged) -> Result<(u32, u32), Refusal>
+        ensures { result ≡ sums_of self a b }
     {
         if self.pairs >= MOST_PAIRS {
-            return Bounded::Refused(1);
+            return Err(Refusal::of_matrix(1, 0));
         }
-        let amounts = self.amounts;
-        match a.widened(&amounts) {
-            Bounded::Refused(n) => Bounded::Refused(n),
-            Bounded::Bounds(al, au) => match b.widened(&amounts) {
-                Bounded::Refused(n) => Bounded::Refused(n),
-                Bounded::Bounds(bl, bu) => add_pair(self.lower, self.upper, al, au, bl, bu),
-            },
-        }
+        let (al, au) = a.widened(&self.amounts)?;
+        let (bl, bu) = b.widened(&self.amounts)?;
+        add_pair(self.lower, self.upper, al, au, bl, bu)
     }
 
-    // Takes a pair of cells.
-    pub fn take(self, a: Gauged, b: Gauged) -> Next
-        ensures answer { outcome result.outcome ≡ then (take_of self a b) done }
-        ensures value { result.value ≡ or_same (take_of self a b) self }
-        ensures history { AnswersAfter self a b (outcome result.outcome) }
+    // The value with a pair of cells taken. On a refusal the caller still has the value before.
+    #[tactic(auto, using(crate::proofs::Calls::sums_room), unfolding(crate::specs::Value::take_of))]
+    pub fn take(self, a: Gauged, b: Gauged) -> Result<Running, Refusal>
+        ensures answer { result ≡ take_of self a b }
+        ensures history { AnswersAfter self a b (then result done) }
     {
-        match self.sums(a, b) {
-            Bounded::Bounds(lower, upper) => {
-                let pairs = self.pairs + 1;
-                let amounts = self.amounts;
-                Next {
-                    outcome: Outcome::Done,
-                    value: Running {
-                        lower: lower,
-                        upper: upper,
-                        pairs: pairs,
-                        amounts: amounts,
-                    },
-                }
-            }
-            Bounded::Refused(n) => Next {
-                outcome: Outcome::Refused(Refusal::of_matrix(n, 0)),
-                value: self,
-            },
-        }
+        let (lower, upper) = self.sums(a, b)?;
+        Ok(Running {
+            lower,
+            upper,
+            pairs: self.pairs + 1,
+            ..self
+        })
     }
 
-    // Exchanges the amounts for those of a load, 32 bytes, for the pairs that follow. Refused with 6, 3 or 13.
-    pub fn exchange(self, bytes: &[u8]) -> Next
-        ensures answer { outcome result.outcome ≡ then (exchange_of self bytes.now) done }
-        ensures value { result.value ≡ or_same (exchange_of self bytes.now) self }
+    // The value with its amounts exchanged for those of a load, 32 bytes, for the pairs that follow. Refused with 6, 3 or 13.
+    #[tactic(auto, unfolding(crate::specs::Value::exchange_of))]
+    pub fn exchange(self, bytes: &[u8]) -> Result<Running, Refusal>
+        ensures { result ≡ exchange_of self bytes.now }
     {
         let loaded = load::read(bytes);
         if loaded.fault != 0 {
-            return Next {
-                outcome: Outcome::Refused(Refusal::of_matrix(loaded.fault, 0)),
-                value: self,
-            };
+            return Err(Refusal::of_matrix(loaded.fault, 0));
         }
         let amounts = loaded.amounts;
-        Next {
-            outcome: Outcome::Done,
-            value: Running {
-                lower: self.lower,
-                upper: self.upper,
-                pairs: self.pairs,
-                amounts: amounts,
-            },
-        }
+        Ok(Running { amounts, ..self })
     }
 
     // The range so far and the number of pairs taken. For a value carried on by these calls from its beginning the range is the entry by method 1 over
     // all pairs taken, each widened by the amounts in force when it was taken, and encloses whatever is picked from them.
+    #[tactic(auto, unfolding(crate::specs::Value::show_of))]
     pub fn show(self) -> Shown
         ensures shown { result ≡ show_of self }
         ensures history { ShowsEntry self result }

@@ -17,12 +17,12 @@ use Rattle.sheets.specs.Layout.{u16_at, u32_at, blank, record_of, whole, framed}
 use Rattle.sheets.specs.Amount.{below_zero, wear_fault, wear_amount, cell_amount}
 use Rattle.sheets.specs.Cell.{worn_fault, widened_of}
 use Rattle.sheets.specs.Chain.{judge_of, visit_of, walk, chain_of}
-use Rattle.sheets.specs.Reading.{read_of, cell_lower, cell_upper, put_in, matrix_of}
+use Rattle.sheets.specs.Reading.{sizes, read_of, cell_lower, cell_upper, put_in, matrix_of}
 use Rattle.sheets.specs.Sheet.{record_bytes, head_bytes}
 use Rattle.sheets.proofs.Worked.{cell_sheet}
 
 -- a head alone; and one of kind 2
-alone : read_of (head_bytes 0 32 32 1) 1024 1024 ≡ gives (32, 32)
+alone : read_of (head_bytes 0 32 32 1) 1024 1024 ≡ gives (sizes 32 32)
 unfolding u16_at all_from blank whole framed check_size check_lengths check_fit walk chain_of read_of record_bytes
 alone = refl
 

@@ -6,6 +6,7 @@ use Prim.Native.Nat.{ℕ, ◌*◌, ◌≤◌}
 use lib.Dec.{eqb}
 use Rattle.refusals.specs.Refusal.{of_matrix}
 use Rattle.refusals.specs.Answer.{Answer, refuse, unless, then}
+use Rattle.sheets.specs.declared.Sizes.{Sizes}
 use Rattle.sheets.specs.AllFrom.{all_from}
 use Rattle.sheets.specs.Layout.{blank, kind_of, whole, framed}
 use Rattle.sheets.specs.Sheet.{sheet_of}
@@ -25,7 +26,7 @@ module _ (s : List ℕ) where
       go true = refl
       go false = refl
 
-  pub before_refuses : kind_of s ≡ 1 → (next : Answer (ℕ × ℕ)) → read_before s next ≡ refuse 6
+  pub before_refuses : kind_of s ≡ 1 → (next : Answer Sizes) → read_before s next ≡ refuse 6
   unfolding read_before
   before_refuses e next = ap (λ t. then (unless t (of_matrix 6 0)) next) (amount_head e)
 
@@ -34,5 +35,5 @@ module _ (s : List ℕ) where
   before_same e = sym (head_by 0 e) ∙ rw e
 
 -- what was written
-pub before_written : (rows columns : ℕ) (lo up : List ℕ) → rows * columns ≤ 1024 → (next : Answer (ℕ × ℕ)) → read_before (sheet_of rows columns lo up) next ≡ refuse 6
+pub before_written : (rows columns : ℕ) (lo up : List ℕ) → rows * columns ≤ 1024 → (next : Answer Sizes) → read_before (sheet_of rows columns lo up) next ≡ refuse 6
 before_written rows columns lo up few next = before_refuses (sheet_of rows columns lo up) (kind_back rows columns lo up few) next

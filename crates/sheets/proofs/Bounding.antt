@@ -1,14 +1,15 @@
--- Laws of one cell's bounds: one for each way out of `canonical`, `is_zero` and `handed`, and what a cell that passes tells. Assumes nothing.
+-- Laws of one cell's bounds: the pattern of the same number, a cell that is handed in, and what a cell that passes tells. Assumes nothing.
 use mathlib.Core.Path.{◌≡◌, refl, sym, ap, ap₂, ◌∙◌}
 use mathlib.Core.Bool.{Bool, true, false, cond}
 use mathlib.Core.Option.{Option}
 use Prim.Native.Nat.{ℕ, zero, suc, ◌+◌, ◌%◌, ◌^◌, ◌<◌}
 use native.Mathlib.Omega.{arith}
 use native.Mathlib.Nat.{mod-eq_of_lt}
-use lib.Dec.{eqb, ltb}
+use lib.Dec.{ltb}
 use lib.Ieee.{size}
 use lib.IntN.{ℤ, pos, neg_ℤ}
-use borrow.Author.Tests.{lt-leb, le-leb, ltb-true, ltb-false, eq-eqb, ne_eqb}
+use borrow.Author.Tests.{lt-leb, le-leb, ltb-true, ltb-false, eq-eqb}
+use Rattle.std.specs.Prelude.{Some, None}
 use Rattle.rounding.specs.Format.{binary32, expo}
 use Rattle.rounding.specs.Pattern.{val, encode}
 use Rattle.rounding.proofs.Pattern.{val_lt}
@@ -20,7 +21,6 @@ use Rattle.binary32.specs.Operations.{answer_of, answer}
 use Rattle.binary32.proofs.Held.{finites_first, finites_second}
 use Rattle.intervals.specs.Conversion.{fault_of, outward_of}
 use Rattle.intervals.proofs.Faults.{fine_tells}
-use Rattle.sheets.specs.declared.cell.HandedIn.TheVariants as H
 use Rattle.sheets.specs.Cell.{canonical_of, both_zero, handed_of, worn_fault, widened_of}
 
 -- ---- the pattern of the same number
@@ -58,16 +58,8 @@ canonical_same p h n = go (ltb p (2 ^ 31)) refl
 
 -- ---- a cell that is handed in
 
-pub zero_by : (a b : ℕ) (s : Bool) → eqb a 0 ≡ s → cond s (eqb b 0) false ≡ both_zero a b
-unfolding both_zero
-zero_by a b s e = ap (λ t. cond t (eqb b 0) false) (sym e)
-
 module _ (a b n : ℕ) (e : n ≡ fault_of a b) where
-  pub handed_faulty : (n ≡ 0 → ⊥) → H.Faulty n ≡ handed_of a b
-  unfolding handed_of
-  handed_faulty h = rw (← e, ne_eqb n 0 h)
-
-  pub handed_fine : (p q : ℕ) (z : Bool) → n ≡ 0 → p ≡ canonical_of a → q ≡ canonical_of b → both_zero p q ≡ z → cond z H.Zero (H.Cell p q) ≡ handed_of a b
+  pub handed_fine : (p q : ℕ) (z : Bool) → n ≡ 0 → p ≡ canonical_of a → q ≡ canonical_of b → both_zero p q ≡ z → cond z (gives None) (gives (Some (p, q))) ≡ handed_of a b
   unfolding handed_of
   handed_fine p q z h f g k = rw (← e, eq-eqb n 0 h, ← f, ← g, k)
 

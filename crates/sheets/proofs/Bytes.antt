@@ -7,19 +7,9 @@ use native.Mathlib.Omega.{arith}
 use lib.Dec.{eqb}
 use lib.ListN.{get_or}
 use borrow.Author.Tests.{eq-eqb, ne_eqb, eqb-true, eqb-false}
-use Rattle.sheets.specs.declared.layout.Record.{Record}
 use Rattle.sheets.specs.AllFrom.{all_from}
-use Rattle.sheets.specs.Layout.{u16_at, u32_at, blank, record_of}
+use Rattle.sheets.specs.Layout.{u32_at, blank, record_of}
 use Rattle.sheets.proofs.AllFrom.{all_end, all_by}
-
-pub u16_is : (s : List ℕ) (p a b : ℕ) → a ≡ get_or s p 0 → b ≡ get_or s (p + 1) 0 → a + 256 * b ≡ u16_at s p
-unfolding u16_at
-u16_is s p a b e f = rw (e, f)
-
-pub u32_is : (s : List ℕ) (p a b c d : ℕ) → a ≡ get_or s p 0 → b ≡ get_or s (p + 1) 0 → c ≡ get_or s (p + 2) 0 → d ≡ get_or s (p + 3) 0
-    → a + 256 * b + 65536 * c + 16777216 * d ≡ u32_at s p
-unfolding u32_at
-u32_is s p a b c d e f g h = rw (e, f, g, h)
 
 pub blank_none : (s : List ℕ) (p n : ℕ) → n ≡ 0 → true ≡ blank s p n
 unfolding blank
@@ -32,12 +22,6 @@ blank_more s p n m e z = sym (all_by (λ i. eqb (get_or s i 0) 0) p n m true e (
 pub blank_not : (s : List ℕ) (p n m : ℕ) → n ≡ suc m → (get_or s p 0 ≡ 0 → ⊥) → false ≡ blank s p n
 unfolding blank
 blank_not s p n m e z = all_by (λ i. eqb (get_or s i 0) 0) p n m false e (ne_eqb (get_or s p 0) 0 z)
-
-pub record_is : (s : List ℕ) (i n r c l u w : ℕ) → n ≡ u16_at s (16 * i) → r ≡ get_or s (16 * i + 2) 0 → c ≡ get_or s (16 * i + 3) 0
-    → l ≡ u32_at s (16 * i + 4) → u ≡ u32_at s (16 * i + 8) → w ≡ u32_at s (16 * i + 12)
-    → ◌≡◌ {A = Record} (record { next = n; row = r; column = c; lower = l; upper = u; wear = w }) (record_of s i)
-unfolding record_of
-record_is s i n r c l u w e f g h j k = rw (e, f, g, h, j, k)
 
 -- ---- the wear of a class sheet's cell: byte 12 where bytes 13 to 15 are zero, else above 255
 

@@ -4,11 +4,10 @@ use mathlib.Core.Bool.{Bool, true, false, cond}
 use Prim.Native.Nat.{ℕ, ◌<◌}
 use lib.Dec.{eqb}
 use borrow.Author.Tests.{eqb-true, eqb-false}
-use Rattle.refusals.specs.Answer.{gives}
+use Rattle.std.specs.Prelude.{Some, None}
+use Rattle.refusals.specs.Answer.{gives, refuses, refuse}
 use Rattle.intervals.specs.Conversion.{fault_of}
-use Rattle.sheets.specs.declared.cell.HandedIn.{HandedIn}
-use Rattle.sheets.specs.declared.cell.HandedIn.TheVariants as H
-use Rattle.sheets.specs.Cell.{canonical_of, both_zero, handed_of, widened_of}
+use Rattle.sheets.specs.Cell.{HandedIn, canonical_of, both_zero, handed_of, widened_of}
 use Rattle.sheets.proofs.Bounding.{fine_finite}
 use Rattle.sheets.proofs.Exact.{zero_is, canonical_fits, widened_none}
 
@@ -21,9 +20,9 @@ pub record Back (a b x y : ℕ) : Type 0 where
 
 -- what it tells that a and b are handed in as h
 abbrev pub Tells : ℕ → ℕ → HandedIn → Type 0
-Tells a b H.Zero = (canonical_of a ≡ 0) × (canonical_of b ≡ 0)
-Tells a b (H.Cell x y) = Back a b x y
-Tells a b (H.Faulty n) = fault_of a b ≡ 0 → ⊥
+Tells a b (gives None) = (canonical_of a ≡ 0) × (canonical_of b ≡ 0)
+Tells a b (gives (Some (x, y))) = Back a b x y
+Tells a b (refuses n) = fault_of a b ≡ 0 → ⊥
 
 module _ (a b : ℕ) where
   back : fault_of a b ≡ 0 → Back a b (canonical_of a) (canonical_of b)
@@ -42,11 +41,11 @@ module _ (a b : ℕ) where
   handed_tells = go (eqb (fault_of a b) 0) (eqb (canonical_of a) 0) (eqb (canonical_of b) 0) refl refl refl
     where
       go : (s t u : Bool) → eqb (fault_of a b) 0 ≡ s → eqb (canonical_of a) 0 ≡ t → eqb (canonical_of b) 0 ≡ u
-          → Tells a b (cond s (cond (cond t u false) H.Zero (H.Cell (canonical_of a) (canonical_of b))) (H.Faulty (fault_of a b)))
+          → Tells a b (cond s (cond (cond t u false) (gives None) (gives (Some (canonical_of a, canonical_of b)))) (refuse (fault_of a b)))
       go true true true p q r = (eqb-true _ _ q, eqb-true _ _ r)
       go true true false p q r = back (eqb-true _ _ p)
       go true false u p q r = back (eqb-true _ _ p)
       go false t u p q r = eqb-false _ _ p
 
-  pub cell_back : (x y : ℕ) → handed_of a b ≡ H.Cell x y → Back a b x y
+  pub cell_back : (x y : ℕ) → handed_of a b ≡ gives (Some (x, y)) → Back a b x y
   cell_back x y e = subst (Tells a b) e handed_tells

@@ -6,8 +6,9 @@ use native.Mathlib.Omega.{arith}
 use lib.ListN.{length}
 use lib.Seq.{paste-zero}
 use borrow.Author.Tests.{lt-ltb, le-ltb}
-use Rattle.sheets.specs.declared.cell.HandedIn.{HandedIn}
-use Rattle.sheets.specs.declared.cell.HandedIn.TheVariants as H
+use Rattle.std.specs.Prelude.{Some, None}
+use Rattle.refusals.specs.Answer.{gives, refuses}
+use Rattle.sheets.specs.Cell.{HandedIn}
 use Rattle.sheets.specs.Sheet.{record_bytes, over, tally, next_of, cell_bytes}
 
 pub next_more : (total k : ℕ) → k < total → k + 1 ≡ next_of total k
@@ -24,13 +25,9 @@ record_length n r c l u = refl
 
 pub tally_le : (b : HandedIn) → tally b ≤ 1
 unfolding tally
-tally_le H.Zero = omega arith
-tally_le (H.Cell x y) = omega arith
-tally_le (H.Faulty n) = omega arith
-
-pub tally_cell : (b x : HandedIn) (p q : ℕ) → b ≡ x → b ≡ H.Cell p q → tally x ≡ 1
-unfolding tally
-tally_cell b x p q e f = rw (← e, f)
+tally_le (gives None) = omega arith
+tally_le (gives (Some (x, y))) = omega arith
+tally_le (refuses n) = omega arith
 
 -- where no record is put
 pub nothing : (k m : ℕ) (out : List ℕ) → (k ≡ k + 0) × (out ≡ over m [] out)
@@ -39,6 +36,6 @@ nothing k m out = (omega arith, paste-zero out m [])
 
 pub cell_length : (n r c : ℕ) (b : HandedIn) → length (cell_bytes n r c b) ≡ 16 * tally b
 unfolding tally cell_bytes
-cell_length n r c H.Zero = refl
-cell_length n r c (H.Cell x y) = record_length n r c x y
-cell_length n r c (H.Faulty x) = refl
+cell_length n r c (gives None) = refl
+cell_length n r c (gives (Some (x, y))) = record_length n r c x y
+cell_length n r c (refuses x) = refl

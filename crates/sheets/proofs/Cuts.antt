@@ -1,17 +1,13 @@
--- Laws of the cut between sheets: where it is, one for each way out, and what stands behind it. Assumes nothing.
+-- Laws of the cut between sheets: where it is, and what stands behind it. Assumes nothing.
 use mathlib.Core.Path.{◌≡◌}
 use mathlib.Core.List.{List}
-use Prim.Native.Nat.{ℕ, ◌-◌, ◌*◌, ◌≤◌, ◌<◌, min}
+use Prim.Native.Nat.{ℕ, ◌-◌, ◌*◌, ◌≤◌, min}
 use native.Mathlib.Omega.{arith}
 use lib.ListN.{length, take, drop, length-drop}
 use lib.Seq.{take_all}
-use borrow.Author.Tests.{lt-ltb, le-ltb}
+use borrow.Author.Tests.{le-ltb}
 use Rattle.sheets.specs.Layout.{count_of}
 use Rattle.sheets.specs.Cut.{first_length}
-
-pub length_short : (s : List ℕ) → length s < 6 → length s ≡ first_length s
-unfolding first_length
-length_short s h = rw (lt-ltb (length s) 6 h)
 
 pub length_long : (s : List ℕ) (n k : ℕ) → 6 ≤ length s → n ≡ count_of s → k ≡ min (16 * n) (length s) → k ≡ first_length s
 unfolding first_length

@@ -12,6 +12,7 @@ use Rattle.refusals.specs.Sizes.{check_size, check_lengths, check_fit}
 use Rattle.binary32.specs.Number.{value_of}
 use Rattle.binary32.specs.Operations.{answer}
 use Rattle.intervals.specs.Conversion.{fault_of}
+use Rattle.sheets.specs.declared.Sizes.{Sizes}
 use Rattle.sheets.specs.declared.chain.Cell.{Cell}
 use Rattle.sheets.specs.AllFrom.{all_from}
 use Rattle.sheets.specs.Layout.{u16_at, u32_at, blank, record_of, whole, framed}
@@ -20,7 +21,7 @@ use Rattle.sheets.specs.Load.{patterns_of, all_finite, rising, ascending, amount
 use Rattle.sheets.specs.Amount.{below_zero, wear_fault, wear_amount, cell_amount}
 use Rattle.sheets.specs.Cell.{worn_fault, widened_of}
 use Rattle.sheets.specs.Chain.{judge_of, visit_of, walk, chain_of}
-use Rattle.sheets.specs.Reading.{read_by, read_of, read_with, put_in, slice_by, slice_after, slice_with, lowers_with, uppers_with}
+use Rattle.sheets.specs.Reading.{sizes, read_by, read_of, read_with, put_in, slice_by, slice_after, slice_with, lowers_with, uppers_with}
 use Rattle.sheets.specs.Sheet.{record_bytes}
 use Rattle.sheets.proofs.Loads.{with_loaded}
 use Rattle.sheets.proofs.Worked.{word, cell_sheet}
@@ -46,7 +47,7 @@ unfolding load_of read_of
 fixed_read s l u =
     sym (with_loaded fixed (patterns_of fixed) (load_fault fixed) refl s l u fixed_passes) ∙ ap (λ (amounts : List ℕ). read_by amounts s l u) fixed_patterns
 
-pub fixed_slice : (b : Cell → ℕ) (s : List ℕ) (a : Answer (ℕ × ℕ)) (d : List ℕ) → slice_with b fixed s a d ≡ slice_after b s a d
+pub fixed_slice : (b : Cell → ℕ) (s : List ℕ) (a : Answer Sizes) (d : List ℕ) → slice_with b fixed s a d ≡ slice_after b s a d
 unfolding slice_with slice_after
 fixed_slice b s a d = ap (λ (amounts : List ℕ). slice_by amounts b s a d) fixed_patterns
 
@@ -79,11 +80,11 @@ own = load 0 0x3F000000 0x3F800000 0x3F800000 0x7F7FFFFF
 abbrev worn : ℕ → List ℕ
 worn class = cell_sheet 0 0x3F800000 0x3F800000 class
 
-worn_lower : lowers_with own (worn 1) (gives (1, 1)) (7 ∷ 8 ∷ []) ≡ 0x3F000000 ∷ 8 ∷ []
+worn_lower : lowers_with own (worn 1) (gives (sizes 1 1)) (7 ∷ 8 ∷ []) ≡ 0x3F000000 ∷ 8 ∷ []
 unfolding u16_at u32_at all_from blank record_of patterns_of fault_of wear_fault wear_amount cell_amount worn_fault widened_of judge_of visit_of walk chain_of put_in slice_with record_bytes value_of val encode expo size MAX ceil lo hi up down answer
 worn_lower = refl
 
-worn_upper : uppers_with own (worn 1) (gives (1, 1)) (7 ∷ 8 ∷ []) ≡ 0x3FC00000 ∷ 8 ∷ []
+worn_upper : uppers_with own (worn 1) (gives (sizes 1 1)) (7 ∷ 8 ∷ []) ≡ 0x3FC00000 ∷ 8 ∷ []
 unfolding u16_at u32_at all_from blank record_of patterns_of fault_of wear_fault wear_amount cell_amount worn_fault widened_of judge_of visit_of walk chain_of put_in slice_with record_bytes value_of val encode expo size MAX ceil lo hi up down answer
 worn_upper = refl
 
@@ -101,6 +102,6 @@ first_too : read_with (load 1 1 0x3F800000 0x3F800000 0x3F800000) (cell_sheet 1 
 unfolding u32_at patterns_of all_from all_finite ascending amounts_fault load_fault load_of read_with
 first_too = refl
 
-own_upper : uppers_with own (cell_sheet 1 0x3F800000 0x3F800000 0x3F000000) (gives (1, 1)) (7 ∷ []) ≡ 0x3FC00000 ∷ []
+own_upper : uppers_with own (cell_sheet 1 0x3F800000 0x3F800000 0x3F000000) (gives (sizes 1 1)) (7 ∷ []) ≡ 0x3FC00000 ∷ []
 unfolding u16_at u32_at record_of patterns_of fault_of below_zero wear_fault wear_amount cell_amount worn_fault widened_of judge_of visit_of walk chain_of put_in slice_with record_bytes value_of val encode expo size MAX ceil lo hi up down answer
 own_upper = refl

@@ -1,37 +1,21 @@
--- Laws of a load: its fault by its tests, its answer, and what a read with it tells. Assumes nothing.
+-- Laws of a load: the test of its first amount, the amounts that the code gives, and what a read with it tells. Assumes nothing.
 use mathlib.Core.Path.{◌≡◌, sym, ap, ◌∙◌}
 use mathlib.Core.Bool.{Bool, false, cond}
 use mathlib.Core.List.{List}
 use Prim.Native.Nat.{ℕ}
 use lib.Dec.{eqb}
-use lib.ListN.{length}
-use borrow.Author.Tests.{eq-eqb, ne_eqb}
 use Rattle.refusals.specs.Answer.{Answer, gives, refuse, passing, and_then}
 use Rattle.refusals.proofs.Answers.{gives_injective, next_tells, passing_on, passing_not, passing_tells}
 use Rattle.binary32.specs.Order.{magnitude_of}
 use Rattle.sheets.specs.Wear.{amount_in}
-use Rattle.sheets.specs.Load.{patterns_of, all_finite, rising, ascending, amounts_fault, load_fault, load_of}
-use Rattle.sheets.specs.Reading.{read_by, read_with}
+use Rattle.sheets.specs.Load.{patterns_of, rising, ascending, load_fault, load_of}
+use Rattle.sheets.specs.Reading.{sizes, read_by, read_with}
 use Rattle.sheets.proofs.Answers.{Accepted, accepted_by}
 
 -- by whether the first amount is zero
 pub ascending_by : (amounts : List ℕ) (t : Bool) → eqb (magnitude_of (amount_in amounts 0)) 0 ≡ t → cond t (rising amounts) false ≡ ascending amounts
 unfolding ascending
 ascending_by amounts t e = rw e
-
--- ---- the fault, and the answer
-
-pub fault_by : (amounts : List ℕ) (s t : Bool) → all_finite amounts ≡ s → ascending amounts ≡ t → cond s (cond t 0 13) 3 ≡ amounts_fault amounts
-unfolding amounts_fault
-fault_by amounts s t e f = rw (e, f)
-
-pub load_short : (d : List ℕ) → (length d ≡ 32 → ⊥) → refuse 6 ≡ load_of d
-unfolding load_fault load_of
-load_short d h = rw (ne_eqb (length d) 32 h)
-
-pub load_long : (d amounts : List ℕ) (n : ℕ) → length d ≡ 32 → amounts ≡ patterns_of d → n ≡ amounts_fault amounts → passing n (gives amounts) ≡ load_of d
-unfolding load_fault load_of
-load_long d amounts n h e f = rw (eq-eqb (length d) 32 h, f, e)
 
 -- ---- a load that the code answers with fault n and these amounts
 
@@ -49,9 +33,9 @@ module _ (d amounts : List ℕ) (n : ℕ) (e : passing n (gives amounts) ≡ loa
   loaded_is h = sym (gives_injective (passing_tells (load_fault d) _ amounts (sym e ∙ sym (passing_on n _ h))).1)
 
 -- what a read with a load tells that is not refused: the load has no fault, and the sheet is accepted
-pub with_tells : (d s : List ℕ) (l u r c : ℕ) → read_with d s l u ≡ gives (r, c) → (load_fault d ≡ 0) × Accepted (patterns_of d) s l u r c
+pub with_tells : (d s : List ℕ) (l u r c : ℕ) → read_with d s l u ≡ gives (sizes r c) → (load_fault d ≡ 0) × Accepted (patterns_of d) s l u r c
 unfolding read_with load_of
 with_tells d s l u r c e =
-    let a = next_tells (load_of d) (λ x. read_by x s l u) (r, c) e in
+    let a = next_tells (load_of d) (λ x. read_by x s l u) (sizes r c) e in
     let f = passing_tells (load_fault d) (gives (patterns_of d)) a.0 a.1 in
     (f.0, accepted_by (patterns_of d) s l u r c (ap (λ (x : List ℕ). read_by x s l u) (gives_injective f.1) ∙ a.2))

@@ -6,10 +6,10 @@ use native.Mathlib.Numerals.{add-one}
 use native.Mathlib.Omega.{arith}
 use lib.ListN.{length, get_or, set, take, drop, replicate, length-set}
 use lib.Seq.{drop-drop, get_or-drop, take-suc, take-suc-set, drop-set-lt, append_snoc, take_all}
-use Rattle.sheets.specs.declared.cell.HandedIn.{HandedIn}
-use Rattle.sheets.specs.declared.cell.HandedIn.TheVariants as H
+use Rattle.std.specs.Prelude.{Some, None}
+use Rattle.refusals.specs.Answer.{gives, refuses}
 use Rattle.sheets.specs.declared.chain.Cell.{Cell}
-use Rattle.sheets.specs.Cell.{canonical_of}
+use Rattle.sheets.specs.Cell.{HandedIn, canonical_of}
 use Rattle.sheets.specs.Reading.{put_in}
 use Rattle.sheets.specs.Sheet.{cell_at, count_to, next_of}
 use Rattle.sheets.specs.Trip.{canonicals}
@@ -17,9 +17,9 @@ use Rattle.sheets.proofs.WalkBack.{cons_by, cells_from}
 
 -- v is the bound of a cell that was written, as b takes it from a cell of the chain
 abbrev pub Holds : (Cell → ℕ) → ℕ → HandedIn → Type 0
-Holds b v H.Zero = v ≡ 0
-Holds b v (H.Cell x y) = (n p : ℕ) → b (record { next = n; position = p; lower = x; upper = y }) ≡ v
-Holds b v (H.Faulty n) = ⊥
+Holds b v (gives None) = v ≡ 0
+Holds b v (gives (Some (x, y))) = (n p : ℕ) → b (record { next = n; position = p; lower = x; upper = y }) ≡ v
+Holds b v (refuses n) = ⊥
 
 module _ (b : Cell → ℕ) (y p x v : ℕ) (l rest : List ℕ) (cs : List Cell) (n : length l ≡ p + suc y) (d : drop p l ≡ replicate (suc y) 0)
     (ih : (l' : List ℕ) → length l' ≡ p + 1 + y → drop (p + 1) l' ≡ replicate y 0 → put_in b l' cs ≡ take (p + 1) l' ++ rest) where
@@ -28,12 +28,12 @@ module _ (b : Cell → ℕ) (y p x v : ℕ) (l rest : List ℕ) (cs : List Cell)
 
   put_step : (e : HandedIn) → Holds b v e → put_in b l (cons_by x p e cs) ≡ take p l ++ v ∷ rest
   unfolding put_in
-  put_step H.Zero h =
+  put_step (gives None) h =
       let g : get_or l p 0 ≡ v = ap (λ (k : ℕ). get_or l k 0) (omega arith) ∙ sym (get_or-drop p l 0 0) ∙ ap (λ (k : List ℕ). get_or k 0 0) d ∙ sym h in
       let k : take (p + 1) l ≡ take p l ++ (v ∷ []) = rw (add-one p) (take-suc l p 0 (omega arith) ∙ rw g) in
       ih l (omega arith) after ∙ rw k (append_snoc (take p l) v rest)
-  put_step (H.Faulty n) h = absurd h
-  put_step (H.Cell s t) h =
+  put_step (refuses n) h = absurd h
+  put_step (gives (Some (s, t))) h =
       let w : ℕ = b (record { next = x; position = p; lower = s; upper = t }) in
       let k : take (p + 1) (set l p w) ≡ take p l ++ (w ∷ []) = rw (add-one p) (take-suc-set l p w (omega arith)) in
       ih (set l p w) (length-set l p w ∙ omega arith) (drop-set-lt (p + 1) l p w (omega arith) ∙ after)

@@ -6,12 +6,10 @@ use native.Mathlib.Omega.{arith}
 use lib.ListN.{length, take, drop, length-append}
 use lib.Seq.{take_at, drop_at, drop-drop}
 use Rattle.refusals.specs.declared.Refusal.{Refusal}
-use Rattle.refusals.specs.Answer.{gives}
-use Rattle.sheets.specs.declared.Written.{Written}
-use Rattle.sheets.specs.declared.Written.TheVariants.{Bytes, Refused}
+use Rattle.refusals.specs.Answer.{Answer, gives, refuses}
 use Rattle.sheets.specs.Sheet.{head_bytes, over, count_to, next_of, records_to, sheet_of}
-use Rattle.sheets.specs.Writing.{written, write_of, out_after, front_of}
-use Rattle.sheets.proofs.Rooms.{Granted, answered, granted}
+use Rattle.sheets.specs.Writing.{write_of, out_after, front_of}
+use Rattle.sheets.proofs.Rooms.{Granted, bytes_tell}
 use Rattle.sheets.proofs.CellBytes.{record_length}
 use Rattle.sheets.proofs.Counting.{records_length}
 
@@ -47,21 +45,21 @@ module _ (rows columns n : ℕ) (lo up d : List ℕ) (a : Granted rows columns l
 
 -- ---- the part that is handed back, where the code answers w
 
-module _ (rows columns : ℕ) (lo up d : List ℕ) (w : Written) (e : written w ≡ write_of rows columns lo up (length d)) where
-  pub part_refused : (r : Refusal) → w ≡ Refused r → [] ≡ front_of rows columns lo up (write_of rows columns lo up (length d))
+module _ (rows columns : ℕ) (lo up d : List ℕ) (w : Answer ℕ) (e : w ≡ write_of rows columns lo up (length d)) where
+  pub part_refused : (r : Refusal) → w ≡ refuses r → [] ≡ front_of rows columns lo up (write_of rows columns lo up (length d))
   unfolding front_of
-  part_refused r f = ap (front_of rows columns lo up) (answered rows columns lo up (length d) w e (Refused r) f)
+  part_refused r f = ap (front_of rows columns lo up) (sym f ∙ e)
 
-  module _ (n : ℕ) (f : w ≡ Bytes n) (out : List ℕ) (g : out ≡ out_after rows columns lo up (written w) d) where
+  module _ (n : ℕ) (f : w ≡ gives n) (out : List ℕ) (g : out ≡ out_after rows columns lo up w d) where
     a : Granted rows columns lo up (length d) n
-    a = granted rows columns lo up (length d) w e n f
+    a = bytes_tell rows columns lo up (length d) n (sym e ∙ f)
 
     sheet : take n out ≡ sheet_of rows columns lo up
-    sheet = part_is rows columns n lo up d a out (g ∙ ap (λ (v : Written). out_after rows columns lo up (written v) d) f)
+    sheet = part_is rows columns n lo up d a out (g ∙ ap (λ (v : Answer ℕ). out_after rows columns lo up v d) f)
 
     pub part_done : take n out ≡ front_of rows columns lo up (write_of rows columns lo up (length d))
     unfolding front_of
-    part_done = sheet ∙ ap (front_of rows columns lo up) (answered rows columns lo up (length d) w e (Bytes n) f)
+    part_done = sheet ∙ ap (front_of rows columns lo up) (sym f ∙ e)
 
     pub part_size : n ≡ length (take n out)
     part_size = part_length rows columns n lo up d a ∙ sym (ap length sheet)

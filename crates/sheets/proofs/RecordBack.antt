@@ -9,11 +9,12 @@ use lib.Dec.{ltb}
 use lib.ListN.{length, get_or, length-append}
 use lib.Seq.{get_or-append-add}
 use borrow.Author.Tests.{eq-eqb, ltb-true}
+use Rattle.std.specs.Prelude.{Some}
+use Rattle.refusals.specs.Answer.{gives}
 use Rattle.sheets.specs.declared.layout.Record.{Record}
-use Rattle.sheets.specs.declared.cell.HandedIn.{HandedIn}
-use Rattle.sheets.specs.declared.cell.HandedIn.TheVariants as H
 use Rattle.sheets.specs.AllFrom.{all_from}
 use Rattle.sheets.specs.Layout.{u16_at, u32_at, blank, record_of, count_of, first_of, rows_of, columns_of, kind_of}
+use Rattle.sheets.specs.Cell.{HandedIn}
 use Rattle.sheets.specs.Sheet.{record_bytes, head_bytes, cell_at, count_to, next_of, cell_bytes, records_to, sheet_of}
 use Rattle.sheets.proofs.CellBytes.{record_length}
 use Rattle.sheets.proofs.Counting.{count_le, records_length}
@@ -97,7 +98,7 @@ head_blank rows columns lo up h =
 
 module _ (rows columns : ℕ) (lo up : List ℕ) (few : rows * columns ≤ 1024) where
   -- the record of the cell at position p
-  pub record_at_position : (p x y : ℕ) → p < rows * columns → cell_at lo up p ≡ H.Cell x y
+  pub record_at_position : (p x y : ℕ) → p < rows * columns → cell_at lo up p ≡ gives (Some (x, y))
       → record_of (sheet_of rows columns lo up) (count_to lo up p + 1) ≡ fields_of (next_of (count_to lo up (rows * columns)) (count_to lo up p + 1)) (p / columns) (p % columns) x y
   unfolding sheet_of cell_bytes
   record_at_position p x y h e =

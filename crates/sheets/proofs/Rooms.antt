@@ -1,5 +1,5 @@
--- Laws of a write's answer: the answer by its checks, and what it tells. Assumes nothing.
-use mathlib.Core.Path.{◌≡◌, refl, sym, ap, ◌∙◌}
+-- Laws of a write's answer: what one that is not refused tells. Assumes nothing.
+use mathlib.Core.Path.{◌≡◌, refl}
 use mathlib.Core.Bool.{Bool, true, false, cond}
 use mathlib.Core.List.{List}
 use Prim.Native.Nat.{ℕ, ◌+◌, ◌*◌, ◌≤◌, ◌<◌}
@@ -7,38 +7,15 @@ use native.Mathlib.Omega.{arith}
 use lib.Dec.{ltb}
 use lib.ListN.{length, get_or}
 use borrow.Author.Tests.{ltb-false}
-use Rattle.refusals.specs.declared.Outcome.{Outcome}
-use Rattle.refusals.specs.declared.Outcome.TheVariants.{Done}
-use Rattle.refusals.specs.Answer.{Answer, gives, refuse, outcome, and_then, then}
+use Rattle.refusals.specs.Answer.{gives, refuse}
 use Rattle.refusals.specs.Sizes.{check_fit}
-use Rattle.refusals.proofs.Answers.{not_both, then_tells, said, next_tells}
+use Rattle.refusals.proofs.Answers.{not_both, then_tells, next_tells}
 use Rattle.refusals.proofs.SizeLaws.{small, Fitting, fit_tells}
 use Rattle.intervals.specs.Conversion.{fault_of}
-use Rattle.sheets.specs.declared.tally.Tallied.{Tallied}
-use Rattle.sheets.specs.declared.tally.Tallied.TheVariants.{Counted}
-use Rattle.sheets.specs.declared.Written.{Written}
-use Rattle.sheets.specs.declared.Written.TheVariants.{Bytes}
 use Rattle.sheets.specs.Sheet.{count_to}
-use Rattle.sheets.specs.Writing.{tallied, scan_to, written, by_room, write_of}
+use Rattle.sheets.specs.Writing.{scan_to, by_room, write_of}
 use Rattle.sheets.proofs.Counting.{count_le}
 use Rattle.sheets.proofs.Scanning.{scan_tells}
-
-module _ (rows columns : ℕ) (lo up : List ℕ) (room : ℕ) where
-  -- by the answer on 1 and 2, y
-  pub write_fit : (z y : Outcome) → outcome z ≡ check_fit 0 rows columns (length lo) (length up) → z ≡ y
-      → then (outcome y) (and_then (scan_to columns lo up (rows * columns)) (by_room room)) ≡ write_of rows columns lo up room
-  unfolding write_of
-  write_fit z y e f = rw (← e, f)
-
-  -- 1 and 2 have passed: by the answer on the cells, x
-  pub write_scanned : (z : Outcome) (t x : Tallied) → outcome z ≡ check_fit 0 rows columns (length lo) (length up) → z ≡ Done → tallied t ≡ scan_to columns lo up (rows * columns) → t ≡ x
-      → and_then (tallied x) (by_room room) ≡ write_of rows columns lo up room
-  write_scanned z t x e f g h = ap (λ (v : Answer ℕ). and_then v (by_room room)) (said tallied g h) ∙ write_fit z Done e f
-
-  -- 3 and 4 have passed: 11
-  pub write_room : (z : Outcome) (t : Tallied) (k : ℕ) (b : Bool) → outcome z ≡ check_fit 0 rows columns (length lo) (length up) → z ≡ Done
-      → tallied t ≡ scan_to columns lo up (rows * columns) → t ≡ Counted k → ltb room (16 * (k + 1)) ≡ b → cond b (refuse 11) (gives (16 * (k + 1))) ≡ write_of rows columns lo up room
-  write_room z t k b e f g h i = ap (λ v. cond v (refuse 11) (gives (16 * (k + 1)))) (sym i) ∙ write_scanned z t (Counted k) e f g h
 
 -- what a write that is not refused tells
 pub record Granted (rows columns : ℕ) (lo up : List ℕ) (room n : ℕ) : Type 0 where
@@ -78,11 +55,3 @@ pub length_small : (rows columns : ℕ) (lo up : List ℕ) (room n : ℕ) → wr
 length_small rows columns lo up room n e =
     let g = bytes_tell rows columns lo up room n e in
     omega (arith, g.bytes, g.few, g.counted)
-
--- where the code answers w
-module _ (rows columns : ℕ) (lo up : List ℕ) (room : ℕ) (w : Written) (e : written w ≡ write_of rows columns lo up room) where
-  pub answered : (v : Written) → w ≡ v → written v ≡ write_of rows columns lo up room
-  answered v f = said written e f
-
-  pub granted : (n : ℕ) → w ≡ Bytes n → Granted rows columns lo up room n
-  granted n f = bytes_tell rows columns lo up room n (sym (answered (Bytes n) f))

@@ -1,5 +1,5 @@
 -- Laws of the count of a matrix's cells, with 3 and 4 by cells: one for each way out of `scan`, and what a count tells. Assumes nothing.
-use mathlib.Core.Path.{◌≡◌, refl, ap, ◌∙◌}
+use mathlib.Core.Path.{◌≡◌, refl, sym, ap, ◌∙◌}
 use mathlib.Core.Bool.{Bool, true, false, cond}
 use mathlib.Core.List.{List}
 use mathlib.Core.Logic.{⊎_elim}
@@ -10,16 +10,20 @@ use native.Mathlib.Omega.{arith}
 use lib.Dec.{eqb}
 use lib.ListN.{get_or}
 use borrow.Author.Tests.{eqb-true}
+use Rattle.std.specs.Prelude.{Option, Some, None, is_some}
 use Rattle.refusals.specs.declared.Refusal.{Refusal}
-use Rattle.refusals.specs.Refusal.{of_cell}
-use Rattle.refusals.specs.Answer.{gives, refuses}
+use Rattle.refusals.specs.Refusal.{placed}
+use Rattle.refusals.specs.Answer.{gives, refuses, refuse}
 use Rattle.refusals.proofs.Answers.{not_both, next_tells}
 use Rattle.intervals.specs.Conversion.{fault_of}
-use Rattle.sheets.specs.declared.cell.HandedIn.{HandedIn}
-use Rattle.sheets.specs.declared.cell.HandedIn.TheVariants as H
-use Rattle.sheets.specs.Cell.{canonical_of, both_zero, handed_of}
+use Rattle.sheets.specs.Cell.{HandedIn, canonical_of, both_zero, handed_of}
 use Rattle.sheets.specs.Sheet.{cell_at, tally, count_to}
 use Rattle.sheets.specs.Writing.{unless_faulty, scan_to}
+
+tally_is : (x : Option (ℕ × ℕ)) (t : Bool) → t ≡ is_some x → tally (gives x) ≡ cond t 1 0
+unfolding tally
+tally_is None t h = rw h
+tally_is (Some (a, b)) t h = rw h
 
 module _ (columns : ℕ) (lo up : List ℕ) where
   pub scan_none : scan_to columns lo up 0 ≡ gives 0
@@ -31,21 +35,26 @@ module _ (columns : ℕ) (lo up : List ℕ) where
   unfolding scan_to
   scan_more p k b e f = rw (add-one, e, f)
 
+  -- a cell without a fault, of which the code asks whether it gets a record
+  pub scan_counted : (p k : ℕ) (z : HandedIn) (x : Option (ℕ × ℕ)) (t : Bool) → scan_to columns lo up p ≡ gives k → z ≡ cell_at lo up p → z ≡ gives x → t ≡ is_some x
+      → scan_to columns lo up (p + 1) ≡ gives (k + cond t 1 0)
+  scan_counted p k z x t e f g h = scan_more p k (gives x) e (sym f ∙ g) ∙ ap (λ (n : ℕ). gives (k + n)) (tally_is x t h)
+
   stays : (p y : ℕ) (r : Refusal) → scan_to columns lo up p ≡ refuses r → scan_to columns lo up (p + y) ≡ refuses r
   unfolding scan_to
   stays p zero r e = simp add-zero e
   stays p (suc y) r e = rw (add-suc, stays p y r e)
 
-  pub scan_faulty : (p m k n : ℕ) → p < m → scan_to columns lo up p ≡ gives k → cell_at lo up p ≡ H.Faulty n → scan_to columns lo up m ≡ refuses (of_cell n 0 (p / columns) (p % columns))
-  scan_faulty p m k n h e f =
+  pub scan_faulty : (p m k : ℕ) (x : Refusal) → p < m → scan_to columns lo up p ≡ gives k → cell_at lo up p ≡ refuses x → scan_to columns lo up m ≡ refuses (placed (p / columns) (p % columns) x)
+  scan_faulty p m k x h e f =
       let y : p + 1 + (m - (p + 1)) ≡ m = omega arith in
-      rw (← y) (stays (p + 1) (m - (p + 1)) _ (scan_more p k (H.Faulty n) e f))
+      rw (← y) (stays (p + 1) (m - (p + 1)) _ (scan_more p k (refuses x) e f))
 
   cell_fine : (p k m a b : ℕ) → unless_faulty columns p (handed_of a b) (gives m) ≡ gives k → (k ≡ m) × (fault_of a b ≡ 0)
   unfolding handed_of
   cell_fine p k m a b e = go (eqb (fault_of a b) 0) (both_zero (canonical_of a) (canonical_of b)) refl e
     where
-      go : (s t : Bool) → eqb (fault_of a b) 0 ≡ s → unless_faulty columns p (cond s (cond t H.Zero (H.Cell (canonical_of a) (canonical_of b))) (H.Faulty (fault_of a b))) (gives m) ≡ gives k
+      go : (s t : Bool) → eqb (fault_of a b) 0 ≡ s → unless_faulty columns p (cond s (cond t (gives None) (gives (Some (canonical_of a, canonical_of b)))) (refuse (fault_of a b))) (gives m) ≡ gives k
           → (k ≡ m) × (fault_of a b ≡ 0)
       go true true i h = (cc, eqb-true _ _ i)
       go true false i h = (cc, eqb-true _ _ i)

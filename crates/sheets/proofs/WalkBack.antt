@@ -8,19 +8,17 @@ use native.Mathlib.Numerals.{add-one}
 use native.Mathlib.Omega.{arith}
 use lib.ListN.{length, get_or}
 use borrow.Author.Tests.{le-leb, eq-eqb}
-use Rattle.refusals.specs.declared.Outcome.TheVariants.{Done}
-use Rattle.refusals.specs.Answer.{Answer, gives, done, then}
-use Rattle.refusals.specs.Sizes.{sized, check_fit}
-use Rattle.refusals.proofs.Answers.{then_gives}
-use Rattle.refusals.proofs.SizeLaws.{Fitting, sized_3, size_by, lengths_2}
+use Rattle.std.specs.Prelude.{Some, None}
+use Rattle.refusals.specs.Answer.{Answer, gives, done, then, refuses}
+use Rattle.refusals.specs.Sizes.{check_size, check_lengths, check_fit}
+use Rattle.refusals.proofs.SizeLaws.{Fitting}
 use Rattle.sheets.specs.declared.layout.Record.{Record}
-use Rattle.sheets.specs.declared.cell.HandedIn.{HandedIn}
-use Rattle.sheets.specs.declared.cell.HandedIn.TheVariants as H
 use Rattle.sheets.specs.declared.chain.Cell.{Cell}
 use Rattle.sheets.specs.Layout.{framed, count_of}
 use Rattle.sheets.specs.Amount.{cell_amount}
 use Rattle.sheets.specs.Chain.{judge_of, visit_of, Walk, more, walk, chain_of}
-use Rattle.sheets.specs.Reading.{read_by}
+use Rattle.sheets.specs.Reading.{sizes, read_by}
+use Rattle.sheets.specs.Cell.{HandedIn}
 use Rattle.sheets.specs.Sheet.{cell_at, tally, count_to, next_of, sheet_of}
 use Rattle.sheets.proofs.Frames.{framed_by}
 use Rattle.sheets.proofs.CellAmounts.{plain_amount}
@@ -35,9 +33,9 @@ use Rattle.sheets.proofs.RecordBack.{fields_of, head_blank, record_at_position, 
 
 -- the y cells from position p on that are not [0, 0]
 abbrev pub cons_by : ℕ → ℕ → HandedIn → List Cell → List Cell
-cons_by x p H.Zero cs = cs
-cons_by x p (H.Cell a b) cs = record { next = x; position = p; lower = a; upper = b } ∷ cs
-cons_by x p (H.Faulty n) cs = cs
+cons_by x p (gives None) cs = cs
+cons_by x p (gives (Some (a, b))) cs = record { next = x; position = p; lower = a; upper = b } ∷ cs
+cons_by x p (refuses n) cs = cs
 
 unfoldable pub cells_from : ℕ → List ℕ → List ℕ → ℕ → ℕ → List Cell
 cells_from total lo up zero p = []
@@ -61,16 +59,16 @@ module _ (amounts : List ℕ) (rows columns : ℕ) (lo up : List ℕ) (z : Fitti
       → walk rule (sheet_of rows columns lo up) rows columns t (next_of (count_to lo up (rows * columns)) (count_to lo up p)) l
       ≡ passed (cons_by (next_of (count_to lo up (rows * columns)) (count_to lo up p + 1)) p b (cells_from (count_to lo up (rows * columns)) lo up y (p + 1)))
   unfolding tally
-  walk_step y p l t H.Zero e g h k ih =
-      let c : count_to lo up (p + 1) ≡ count_to lo up p = count_at lo up p H.Zero e ∙ add-zero (count_to lo up p) in
+  walk_step y p l t (gives None) e g h k ih =
+      let c : count_to lo up (p + 1) ≡ count_to lo up p = count_at lo up p (gives None) e ∙ add-zero (count_to lo up p) in
       rw c at (ih l t (omega arith) k)
-  walk_step y p l t (H.Faulty n) e g h k ih =
-      let c : count_to lo up (p + 1) ≡ count_to lo up p = count_at lo up p (H.Faulty n) e ∙ add-zero (count_to lo up p) in
+  walk_step y p l t (refuses n) e g h k ih =
+      let c : count_to lo up (p + 1) ≡ count_to lo up p = count_at lo up p (refuses n) e ∙ add-zero (count_to lo up p) in
       rw c at (ih l t (omega arith) k)
-  walk_step y p l t (H.Cell x w) e g h k ih =
+  walk_step y p l t (gives (Some (x, w))) e g h k ih =
       let s : List ℕ = sheet_of rows columns lo up in
       let total : ℕ = count_to lo up (rows * columns) in
-      let c : count_to lo up (p + 1) ≡ count_to lo up p + 1 = count_at lo up p (H.Cell x w) e in
+      let c : count_to lo up (p + 1) ≡ count_to lo up p + 1 = count_at lo up p (gives (Some (x, w))) e in
       let m : count_to lo up p + tally (cell_at lo up p) ≤ total = count_room lo up p (rows * columns) g in
       let m1 : count_to lo up p + 1 ≤ total = rw e at m in
       let i0 : next_of total (count_to lo up p) ≡ count_to lo up p + 1 = sym (next_more total (count_to lo up p) (omega arith)) in
@@ -113,13 +111,12 @@ module _ (amounts : List ℕ) (rows columns : ℕ) (lo up : List ℕ) (z : Fitti
       (walk_back (rows * columns) 0 0 (rows * columns + 1) (omega arith) (omega arith) (omega arith))
 
   fits : (l u : ℕ) → rows * columns ≤ l → rows * columns ≤ u → done ≡ check_fit 0 rows columns l u
-  unfolding check_fit
+  unfolding check_size check_lengths check_fit
   fits l u hl hu =
-      let s : sized rows columns ≡ true = sym (sized_3 rows columns true z.some_row z.rows (le-leb 1 columns z.some_column)) ∙ le-leb columns 32 z.columns in
-      then_gives _ _ _ _ (sym (size_by rows columns 0 true s)) (lengths_2 0 (rows * columns) l u true hl (le-leb (rows * columns) u hu))
+      rw (le-leb 1 rows z.some_row, le-leb rows 32 z.rows, le-leb 1 columns z.some_column, le-leb columns 32 z.columns, le-leb (rows * columns) l hl, le-leb (rows * columns) u hu)
 
   -- reading what was written is not refused, with slices that are long enough
-  pub read_back : (l u : ℕ) → rows * columns ≤ l → rows * columns ≤ u → read_by amounts (sheet_of rows columns lo up) l u ≡ gives (rows, columns)
+  pub read_back : (l u : ℕ) → rows * columns ≤ l → rows * columns ≤ u → read_by amounts (sheet_of rows columns lo up) l u ≡ gives (sizes rows columns)
   read_back l u hl hu =
-      sym (read_fit amounts (sheet_of rows columns lo up) l u rows columns Done Done framed_back (sym (rows_back rows columns lo up few)) (sym (columns_back rows columns lo up few)) (fits l u hl hu) refl)
-      ∙ ap (λ (w : Walk). then w.verdict (gives (rows, columns))) chain_back
+      sym (read_fit amounts (sheet_of rows columns lo up) l u rows columns done framed_back (sym (rows_back rows columns lo up few)) (sym (columns_back rows columns lo up few)) (fits l u hl hu))
+      ∙ ap (λ (w : Walk). then w.verdict (gives (sizes rows columns))) chain_back

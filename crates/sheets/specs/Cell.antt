@@ -1,10 +1,8 @@
 -- The two bounds of one cell. Definitions only (01, "The coupling sheet" and "When a call is turned down"; 02, P6).
-use Rattle.std.specs.Prelude.{Bool, false, cond, ℕ, eqb}
-use Rattle.refusals.specs.Answer.{Answer, passing}
+use Rattle.std.specs.Prelude.{Bool, false, cond, ℕ, eqb, Option, Some, None}
+use Rattle.refusals.specs.Answer.{Answer, gives, passing}
 use Rattle.binary32.specs.Number.{value_of, finite, pattern_of}
 use Rattle.intervals.specs.Conversion.{fault_of, outward_of}
-use Rattle.sheets.specs.declared.cell.HandedIn.{HandedIn}
-use Rattle.sheets.specs.declared.cell.HandedIn.TheVariants as H
 
 -- the pattern of the value of p: p itself, or 0 for minus zero
 unfoldable pub canonical_of : ℕ → ℕ
@@ -14,9 +12,13 @@ canonical_of p = pattern_of (value_of p)
 unfoldable pub both_zero : ℕ → ℕ → Bool
 both_zero a b = cond (eqb a 0) (eqb b 0) false
 
--- a cell to be written: faulty by 3, else by 4; else [0, 0], with zeros of either sign; else its bounds
+-- what becomes of a cell to be written: no record, a record with these bounds, or its refusal
+abbrev pub HandedIn : Type 0
+HandedIn = Answer (Option (ℕ × ℕ))
+
+-- a cell to be written: refused with 3, else with 4; else [0, 0], with zeros of either sign; else its bounds
 unfoldable pub handed_of : ℕ → ℕ → HandedIn
-handed_of a b = cond (eqb (fault_of a b) 0) (cond (both_zero (canonical_of a) (canonical_of b)) H.Zero (H.Cell (canonical_of a) (canonical_of b))) (H.Faulty (fault_of a b))
+handed_of a b = passing (fault_of a b) (cond (both_zero (canonical_of a) (canonical_of b)) (gives None) (gives (Some (canonical_of a, canonical_of b))))
 
 -- the fault of a cell that is read with the amount w: 3, one of the three has exponent field 255; else 4, the lower bound is above the upper; else 0
 unfoldable pub worn_fault : ℕ → ℕ → ℕ → ℕ

@@ -5,8 +5,6 @@ use Rattle.refusals.specs.Refusal.{placed}
 use Rattle.refusals.specs.Answer.{Answer, gives, refuses, done, refuse, and_then}
 use Rattle.sheets.specs.declared.layout.Record.{Record}
 use Rattle.sheets.specs.declared.chain.Cell.{Cell}
-use Rattle.sheets.specs.declared.chain.Step.{Step}
-use Rattle.sheets.specs.declared.chain.Step.TheVariants as S
 use Rattle.sheets.specs.Layout.{record_of, first_of, rows_of, columns_of, count_of, kind_of}
 use Rattle.sheets.specs.Amount.{cell_amount}
 use Rattle.sheets.specs.Cell.{widened_of}
@@ -16,11 +14,6 @@ use Rattle.sheets.specs.Cell.{widened_of}
 -- the position of a cell by rows: row × columns + column
 abbrev pub position_of : ℕ → Record → ℕ
 position_of columns r = r.row * columns + r.column
-
--- the answer that a `Step` of the code stands for
-abbrev pub stepped : Step → Answer Cell
-stepped (S.Cell c) = gives c
-stepped (S.Refused r) = refuses r
 
 -- the cell of a record with its widened bounds, or their refusal (3, 4 or 5) with row and column
 abbrev pub cell_from : ℕ → Record → Answer (ℕ × ℕ) → Answer Cell

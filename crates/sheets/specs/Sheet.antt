@@ -1,8 +1,7 @@
 -- The bytes of the sheet that is written for a matrix. Definitions only (01, "The coupling sheet"; 02, P6).
-use Rattle.std.specs.Prelude.{cond, List, [], ◌∷◌, ◌++◌, ℕ, zero, suc, ◌+◌, ◌*◌, ◌/◌, ◌%◌, ltb, length, get_or, take, drop}
-use Rattle.sheets.specs.declared.cell.HandedIn.{HandedIn}
-use Rattle.sheets.specs.declared.cell.HandedIn.TheVariants as H
-use Rattle.sheets.specs.Cell.{handed_of}
+use Rattle.std.specs.Prelude.{cond, List, [], ◌∷◌, ◌++◌, ℕ, zero, suc, ◌+◌, ◌*◌, ◌/◌, ◌%◌, ltb, length, get_or, take, drop, Some, None}
+use Rattle.refusals.specs.Answer.{gives, refuses}
+use Rattle.sheets.specs.Cell.{HandedIn, handed_of}
 
 -- ---- bytes
 
@@ -30,9 +29,9 @@ cell_at lo up p = handed_of (get_or lo p 0) (get_or up p 0)
 
 -- how many records a cell gets: 0 or 1
 unfoldable pub tally : HandedIn → ℕ
-tally H.Zero = 0
-tally (H.Cell a b) = 1
-tally (H.Faulty n) = 0
+tally (gives None) = 0
+tally (gives (Some (a, b))) = 1
+tally (refuses n) = 0
 
 -- how many records the first p cells get
 unfoldable pub count_to : List ℕ → List ℕ → ℕ → ℕ
@@ -45,9 +44,9 @@ next_of total k = cond (ltb k total) (k + 1) 0
 
 -- the record of a cell, or no bytes for [0, 0]
 unfoldable pub cell_bytes : ℕ → ℕ → ℕ → HandedIn → List ℕ
-cell_bytes n r c H.Zero = []
-cell_bytes n r c (H.Cell a b) = record_bytes n r c a b
-cell_bytes n r c (H.Faulty x) = []
+cell_bytes n r c (gives None) = []
+cell_bytes n r c (gives (Some (a, b))) = record_bytes n r c a b
+cell_bytes n r c (refuses x) = []
 
 -- the records of the first p cells
 unfoldable pub records_to : ℕ → ℕ → List ℕ → List ℕ → ℕ → List ℕ

@@ -1,28 +1,17 @@
 -- The answer of a write, and the buffer afterwards. Definitions only (01, "The coupling sheet" and "When a call is turned down").
 use Rattle.std.specs.Prelude.{cond, List, [], ◌++◌, ℕ, zero, suc, ◌+◌, ◌*◌, ◌/◌, ◌%◌, ltb, length, drop}
-use Rattle.refusals.specs.Refusal.{of_cell}
+use Rattle.refusals.specs.Refusal.{placed}
 use Rattle.refusals.specs.Answer.{Answer, gives, refuses, refuse, and_then, then}
 use Rattle.refusals.specs.Sizes.{check_fit}
-use Rattle.sheets.specs.declared.cell.HandedIn.{HandedIn}
-use Rattle.sheets.specs.declared.cell.HandedIn.TheVariants as H
-use Rattle.sheets.specs.declared.tally.Tallied.{Tallied}
-use Rattle.sheets.specs.declared.tally.Tallied.TheVariants as T
-use Rattle.sheets.specs.declared.Written.{Written}
-use Rattle.sheets.specs.declared.Written.TheVariants as W
+use Rattle.sheets.specs.Cell.{HandedIn}
 use Rattle.sheets.specs.Sheet.{cell_at, tally, sheet_of}
 
 -- ---- the cells that are not [0, 0], counted
 
--- the answer that a `Tallied` of the code stands for
-abbrev pub tallied : Tallied → Answer ℕ
-tallied (T.Counted k) = gives k
-tallied (T.Refused r) = refuses r
-
 -- refusal 3 or 4 for the cell at position p; or else the next answer
 abbrev pub unless_faulty : ℕ → ℕ → HandedIn → Answer ℕ → Answer ℕ
-unless_faulty columns p H.Zero next = next
-unless_faulty columns p (H.Cell a b) next = next
-unless_faulty columns p (H.Faulty n) next = refuses (of_cell n 0 (p / columns) (p % columns))
+unless_faulty columns p (gives c) next = next
+unless_faulty columns p (refuses x) next = refuses (placed (p / columns) (p % columns) x)
 
 -- refusal 3 or 4 for the first faulty one of the first p cells; or else the number of their records
 unfoldable pub scan_to : ℕ → List ℕ → List ℕ → ℕ → Answer ℕ
@@ -30,11 +19,6 @@ scan_to columns lo up zero = gives 0
 scan_to columns lo up (suc p) = and_then (scan_to columns lo up p) (λ k. unless_faulty columns p (cell_at lo up p) (gives (k + tally (cell_at lo up p))))
 
 -- ---- the answer: the length of the sheet, or the refusal
-
--- the answer that a `Written` of the code stands for
-abbrev pub written : Written → Answer ℕ
-written (W.Bytes n) = gives n
-written (W.Refused r) = refuses r
 
 -- refusal 11: the buffer of `room` bytes is shorter than a head and k records
 abbrev pub by_room : ℕ → ℕ → Answer ℕ

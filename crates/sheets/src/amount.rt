@@ -5,6 +5,7 @@ ghost use Rattle.sheets.specs.Amount.{below_zero, wear_fault, wear_amount};
 use binary32::finite::is_finite;
 
 // Whether p is a number below zero.
+#[tactic(auto, using(crate::proofs::CellAmounts::not_below, crate::proofs::CellAmounts::below))]
 fn is_below_zero(p: u32) -> bool
     ensures { result ≡ below_zero p }
 {
@@ -16,6 +17,7 @@ fn is_below_zero(p: u32) -> bool
 
 // The fault of a cell's wear, or 0: in a class sheet 6, one of bytes 13 to 15 is not zero, and 10, the class is above 7; in an amount sheet 14, the
 // amount is below zero.
+#[tactic(auto, unfolding(crate::specs::Amount::wear_fault))]
 pub fn wear_fault(kind: usize, wear: u32) -> u8
     ensures { result ≡ wear_fault kind wear }
 {
@@ -29,6 +31,7 @@ pub fn wear_fault(kind: usize, wear: u32) -> u8
 }
 
 // The amount of a wear without fault: that of its class, or itself.
+#[tactic(auto, using(crate::proofs::CellAmounts::class_tells), unfolding(crate::specs::Amount::wear_amount))]
 pub fn wear_amount(kind: usize, amounts: &[u32; 8], wear: u32) -> u32
     requires { wear_fault kind wear ≡ 0 }
     ensures { result ≡ wear_amount kind amounts.now wear }

@@ -1,20 +1,14 @@
 // The two bounds of one cell: checked before they are written; and when they are read, moved outward by a wear amount once they passed all checks (worn.rt).
 ghost use Rattle.std.specs.Prelude.{◌≡◌};
 ghost use Rattle.binary32.specs.Number.{Finite};
-ghost use Rattle.intervals.specs.Conversion.{fault_of, bounded, outward_of};
+ghost use Rattle.intervals.specs.Conversion.{fault_of, outward_of};
 ghost use Rattle.sheets.specs.Cell.{canonical_of, both_zero, handed_of};
 
-use intervals::{Bounded, check, outward};
-
-// A cell to be written: [0, 0], which gets no record; its bounds, with minus zero replaced by 0; or the number of its fault, 3 or 4.
-#[derive(Clone, Copy)]
-pub enum HandedIn {
-    Zero,
-    Cell(u32, u32),
-    Faulty(u8),
-}
+use intervals::{check, outward};
+use refusals::Refusal;
 
 // The pattern p, or 0 for minus zero.
+#[tactic(auto, using(crate::proofs::Bounding::canonical_minus_zero, crate::proofs::Bounding::canonical_same))]
 fn canonical(p: u32) -> u32
     requires { Finite p }
     ensures { result ≡ canonical_of p }
@@ -23,6 +17,7 @@ fn canonical(p: u32) -> u32
 }
 
 // Whether both patterns are 0.
+#[tactic(auto, unfolding(crate::specs::Cell::both_zero))]
 fn is_zero(a: u32, b: u32) -> bool
     ensures { result ≡ both_zero a b }
 {
@@ -32,29 +27,31 @@ fn is_zero(a: u32, b: u32) -> bool
     b == 0
 }
 
-// Checks a cell that is to be written.
-pub fn handed(lower: u32, upper: u32) -> HandedIn
+// Checks a cell that is to be written: None for [0, 0], which gets no record; else its bounds, with minus zero replaced by 0; or refusal 3 or 4.
+#[tactic(auto, using(crate::proofs::Bounding::handed_fine, crate::proofs::Bounding::fine_finite, binary32::proofs::Held::finite_is), unfolding(crate::specs::Cell::handed_of))]
+pub fn handed(lower: u32, upper: u32) -> Result<Option<(u32, u32)>, Refusal>
     ensures { result ≡ handed_of lower upper }
 {
     let fault = check(lower, upper);
     if fault != 0 {
-        return HandedIn::Faulty(fault);
+        return Err(Refusal::of_matrix(fault, 0));
     }
     let a = canonical(lower);
     let b = canonical(upper);
     if is_zero(a, b) {
-        return HandedIn::Zero;
+        return Ok(None);
     }
-    HandedIn::Cell(a, b)
+    Ok(Some((a, b)))
 }
 
 // A cell without fault, its bounds moved outward by an amount. 0 leaves their values as they are.
-pub fn widen(lower: u32, upper: u32, amount: u32) -> Bounded
+#[tactic(auto, using(crate::proofs::Bounding::fine_finite, crate::proofs::Exact::outward_none, crate::proofs::Exact::zero_is, binary32::proofs::Held::finite_is))]
+pub fn widen(lower: u32, upper: u32, amount: u32) -> Result<(u32, u32), Refusal>
     requires { fault_of lower upper ≡ 0 }
-    ensures { bounded result ≡ outward_of lower upper amount }
+    ensures { result ≡ outward_of lower upper amount }
 {
     if amount == 0 {
-        return Bounded::Bounds(canonical(lower), canonical(upper));
+        return Ok((canonical(lower), canonical(upper)));
     }
     outward(lower, upper, amount)
 }

@@ -1,7 +1,7 @@
 // Follows the chain of a sheet's cells and checks each record: 7, 8, then 6 and 10 in a class sheet or 14 in an amount sheet, then 3, 4, 5. `kind` is that
 // of the sheet, and `amounts` are the eight wear amounts that the read is held against. Writes nothing.
 ghost use Rattle.std.specs.Prelude.{◌≡◌, ◌+◌, ◌*◌, ◌≤◌, length};
-ghost use Rattle.refusals.specs.Answer.{done, outcome, then};
+ghost use Rattle.refusals.specs.Answer.{done, then};
 ghost use Rattle.sheets.specs.Layout.{count_of};
 ghost use Rattle.sheets.specs.Amount.{cell_amount};
 ghost use Rattle.sheets.specs.Chain.{judge_of, walk_all};
@@ -9,7 +9,7 @@ ghost use Rattle.sheets.specs.Chain.{judge_of, walk_all};
 use crate::amount::{wear_amount, wear_fault};
 use crate::layout::{Record, record_at};
 use crate::worn::check_worn;
-use refusals::{Outcome, Refusal};
+use refusals::Refusal;
 
 // A cell of the chain with its widened bounds. `next` is the index of the next record, `position` is row × columns + column.
 #[derive(Clone, Copy)]
@@ -20,13 +20,6 @@ pub struct Cell {
     pub upper: u32,
 }
 
-// A cell of the chain, or the refusal of its record.
-#[derive(Clone, Copy)]
-pub enum Step {
-    Cell(Cell),
-    Refused(Refusal),
-}
-
 // Checks one record of the chain. Its position must be `least` or more, one past that of the cell before it.
 fn judge(
     kind: usize,
@@ -35,35 +28,34 @@ fn judge(
     columns: usize,
     least: usize,
     r: Record,
-) -> Outcome
+) -> Result<(), Refusal>
     requires { (rows ≤ 32) × (columns ≤ 32) }
-    ensures { outcome result ≡ then (judge_of (cell_amount kind amounts.now) rows columns least r) done }
+    ensures { result ≡ then (judge_of (cell_amount kind amounts.now) rows columns least r) done }
 {
     let row = r.row;
     let column = r.column;
     if row >= rows {
-        return Outcome::Refused(Refusal::of_matrix(7, 0));
+        return Err(Refusal::of_matrix(7, 0));
     }
     if column >= columns {
-        return Outcome::Refused(Refusal::of_matrix(7, 0));
+        return Err(Refusal::of_matrix(7, 0));
     }
     let position = row * columns + column;
     if position < least {
-        return Outcome::Refused(Refusal::of_matrix(8, 0));
+        return Err(Refusal::of_matrix(8, 0));
     }
     let i = row as u8;
     let j = column as u8;
     let fault = wear_fault(kind, r.wear);
     if fault == 6 {
-        return Outcome::Refused(Refusal::of_matrix(6, 0));
+        return Err(Refusal::of_matrix(6, 0));
     }
     if fault != 0 {
-        return Outcome::Refused(Refusal::of_cell(fault, 0, i, j));
+        return Err(Refusal::of_cell(fault, 0, i, j));
     }
-    match check_worn(r.lower, r.upper, wear_amount(kind, amounts, r.wear)) {
-        Outcome::Done => Outcome::Done,
-        Outcome::Refused(x) => Outcome::Refused(Refusal::of_cell(x.number, x.matrix, i, j)),
-    }
+    check_worn(r.lower, r.upper, wear_amount(kind, amounts, r.wear)).map_err(|x| Refusal::of_cell(
+        x.number, x.matrix, i, j,
+    ))
 }
 
 // Checks the whole chain, whose first record has the index `first`. Index 0 ends the chain.
@@ -74,26 +66,20 @@ pub fn follow(
     rows: usize,
     columns: usize,
     first: usize,
-) -> Outcome
+) -> Result<(), Refusal>
     requires { (rows ≤ 32) × (columns ≤ 32) × (16 * count_of s.now ≡ length s.now) }
-    ensures { outcome result ≡ (walk_all (cell_amount kind amounts.now) s.now rows columns first).verdict }
+    ensures { result ≡ (walk_all (cell_amount kind amounts.now) s.now rows columns first).verdict }
 {
     let mut index = first;
     let mut least = 0;
     while index != 0 {
         if index >= s.len() / 16 {
-            return Outcome::Refused(Refusal::of_matrix(7, 0));
+            return Err(Refusal::of_matrix(7, 0));
         }
         let r = record_at(s, index);
-        match judge(kind, amounts, rows, columns, least, r) {
-            Outcome::Done => {
-                index = r.next;
-                least = r.row * columns + r.column + 1;
-            }
-            Outcome::Refused(x) => {
-                return Outcome::Refused(x);
-            }
-        }
+        judge(kind, amounts, rows, columns, least, r)?;
+        index = r.next;
+        least = r.row * columns + r.column + 1;
     }
-    Outcome::Done
+    Ok(())
 }

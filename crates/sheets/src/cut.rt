@@ -6,6 +6,7 @@ use crate::layout::u16_at;
 use intervals::slices::shorter;
 
 // The length of the first sheet in s, which others follow: 16 × its record count, or all of s where s is shorter or ends before the count.
+#[tactic(auto, unfolding(crate::specs::Cut::first_length))]
 pub fn first_length(s: &[u8]) -> usize
     ensures { (result ≡ first_length s.now) × (result ≤ length s.now) }
 {

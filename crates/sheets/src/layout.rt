@@ -22,6 +22,7 @@ pub fn byte(s: &[u8], p: usize) -> usize
 }
 
 // The two-byte number at byte p.
+#[tactic(auto, unfolding(crate::specs::Layout::u16_at))]
 pub fn u16_at(s: &[u8], p: usize) -> usize
     requires { p + 1 < length s.now }
     ensures { (result ≡ u16_at s.now p) × (result < 65536) }
@@ -30,6 +31,7 @@ pub fn u16_at(s: &[u8], p: usize) -> usize
 }
 
 // The four-byte number at byte p.
+#[tactic(auto, unfolding(crate::specs::Layout::u32_at))]
 pub fn u32_at(s: &[u8], p: usize) -> u32
     requires { p + 3 < length s.now }
     ensures { result ≡ u32_at s.now p }
@@ -55,6 +57,7 @@ fn is_blank(s: &[u8], p: usize, n: usize) -> bool
 }
 
 // Record i.
+#[tactic(auto, unfolding(crate::specs::Layout::record_of))]
 pub fn record_at(s: &[u8], i: usize) -> Record
     requires { 16 * i + 16 ≤ length s.now }
     ensures { result ≡ record_of s.now i }
@@ -77,6 +80,7 @@ pub fn record_at(s: &[u8], i: usize) -> Record
 }
 
 // Whether length and head pass the check for refusal 6.
+#[tactic(auto, unfolding(crate::specs::Layout::framed, crate::specs::Layout::whole))]
 pub fn is_framed(s: &[u8]) -> bool
     ensures { result ≡ framed s.now }
 {

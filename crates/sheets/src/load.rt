@@ -14,6 +14,7 @@ pub struct Load {
 }
 
 // The eight patterns of a load.
+#[tactic(auto, unfolding(crate::specs::Load::patterns_of))]
 fn patterns(load: &[u8]) -> [u32; 8]
     requires { length load.now ≡ 32 }
     ensures { result ≡ patterns_of load.now }
@@ -62,6 +63,7 @@ fn ascend(amounts: &[u32; 8]) -> bool
 }
 
 // The fault of eight amounts: 3, one has exponent field 255; 13, the first is not zero or one is below its forerunner; 0, none.
+#[tactic(auto, unfolding(crate::specs::Load::amounts_fault))]
 fn check(amounts: &[u32; 8]) -> u8
     ensures { result ≡ amounts_fault amounts.now }
 {
@@ -72,7 +74,7 @@ fn check(amounts: &[u32; 8]) -> u8
 }
 
 // Reads a load. A length other than 32 is refused with 6 before all else.
-#[tactic(auto, using(crate::proofs::Loads::load_short))]
+#[tactic(auto, unfolding(crate::specs::Load::load_fault, crate::specs::Load::load_of))]
 pub fn read(bytes: &[u8]) -> Load
     ensures { loaded result ≡ load_of bytes.now }
 {

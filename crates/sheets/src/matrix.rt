@@ -4,36 +4,35 @@ ghost use Rattle.refusals.specs.Answer.{done};
 ghost use Rattle.sheets.specs.Layout.{count_of};
 ghost use Rattle.sheets.specs.Amount.{wear_fault, wear_amount, cell_amount};
 ghost use Rattle.sheets.specs.Cell.{worn_fault};
-ghost use Rattle.sheets.specs.Chain.{stepped, worn_cell, walk_all};
+ghost use Rattle.sheets.specs.Chain.{worn_cell, walk_all};
 ghost use Rattle.sheets.specs.Reading.{put_in, cell_lower, cell_upper};
 
 use crate::amount::wear_amount;
-use crate::chain::{Cell, Step};
+use crate::cell::widen;
+use crate::chain::Cell;
 use crate::layout::{Record, record_at};
-use intervals::Bounded;
 use refusals::Refusal;
 
 // The cell of a record that passed all checks, widened by its amount.
-fn passed(kind: usize, amounts: &[u32; 8], columns: usize, r: Record) -> Step
+#[tactic(auto, using(crate::proofs::Bounding::worn_tells), unfolding(crate::specs::Cell::widened_of))]
+fn passed(kind: usize, amounts: &[u32; 8], columns: usize, r: Record) -> Result<Cell, Refusal>
     requires { (columns ≤ 32) × (r.row < 32) × (r.column < 32) × (wear_fault kind r.wear ≡ 0)
         × (worn_fault r.lower r.upper (wear_amount kind amounts.now r.wear) ≡ 0) }
-    ensures { stepped result ≡ worn_cell columns r (wear_amount kind amounts.now r.wear) }
+    ensures { result ≡ worn_cell columns r (wear_amount kind amounts.now r.wear) }
 {
     let row = r.row;
     let column = r.column;
-    match crate::cell::widen(r.lower, r.upper, wear_amount(kind, amounts, r.wear)) {
-        Bounded::Bounds(a, b) => Step::Cell(Cell {
-            next: r.next,
-            position: row * columns + column,
-            lower: a,
-            upper: b,
-        }),
-        Bounded::Refused(n) => {
-            let i = row as u8;
-            let j = column as u8;
-            Step::Refused(Refusal::of_cell(n, 0, i, j))
-        }
-    }
+    let i = row as u8;
+    let j = column as u8;
+    let (lower, upper) = widen(r.lower, r.upper, wear_amount(kind, amounts, r.wear)).map_err(
+        |x| Refusal::of_cell(x.number, x.matrix, i, j),
+    )?;
+    Ok(Cell {
+        next: r.next,
+        position: row * columns + column,
+        lower,
+        upper,
+    })
 }
 
 // Puts the cells of the chain at their positions. The loop ends because positions rise; `least` serves only that proof.
@@ -59,14 +58,14 @@ pub fn fill(
     let mut least = 0;
     while index != 0 {
         match passed(kind, amounts, columns, record_at(s, index)) {
-            Step::Cell(c) => {
+            Ok(c) => {
                 let position = c.position;
                 lowers[position] = c.lower;
                 uppers[position] = c.upper;
                 index = c.next;
                 least = position + 1;
             }
-            Step::Refused(_) => {
+            Err(_) => {
                 return;
             }
         }

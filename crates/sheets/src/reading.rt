@@ -1,55 +1,55 @@
 // Reads a sheet against eight wear amounts: those of the fixed table (wear.rt), or a mill's own (load.rt).
 ghost use Rattle.std.specs.Prelude.{◌≡◌, length};
-ghost use Rattle.sheets.specs.Reading.{shape, read_by, cell_lower, cell_upper, slice_by};
+ghost use Rattle.sheets.specs.Reading.{read_by, cell_lower, cell_upper, slice_by};
 
 use crate::chain::follow;
 use crate::matrix::fill;
-use crate::{Shape, layout};
+use crate::{Sizes, layout};
 use intervals::slices::clear;
+use refusals::Refusal;
 use refusals::sizes::check_fit;
-use refusals::{Outcome, Refusal};
 
 // The answer of a read into slices of these lengths. Checks length and head (6), sizes (1), slice lengths (2), then each cell of the chain.
-fn check(amounts: &[u32; 8], s: &[u8], lowers: usize, uppers: usize) -> Shape
-    ensures { shape result ≡ read_by amounts.now s.now lowers uppers }
+#[tactic(auto, using(crate::proofs::Frames::framed_tells, crate::proofs::Answers::read_fit, crate::proofs::Answers::read_followed))]
+fn check(amounts: &[u32; 8], s: &[u8], lowers: usize, uppers: usize) -> Result<Sizes, Refusal>
+    ensures { result ≡ read_by amounts.now s.now lowers uppers }
 {
     if !layout::is_framed(s) {
-        return Shape::Refused(Refusal::of_matrix(6, 0));
+        return Err(Refusal::of_matrix(6, 0));
     }
     let rows = layout::byte(s, 2);
     let columns = layout::byte(s, 3);
     let kind = layout::byte(s, 6);
-    match check_fit(0, rows, columns, lowers, uppers) {
-        Outcome::Refused(r) => Shape::Refused(r),
-        Outcome::Done => match follow(kind, amounts, s, rows, columns, layout::u16_at(s, 0)) {
-            Outcome::Done => Shape::Sizes(rows, columns),
-            Outcome::Refused(r) => Shape::Refused(r),
-        },
-    }
+    check_fit(0, rows, columns, lowers, uppers)?;
+    follow(kind, amounts, s, rows, columns, layout::u16_at(s, 0))?;
+    Ok(Sizes { rows, columns })
 }
 
 // Reads the matrix of a sheet into the front of the two slices; a refusal leaves both as they were.
-pub fn read(amounts: &[u32; 8], s: &[u8], lowers: &mut [u32], uppers: &mut [u32]) -> Shape
-    ensures answer { shape result ≡ read_by amounts.now s.now (length lowers.old) (length uppers.old) }
-    ensures below { lowers.new ≡ slice_by amounts.now cell_lower s.now (shape result) lowers.old }
-    ensures above { uppers.new ≡ slice_by amounts.now cell_upper s.now (shape result) uppers.old }
+pub fn read(
+    amounts: &[u32; 8],
+    s: &[u8],
+    lowers: &mut [u32],
+    uppers: &mut [u32],
+) -> Result<Sizes, Refusal>
+    ensures answer { result ≡ read_by amounts.now s.now (length lowers.old) (length uppers.old) }
+    ensures below { lowers.new ≡ slice_by amounts.now cell_lower s.now result lowers.old }
+    ensures above { uppers.new ≡ slice_by amounts.now cell_upper s.now result uppers.old }
 {
-    match check(amounts, s, lowers.len(), uppers.len()) {
-        Shape::Sizes(rows, columns) => {
-            clear(rows * columns, lowers);
-            clear(rows * columns, uppers);
-            fill(
-                layout::byte(s, 6),
-                amounts,
-                s,
-                rows,
-                columns,
-                layout::u16_at(s, 0),
-                lowers,
-                uppers,
-            );
-            Shape::Sizes(rows, columns)
-        }
-        Shape::Refused(r) => Shape::Refused(r),
-    }
+    let sizes = check(amounts, s, lowers.len(), uppers.len())?;
+    let rows = sizes.rows;
+    let columns = sizes.columns;
+    clear(rows * columns, lowers);
+    clear(rows * columns, uppers);
+    fill(
+        layout::byte(s, 6),
+        amounts,
+        s,
+        rows,
+        columns,
+        layout::u16_at(s, 0),
+        lowers,
+        uppers,
+    );
+    Ok(sizes)
 }

@@ -3,12 +3,13 @@ ghost use Rattle.std.specs.Prelude.{◌≡◌, ◌++◌, ◌+◌, ◌*◌, ◌�
 ghost use Rattle.sheets.specs.Cell.{handed_of};
 ghost use Rattle.sheets.specs.Sheet.{record_bytes, over, tally, count_to, next_of, cell_bytes, records_to};
 
-use crate::cell::{HandedIn, handed};
+use crate::cell::handed;
 
 // The kind of the sheets that are written, 1, where a head has it: in byte 6, the third of the four that a cell has its lower bound in.
 pub const KIND: u32 = 65536;
 
 // The 16 bytes of a cell's record, with the amount 0. The head has the same form, with the record count and the kind in place of the lower bound.
+#[tactic(auto, unfolding(crate::specs::Sheet::record_bytes))]
 fn record_bytes(next: usize, row: usize, column: usize, lower: u32, upper: u32) -> [u8; 16]
     requires { (row < 256) × (column < 256) }
     ensures { result ≡ record_bytes next row column lower upper }
@@ -55,6 +56,7 @@ pub fn put_record(
 }
 
 // The next index in record k of a chain of records 1 to `total`: k + 1, or 0 in the last record.
+#[tactic(auto, unfolding(crate::specs::Sheet::next_of))]
 pub fn next_of(total: usize, k: usize) -> usize
     requires { k ≤ 1024 }
     ensures { result ≡ next_of total k }
@@ -63,6 +65,7 @@ pub fn next_of(total: usize, k: usize) -> usize
 }
 
 // Writes a cell as record k + 1, unless it is [0, 0]; returns the number of cells written so far.
+#[tactic(auto, unfolding(crate::specs::Sheet::tally, crate::specs::Sheet::cell_bytes))]
 fn put_cell(
     out: &mut [u8],
     k: usize,
@@ -77,12 +80,12 @@ fn put_cell(
         × (out.new ≡ over (16 * (k + 1)) (cell_bytes (next_of total (k + 1)) row column (handed_of lower upper)) out.old) }
 {
     match handed(lower, upper) {
-        HandedIn::Cell(a, b) => {
+        Ok(Some((a, b))) => {
             put_record(out, 16 * (k + 1), next_of(total, k + 1), row, column, a, b);
             k + 1
         }
-        HandedIn::Zero => k,
-        HandedIn::Faulty(_) => k,
+        Ok(None) => k,
+        Err(_) => k,
     }
 }
 

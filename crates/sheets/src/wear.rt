@@ -16,6 +16,7 @@ const WEAR: [u32; 8] = [
 ];
 
 // The eight amounts.
+#[tactic(auto, using(crate::proofs::Amounts::table_is, crate::proofs::Amounts::amount_right))]
 pub fn fixed() -> [u32; 8]
     ensures { (result ≡ fixed_amounts) × ((c : ℕ) → c < 8 → value_of (amount_in result c) ≡ pos (units_of c)) }
 {

@@ -1,16 +1,16 @@
 // A cell that is read, with its wear amount: checked, and its bounds moved outward.
 ghost use Rattle.std.specs.Prelude.{◌≡◌};
-ghost use Rattle.refusals.specs.Answer.{done, outcome, then};
-ghost use Rattle.intervals.specs.Conversion.{bounded};
+ghost use Rattle.refusals.specs.Answer.{done, then};
 ghost use Rattle.sheets.specs.Cell.{worn_fault, widened_of};
 
 use crate::cell::widen;
 use binary32::finite::is_finite;
 use binary32::order::{at_most, magnitude};
-use intervals::{Bounded, check};
-use refusals::{Outcome, Refusal};
+use intervals::check;
+use refusals::Refusal;
 
 // The fault of a cell that is read: 3, one of its bounds and its amount is not a number; 4, the lower bound is above the upper; 0, none.
+#[tactic(auto, unfolding(crate::specs::Cell::worn_fault))]
 fn worn_fault(lower: u32, upper: u32, amount: u32) -> u8
     ensures { result ≡ worn_fault lower upper amount }
 {
@@ -22,12 +22,13 @@ fn worn_fault(lower: u32, upper: u32, amount: u32) -> u8
 
 // The cell widened by this amount: lower bound less amount, rounded down, and upper bound plus amount, rounded up. Refused with 3, 4, or 5 where it is then
 // too large.
-pub fn widened(lower: u32, upper: u32, amount: u32) -> Bounded
-    ensures { bounded result ≡ widened_of lower upper amount }
+#[tactic(auto, using(crate::proofs::Bounding::worn_tells), unfolding(crate::specs::Cell::widened_of))]
+pub fn widened(lower: u32, upper: u32, amount: u32) -> Result<(u32, u32), Refusal>
+    ensures { result ≡ widened_of lower upper amount }
 {
     let fault = worn_fault(lower, upper, amount);
     if fault != 0 {
-        return Bounded::Refused(fault);
+        return Err(Refusal::of_matrix(fault, 0));
     }
     widen(lower, upper, amount)
 }
@@ -36,20 +37,18 @@ pub fn widened(lower: u32, upper: u32, amount: u32) -> Bounded
 const HALF: u32 = 0x7F00_0000;
 
 // The refusal of such a cell alone. Nothing is worked out where amount and bounds are below 2^127 in magnitude.
-pub fn check_worn(lower: u32, upper: u32, amount: u32) -> Outcome
-    ensures { outcome result ≡ then (widened_of lower upper amount) done }
+pub fn check_worn(lower: u32, upper: u32, amount: u32) -> Result<(), Refusal>
+    ensures { result ≡ then (widened_of lower upper amount) done }
 {
     if amount < HALF {
         if magnitude(lower) < HALF {
             if magnitude(upper) < HALF {
                 if at_most(lower, upper) {
-                    return Outcome::Done;
+                    return Ok(());
                 }
             }
         }
     }
-    match widened(lower, upper, amount) {
-        Bounded::Bounds(_, _) => Outcome::Done,
-        Bounded::Refused(n) => Outcome::Refused(Refusal::of_matrix(n, 0)),
-    }
+    widened(lower, upper, amount)?;
+    Ok(())
 }

@@ -4,7 +4,6 @@ use Rattle.job.specs.Train.{train_product}
 use Rattle.job.specs.TrainDemand.{TrainKeeps}
 use Rattle.job.proofs.Deliveries.{written_small}
 use Rattle.coupling.proofs.Calls.{written_is, short}
-use borrow.Author.Rules.{rules}
 use Rattle.coupling.proofs.coupling_train.Goals as goal
 
 pub length_code-requires : goal.length_code-requires

@@ -1,8 +1,7 @@
 -- `intervals::to_midrad` meets its contract: each return is a case of the definition.
 use mathlib.Core.Path.{ap, ap₂, sym, ◌∙◌, subst₂}
 use Prim.Native.Nat.{ℕ}
-use borrow.Author.Rules.{rules}
-use Rattle.refusals.specs.Answer.{gives, refuse}
+use Rattle.refusals.specs.Answer.{gives, refuse, refuses}
 use Rattle.refusals.proofs.Answers.{passing_on, passing_not}
 use Rattle.intervals.specs.Conversion.{midrad_of, OptimalFor}
 use Rattle.intervals.proofs.Faults.{fine_tells}
@@ -13,7 +12,7 @@ pub returns-then-fault-ne0 : goal.returns-then-fault-ne0
 unfolding midrad_of
 returns-then-fault-ne0 c =
     let k = c.check-fault.ensures in record {
-      answer = ap refuse k ∙ passing_not _ _ (λ e. c.if-fault-ne0.true (k ∙ e));
+      answer = ap refuses c.of_matrix.ensures ∙ ap refuse k ∙ passing_not _ _ (λ e. c.if-fault-ne0.true (k ∙ e));
       optimal = tt {0};
     }
 

@@ -1,37 +1,23 @@
 -- `deliver` meets its contract: the writer's, with the refusal named.
-use mathlib.Core.Path.{sym}
-use native.Mathlib.Omega.{arith}
-use lib.Seq.{length-take-le}
-use Rattle.job.proofs.Factors.{few_is}
-use Rattle.job.proofs.Writing.{deliver_refused, deliver_bytes, deliver_room}
-use borrow.Author.Rules.{rules}
+use Rattle.std.proofs.Common.{◌≡◌, sym, subst, length, rules}
+use Rattle.refusals.specs.Answer.{refuses, naming}
+use Rattle.job.specs.Factor.{in_arrays}
+use Rattle.job.proofs.Naming.{named_by}
+use Rattle.job.proofs.Writing.{Delivers, deliver_refused, deliver_put}
 use Rattle.job.proofs.deliver.Goals as goal
 
-pub overflow_mul-n : goal.overflow_mul-n
-overflow_mul-n c = omega (arith, few_is c.in-Sizes.is c.requires.0)
-
-pub slice_bounds-put-end : goal.slice_bounds-put-end
-slice_bounds-put-end c = let f = few_is c.in-Sizes.is c.requires.0 in sym (length-take-le _ c.args.lo.now (omega arith))
-
-pub slice_bounds-put-end-in-Sizes : goal.slice_bounds-put-end-in-Sizes
-slice_bounds-put-end-in-Sizes c = let f = few_is c.in-Sizes.is c.requires.0 in sym (length-take-le _ c.args.up.now (omega arith))
-
-pub returns-in-Refused : goal.returns-in-Refused
-returns-in-Refused c =
+pub returns-in_err-sizes : goal.returns-in_err-sizes
+returns-in_err-sizes c =
     let g = c.args in
-    let t = deliver_refused g.matrix g.product g.lo.now g.up.now g.out.now _ _ c.in-Refused.is in
+    let e : c.from_residual.result ≡ refuses c.in_err-sizes.field-0.0 = search rules in
+    let t = subst (λ w. Delivers g.matrix (in_arrays g.product g.lo.now g.up.now) (length g.out.now) w g.out.now g.out.now) (sym e)
+    (deliver_refused g.matrix g.product g.lo.now g.up.now g.out.now (length g.out.now) _ c.in_err-sizes.was) in
     record { answer = t.0; left = t.1.0; back = t.1.1 }
 
-pub returns-in-Bytes : goal.returns-in-Bytes
-returns-in-Bytes c =
+pub returns : goal.returns
+returns c =
     let g = c.args in
     let p = c.put.ensures in
-    let t = deliver_bytes g.matrix g.product g.lo.now g.up.now g.out.now _ _ c.in-Sizes.is _ p.answer p.left p.trip c.in-Bytes.is in
-    record { answer = t.0; left = t.1.0; back = t.1.1 }
-
-pub returns-in-Refused-put : goal.returns-in-Refused-put
-returns-in-Refused-put c =
-    let g = c.args in
-    let p = c.put.ensures in
-    let t = deliver_room g.matrix g.product g.lo.now g.up.now g.out.now _ _ c.in-Sizes.is _ p.answer p.left p.trip c.in-Refused-put.is c.named.ensures in
+    let n : c.map_err.result ≡ naming g.matrix c.put.result = named_by g.matrix _ (λ r s h. search rules) c.put.result c.map_err.result c.map_err.ensures.cases in
+    let t = deliver_put g.matrix g.product g.lo.now g.up.now g.out.now c.put.new.out (length g.out.now) c.in_ok-sizes.was c.put.result c.map_err.result p.answer p.left p.trip n in
     record { answer = t.0; left = t.1.0; back = t.1.1 }

@@ -1,11 +1,10 @@
 -- `run` meets its contract: the product of the two sheets, written.
-use native.Mathlib.Omega.{arith}
+use Rattle.std.proofs.Common.{arith}
 use Rattle.job.specs.Job.{job_product}
 use Rattle.job.specs.Demand.{JobKeeps}
 use Rattle.job.proofs.Sizes.{few}
 use Rattle.job.proofs.Jobs.{job_small}
 use Rattle.job.proofs.Deliveries.{ends, job_given, job_none}
-use borrow.Author.Rules.{rules}
 use Rattle.job.proofs.run.Goals as goal
 
 pub deliver-requires : goal.deliver-requires

@@ -5,7 +5,6 @@ use Rattle.job.specs.TrainDemand.{TrainKeeps}
 use Rattle.job.proofs.Sizes.{few}
 use Rattle.job.proofs.Trains.{train_small}
 use Rattle.job.proofs.Deliveries.{ends, train_given, train_none}
-use borrow.Author.Rules.{rules}
 use Rattle.job.proofs.run_train.Goals as goal
 
 pub deliver-requires : goal.deliver-requires

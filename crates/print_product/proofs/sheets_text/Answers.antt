@@ -7,20 +7,20 @@ use Rattle.print_product.proofs.Answers.{product_text_is, sheets_text_is}
 use Rattle.print_product.proofs.sheets_text.Goals as goal
 
 pub product_text-requires : goal.product_text-requires
-product_text-requires c = let z = job_small _ _ _ _ (sym c.in-Sizes.ensures.answer) in (omega arith, z.rows, z.some_column, z.columns, omega arith)
+product_text-requires c = let z = job_small _ _ _ _ (sym c.in-Ok.ensures.answer) in (omega arith, z.rows, z.some_column, z.columns, omega arith)
 
-pub returns-in-Sizes : goal.returns-in-Sizes
-returns-in-Sizes c =
+pub returns-in-Ok : goal.returns-in-Ok
+returns-in-Ok c =
     let g = c.args in
     let n = c.first_length-end in
     let p = c.product_text in
     subst (λ t. Put 0 t g.out.now p.result p.new.out)
-    (product_text_is g.method _ _ _ _ c.in-Sizes.ensures.answer ∙ sheets_text_is g.method g.s.now n.result n.ensures.0) p.ensures
+    (product_text_is g.method _ _ _ _ c.in-Ok.ensures.answer ∙ sheets_text_is g.method g.s.now n.result n.ensures.0) p.ensures
 
-pub returns-in-Refused : goal.returns-in-Refused
-returns-in-Refused c =
+pub returns-in-Err : goal.returns-in-Err
+returns-in-Err c =
     let g = c.args in
     let n = c.first_length-end in
     let p = c.refused_line in
     subst (λ t. Put 0 t g.out.now p.result p.new.out)
-    (ap (answer_text g.method) c.in-Refused.ensures.answer ∙ sheets_text_is g.method g.s.now n.result n.ensures.0) p.ensures
+    (ap (answer_text g.method) c.in-Err.ensures.answer ∙ sheets_text_is g.method g.s.now n.result n.ensures.0) p.ensures

@@ -1,46 +1,41 @@
 -- `put` meets its contract.
-use mathlib.Core.Path.{refl}
+use mathlib.Core.Path.{refl, sym, ◌∙◌}
 use native.Mathlib.Nat.{mul-le-mul_right}
 use native.Mathlib.Omega.{arith}
-use Rattle.sheets.specs.Writing.{out_after}
-use Rattle.sheets.proofs.Rooms.{answered, granted}
+use Rattle.sheets.proofs.Rooms.{bytes_tell}
 use Rattle.sheets.proofs.Outs.{put_done}
 use Rattle.sheets.proofs.RoundTrip.{trip_done}
 use Rattle.sheets.proofs.put.Goals as goal
 
 pub overflow_sub-total : goal.overflow_sub-total
-overflow_sub-total c = omega (arith, (granted _ _ _ _ _ _ c.check_write.ensures _ c.in-Bytes.is).bytes)
+overflow_sub-total c = omega (arith, (bytes_tell _ _ _ _ _ _ (sym c.check_write.ensures ∙ c.in_ok-n.was)).bytes)
 
 pub overflow_add-total : goal.overflow_add-total
-overflow_add-total c = let g = granted _ _ _ _ _ _ c.check_write.ensures _ c.in-Bytes.is in omega (arith, g.bytes, g.few, g.counted)
+overflow_add-total c = let g = bytes_tell _ _ _ _ _ _ (sym c.check_write.ensures ∙ c.in_ok-n.was) in omega (arith, g.bytes, g.few, g.counted)
 
 pub overflow_cast-total : goal.overflow_cast-total
-overflow_cast-total c = let g = granted _ _ _ _ _ _ c.check_write.ensures _ c.in-Bytes.is in omega (arith, g.bytes, g.few, g.counted)
+overflow_cast-total c = let g = bytes_tell _ _ _ _ _ _ (sym c.check_write.ensures ∙ c.in_ok-n.was) in omega (arith, g.bytes, g.few, g.counted)
 
-pub overflow_add-total-in-Bytes : goal.overflow_add-total-in-Bytes
-overflow_add-total-in-Bytes c = let g = granted _ _ _ _ _ _ c.check_write.ensures _ c.in-Bytes.is in omega (arith, g.bytes, g.few, g.counted)
+pub overflow_add-total-2 : goal.overflow_add-total-2
+overflow_add-total-2 c = let g = bytes_tell _ _ _ _ _ _ (sym c.check_write.ensures ∙ c.in_ok-n.was) in omega (arith, g.bytes, g.few, g.counted)
 
 pub put_record-requires : goal.put_record-requires
 put_record-requires c =
-    let g = granted _ _ _ _ _ _ c.check_write.ensures _ c.in-Bytes.is in
+    let g = bytes_tell _ _ _ _ _ _ (sym c.check_write.ensures ∙ c.in_ok-n.was) in
     (omega (arith, g.bytes, g.roomy), omega (arith, g.sized.rows), omega (arith, g.sized.columns))
 
 pub overflow_mul-rows : goal.overflow_mul-rows
-overflow_mul-rows c = omega (arith, (granted _ _ _ _ _ _ c.check_write.ensures _ c.in-Bytes.is).few)
+overflow_mul-rows c = omega (arith, (bytes_tell _ _ _ _ _ _ (sym c.check_write.ensures ∙ c.in_ok-n.was)).few)
 
 pub put_cells-requires : goal.put_cells-requires
 put_cells-requires c =
     let a = c.args in
-    let g = granted _ _ _ _ _ _ c.check_write.ensures _ c.in-Bytes.is in
+    let g = bytes_tell _ _ _ _ _ _ (sym c.check_write.ensures ∙ c.in_ok-n.was) in
     let z = g.sized in
     (z.some_column, z.columns, mul-le-mul_right a.columns z.rows, z.lowers, z.uppers, omega (arith, g.bytes), omega (arith, g.bytes, g.roomy))
 
-pub returns-in-Bytes : goal.returns-in-Bytes
-returns-in-Bytes c =
-    let g = granted _ _ _ _ _ _ c.check_write.ensures _ c.in-Bytes.is in
+pub returns : goal.returns
+returns c =
+    let g = bytes_tell _ _ _ _ _ _ (sym c.check_write.ensures ∙ c.in_ok-n.was) in
     let d = put_done _ _ _ _ _ _ g _ _ _ _ refl c.next_of.ensures c.put_record.ensures c.put_cells.ensures in
-    record { answer = answered _ _ _ _ _ _ c.check_write.ensures _ c.in-Bytes.is; left = d; trip = trip_done _ _ _ _ _ _ _ g d }
-
-pub returns-in-Refused : goal.returns-in-Refused
-unfolding out_after
-returns-in-Refused c = record { answer = answered _ _ _ _ _ _ c.check_write.ensures _ c.in-Refused.is; left = refl; trip = tt }
+    record { answer = sym c.in_ok-n.was ∙ c.check_write.ensures; left = d; trip = trip_done _ _ _ _ _ _ _ g d }

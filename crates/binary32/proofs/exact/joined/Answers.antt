@@ -2,14 +2,10 @@
 -- (`same_apart`).
 use mathlib.Core.Path.{◌≡◌, ap, sym, ◌∙◌, subst}
 use Prim.Native.Nat.{◌-◌, ◌^◌, ◌≤◌}
-use native.Mathlib.Omega.{arith}
 use lib.IntN.{ℤ, pos, nat_abs, ◌+ℤ◌, ◌*ℤ◌}
-use mir.Syntax.{w64}
-use mir.Val.{of_z, to_z}
 use Rattle.binary32.specs.Steps.{sgn}
-use Rattle.binary32.proofs.Ints.{read, read_small}
+use Rattle.binary32.proofs.Ints.{read}
 use Rattle.binary32.proofs.Sums.{shifted_sum_read, sgn_read, sgn_short, same_close, same_apart}
-use borrow.Author.Rules.{rules}
 use Rattle.binary32.proofs.exact.joined.Goals as goal
 
 -- the sign of the far summand, which stands for it, is short
@@ -24,14 +20,6 @@ returns-then-d-le36 c =
     same_close c.requires _ c.if-d-le36.true
     (read c.shifted_sum.result c.shifted_sum.type_inv
     ∙ shifted_sum_read x.sig y.sig c.shifted_sum.result (x.exp - y.exp) c.requires.first.few c.requires.second.few c.shifted_sum.ensures)
-
-pub shifted_sum-requires-2 : goal.shifted_sum-requires-2
-shifted_sum-requires-2 c =
-    let signed = sgn_read c.args.y.sig c.sign.result c.requires.second.few c.sign.ensures in (
-      rw (read_small c.args.x.sig (omega (arith, c.requires.first.few))) c.requires.first.few,
-      rw (read c.sign.result c.sign.type_inv) (short c.args.y.sig c.sign.result signed),
-      omega arith,
-    )
 
 -- far apart
 pub returns : goal.returns

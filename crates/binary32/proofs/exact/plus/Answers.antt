@@ -1,7 +1,6 @@
 -- `binary32::exact::plus` meets its contract: `first` and `second` put the summands in order (`ordered`), which changes no sum (`sum_ordered`).
 use Prim.Native.Nat.{◌-◌, ◌^◌}
 use Rattle.binary32.proofs.Sums.{ordered, sum_ordered}
-use borrow.Author.Rules.{rules}
 use Rattle.binary32.proofs.exact.plus.Goals as goal
 
 pub joined-requires : goal.joined-requires

@@ -9,7 +9,6 @@ use mir.ValLaws.{to_z-of_z}
 use Rattle.algebra.proofs.Machine.{fits_nat_abs}
 use Rattle.binary32.proofs.Ints.{read}
 use Rattle.binary32.proofs.Sums.{shifted_sum_short}
-use borrow.Author.Rules.{rules}
 use Rattle.binary32.proofs.exact.shifted_sum.Goals as goal
 
 module _ (c : goal.After-power) where

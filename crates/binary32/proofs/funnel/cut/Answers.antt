@@ -10,19 +10,18 @@ use mir.ValLaws.{to_z-of_z}
 use Rattle.algebra.proofs.Machine.{fits_nat_abs}
 use Rattle.binary32.proofs.Ints.{read, above}
 use Rattle.binary32.proofs.Cutting.{Zeros, zeros_of, wide_short, cut_large, cut_low, cut_zero}
-use borrow.Author.Rules.{rules}
 use Rattle.binary32.proofs.funnel.cut.Goals as goal
 
 -- the count of leading zeros
-abbrev Z : goal.After-magnitude-zeros → ℕ
-Z c = count_leading_zeros 64 c.magnitude-zeros.result
+abbrev Z : goal.After-unsigned_abs-zeros → ℕ
+Z c = count_leading_zeros 64 c.unsigned_abs-zeros.result
 
-some : (c : goal.After-magnitude-zeros) → 0 < nat_abs c.args.s
+some : (c : goal.After-unsigned_abs-zeros) → 0 < nat_abs c.args.s
 some c = above c.args.s c.if-s-eq0.false
 
-zeros : (c : goal.After-magnitude-zeros) → Zeros (nat_abs c.args.s) (Z c)
+zeros : (c : goal.After-unsigned_abs-zeros) → Zeros (nat_abs c.args.s) (Z c)
 zeros c =
-    let e : c.magnitude-zeros.result ≡ nat_abs c.args.s = c.magnitude-zeros.ensures ∙ ap nat_abs (to_z-of_z w64 c.args.s c.ranges.s) in
+    let e : c.unsigned_abs-zeros.result ≡ nat_abs c.args.s = c.unsigned_abs-zeros.ensures.value ∙ ap nat_abs (to_z-of_z w64 c.args.s c.ranges.s) in
     subst (λ (n : ℕ). Zeros (nat_abs c.args.s) (count_leading_zeros 64 n)) (sym e) (zeros_of (nat_abs c.args.s) (some c) c.requires.short)
 
 -- the significand shifted up
@@ -49,17 +48,8 @@ pub returns-then-s-eq0 : goal.returns-then-s-eq0
 returns-then-s-eq0 c =
     cut_zero c.args.s c.args.e (sym (to_z-of_z w64 c.args.s c.ranges.s) ∙ ap (to_z w64) c.if-s-eq0.true)
 
-pub magnitude-zeros-requires : goal.magnitude-zeros-requires
-magnitude-zeros-requires c = rw (to_z-of_z w64 c.args.s c.ranges.s) (omega (arith, c.requires.short))
-
-pub overflow_sub-top : goal.overflow_sub-top
-overflow_sub-top c = omega (arith, (zeros c).less)
-
 pub overflow_sub-zeros : goal.overflow_sub-zeros
 overflow_sub-zeros c = (zeros c).three
-
-pub power-requires : goal.power-requires
-power-requires c = omega (arith, (zeros c).less)
 
 pub overflow_mul-wide : goal.overflow_mul-wide
 overflow_mul-wide c = subst (SFits w64) (sym (wide_is c)) (wide_fits c)
@@ -75,9 +65,9 @@ returns-then-top-ge-FULL c =
     cut_large c.args.s _ c.args.e (Z c.before.before.before) c.split.result (some c.before.before.before) (zeros c.before.before.before) c.requires.low (wide_read c.before.before) c.if-top-ge-FULL.true c.split.ensures
 
 pub split-requires-2 : goal.split-requires-2
-split-requires-2 c = (few c.before.before, omega (arith, c.smaller.ensures))
+split-requires-2 c = (few c.before.before, omega (arith, c.min.ensures))
 
 pub returns : goal.returns
 returns c =
     cut_low c.args.s _ c.args.e (Z c.before.before.before.before) c.split-2.result (some c.before.before.before.before) (zeros c.before.before.before.before) c.requires.low (wide_read c.before.before.before)
-    c.smaller.result c.if-top-ge-FULL.false c.smaller.ensures c.split-2.ensures
+    c.min.result c.if-top-ge-FULL.false c.min.ensures c.split-2.ensures

@@ -10,8 +10,7 @@ use mir.ValLaws.{to_z-of_z}
 use Rattle.algebra.proofs.Machine.{fits_nat_abs}
 use Rattle.rounding.specs.Quotient.{rem}
 use Rattle.rounding.proofs.Floor.{rem_lt}
-use Rattle.binary32.proofs.Rests.{product_fits, machine_rest}
-use borrow.Author.Rules.{rules}
+use Rattle.binary32.proofs.Rests.{machine_rest}
 use Rattle.binary32.proofs.funnel.rest.Goals as goal
 
 module _ (c : goal.After-power) where
@@ -37,18 +36,10 @@ module _ (c : goal.After-power) where
   rest_fits : SFits w64 (pos (rem w m))
   rest_fits = fits_nat_abs (pos (rem w m)) (omega (arith, bound, less))
 
-  fits : SFits w64 product
-  fits =
-      product_fits w c.args.c c.power.result m c.requires.0 bound some c.ranges.w c.ranges.c
-      c.power.type_inv c.power.ensures c.requires.2
-
   is : to_z w64 (of_z w64 w) -ℤ to_z w64 (of_z w64 product) ≡ pos (rem w m)
   is =
       machine_rest w c.args.c c.power.result m c.requires.0 bound some c.ranges.w c.ranges.c
       c.power.type_inv c.power.ensures c.requires.2
-
-pub overflow_mul-result : goal.overflow_mul-result
-overflow_mul-result c = fits c
 
 pub overflow_sub-result : goal.overflow_sub-result
 overflow_sub-result c = rw (is c) (rest_fits c)

@@ -1,5 +1,4 @@
 -- `coupling::cells::coupling_product` meets its contract: it is the product's, and the code of its answer.
-use borrow.Author.Rules.{rules}
 use Rattle.coupling.proofs.Calls.{answered}
 use Rattle.coupling.proofs.cells.coupling_product.Goals as goal
 

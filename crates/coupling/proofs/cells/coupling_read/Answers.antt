@@ -3,7 +3,6 @@ use mathlib.Core.Path.{sym}
 use Rattle.sheets.specs.Reading.{lowers_after, uppers_after}
 use Rattle.sheets.proofs.Answers.{done_tells}
 use Rattle.coupling.proofs.Calls.{read_is, small_sizes}
-use borrow.Author.Rules.{rules}
 use Rattle.coupling.proofs.cells.coupling_read.Goals as goal
 
 pub sizes_code-requires : goal.sizes_code-requires

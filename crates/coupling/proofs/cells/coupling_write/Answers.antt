@@ -4,7 +4,6 @@ use Rattle.sheets.specs.Writing.{out_after}
 use Rattle.sheets.specs.Trip.{TripOf}
 use Rattle.sheets.proofs.Rooms.{length_small}
 use Rattle.coupling.proofs.Calls.{written_is, short}
-use borrow.Author.Rules.{rules}
 use Rattle.coupling.proofs.cells.coupling_write.Goals as goal
 
 pub length_code-requires : goal.length_code-requires

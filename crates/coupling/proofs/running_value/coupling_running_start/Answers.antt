@@ -3,7 +3,6 @@ use mathlib.Core.Path.{refl, ap, ◌∙◌}
 use mathlib.Core.List.{◌++◌}
 use native.Mathlib.Omega.{arith}
 use lib.ListN.{drop}
-use borrow.Author.Rules.{rules}
 use Rattle.refusals.specs.Refusal.{code_of}
 use Rattle.refusals.specs.Answer.{gives}
 use Rattle.running.specs.Value.{new_of}

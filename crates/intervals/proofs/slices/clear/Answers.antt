@@ -1,10 +1,7 @@
-use mathlib.Core.Path.{◌≡◌, refl, ◌∙◌}
-use Prim.Native.Nat.{◌≤◌, ◌-◌, min}
+use mathlib.Core.Path.{refl, ◌∙◌}
 use native.Mathlib.Omega.{arith}
 use borrow.Author.Fill.{fill_more}
-use borrow.Author.Rules.{rules}
-use lib.ListN.{length, length-set}
-use Rattle.intervals.specs.Slices.{zeros}
+use lib.ListN.{length-set}
 use Rattle.intervals.proofs.Clearing.{cleared_at}
 use Rattle.intervals.proofs.slices.clear.Goals as goal
 

@@ -1,12 +1,8 @@
 -- `intervals::slices::clear` meets its contract: the patterns passed are zeros, and the rest is as it was.
-use mathlib.Core.Path.{◌≡◌, refl, ◌∙◌}
+use mathlib.Core.Path.{◌≡◌}
 use Prim.Native.Nat.{◌≤◌, ◌-◌, min}
-use native.Mathlib.Omega.{arith}
-use borrow.Author.Fill.{fill_more}
-use borrow.Author.Rules.{rules}
-use lib.ListN.{length, length-set}
+use lib.ListN.{length}
 use Rattle.intervals.specs.Slices.{zeros}
-use Rattle.intervals.proofs.Clearing.{cleared_at}
 use Rattle.intervals.proofs.slices.clear.Given as goal
 
 abbrev pub invariant-loop-i : goal.invariant-loop-i

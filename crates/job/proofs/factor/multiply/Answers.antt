@@ -1,33 +1,25 @@
 -- `factor::multiply` meets its contract: the product's, copied to the left factor's place.
-use mathlib.Core.Path.{sym}
-use native.Mathlib.Omega.{arith}
-use lib.Seq.{length-take-le}
-use Rattle.job.specs.Factor.{in_front}
+use Rattle.std.proofs.Common.{◌≡◌, sym, ap, ◌∙◌, rules}
+use Rattle.refusals.specs.Answer.{refuses, naming}
+use Rattle.refusals.proofs.Answers.{naming_tells}
+use Rattle.job.specs.Factor.{in_front, in_arrays}
+use Rattle.job.proofs.Naming.{named_by}
 use Rattle.job.proofs.Steps.{times_refused, times_gives}
-use borrow.Author.Rules.{rules}
 use Rattle.job.proofs.factor.multiply.Goals as goal
 
-pub slice_bounds-product-end-2 : goal.slice_bounds-product-end-2
-slice_bounds-product-end-2 c = sym (length-take-le _ _ (omega arith))
-
-pub slice_bounds-product-end-4 : goal.slice_bounds-product-end-4
-slice_bounds-product-end-4 c = sym (length-take-le _ _ (omega arith))
-
-pub slice_bounds-product-end-5 : goal.slice_bounds-product-end-5
-slice_bounds-product-end-5 c = sym (length-take-le _ _ (omega arith))
-
-pub slice_bounds-product-end-6 : goal.slice_bounds-product-end-6
-slice_bounds-product-end-6 c = sym (length-take-le _ _ (omega arith))
-
-pub returns-in-Refused : goal.returns-in-Refused
-returns-in-Refused c =
+pub returns-in_err-map_err : goal.returns-in_err-map_err
+returns-in_err-map_err c =
     let g = c.args in
-    times_refused g.method g.matrix (in_front g.rows g.inner g.lo.now g.up.now) (in_front g.inner g.columns g.bl.now g.bu.now)
-    c.product.ensures.left.answer c.in-Refused.is c.named.ensures
+    let e : c.from_residual.result ≡ refuses c.in_err-map_err.field-0.0 = search rules in
+    let n : c.map_err.result ≡ naming g.matrix c.product.result = named_by g.matrix _ (λ r s h. search rules) c.product.result c.map_err.result c.map_err.ensures.cases in
+    ap (λ z. in_arrays z g.lo.now g.up.now) e
+    ∙ times_refused g.method g.matrix (in_front g.rows g.inner g.lo.now g.up.now) (in_front g.inner g.columns g.bl.now g.bu.now)
+    c.product.ensures.left.answer n c.in_err-map_err.was
 
-pub returns-in-Done : goal.returns-in-Done
-returns-in-Done c =
+pub returns : goal.returns
+returns c =
     let g = c.args in
     let m = c.product.ensures.left in
+    let n : c.map_err.result ≡ naming g.matrix c.product.result = named_by g.matrix _ (λ r s h. search rules) c.product.result c.map_err.result c.map_err.ensures.cases in
     times_gives g.method g.matrix (in_front g.rows g.inner g.lo.now g.up.now) (in_front g.inner g.columns g.bl.now g.bu.now)
-    m.answer _ _ _ _ g.lo.now g.up.now _ _ c.in-Done.is m.lowers m.uppers c.copy.ensures c.copy-in-Done.ensures
+    m.answer _ _ _ _ g.lo.now g.up.now _ _ (naming_tells g.matrix c.product.result tt (sym n ∙ c.in_ok-map_err.was)) m.lowers m.uppers c.copy.ensures c.copy-2.ensures

@@ -1,17 +1,13 @@
 -- `factor::read_as` meets its contract: the reader's, with the refusal named.
-use native.Mathlib.Omega.{arith}
-use Rattle.job.proofs.Factors.{read_refused, read_gives}
-use borrow.Author.Rules.{rules}
+use Rattle.std.proofs.Common.{◌≡◌, arith, rules}
+use Rattle.refusals.specs.Answer.{naming}
+use Rattle.job.proofs.Naming.{named_by}
+use Rattle.job.proofs.Factors.{read_named}
 use Rattle.job.proofs.factor.read_as.Goals as goal
 
-pub returns-in-Sizes : goal.returns-in-Sizes
-returns-in-Sizes c =
+pub returns : goal.returns
+returns c =
     let a = c.args in
     let r = c.read.ensures in
-    read_gives a.matrix a.s.now (omega arith) (omega arith) r.answer a.lowers.now a.uppers.now c.in-Sizes.is r.below r.above
-
-pub returns-in-Refused : goal.returns-in-Refused
-returns-in-Refused c =
-    let a = c.args in
-    let r = c.read.ensures in
-    read_refused a.matrix a.s.now (omega arith) (omega arith) r.answer c.in-Refused.is c.named.ensures
+    let n : c.map_err.result ≡ naming a.matrix c.read.result = named_by a.matrix _ (λ r s h. search rules) c.read.result c.map_err.result c.map_err.ensures.cases in
+    read_named a.matrix a.s.now (omega arith) (omega arith) c.read.result c.map_err.result a.lowers.now a.uppers.now r.answer n r.below r.above

@@ -1,14 +1,10 @@
 -- `train::times_others` meets its contract: one step of the fold for each sheet.
-use mathlib.Core.Path.{◌≡◌, refl, sym, ◌∙◌}
-use Prim.Native.Nat.{suc, ◌+◌, ◌-◌, ◌≤◌}
-use native.Mathlib.Omega.{arith}
+use mathlib.Core.Path.{◌≡◌}
+use Prim.Native.Nat.{◌+◌, ◌≤◌}
 use lib.ListN.{length}
-use lib.Seq.{length-take-le}
-use borrow.Author.Rules.{rules}
 use Rattle.job.specs.Factor.{in_front}
 use Rattle.job.specs.Fold.{fold_from}
 use Rattle.job.specs.Train.{sheets_in}
-use Rattle.job.proofs.Others.{others_stop, others_columns, others_go, others_end}
 use Rattle.job.proofs.train.times_others.Given as goal
 
 abbrev pub invariant-loop-left : goal.invariant-loop-left

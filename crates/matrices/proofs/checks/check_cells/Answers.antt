@@ -1,13 +1,12 @@
 use mathlib.Core.Path.{◌≡◌, refl, sym, ap, ◌∙◌}
-use Prim.Native.Nat.{ℕ, ◌≤◌, ◌<◌, ◌-◌, ◌*◌, ◌/◌, ◌%◌}
+use Prim.Native.Nat.{ℕ, ◌<◌, ◌*◌, ◌/◌, ◌%◌}
 use native.Mathlib.Nat.{mod-lt, div-lt_iff_lt-mul}
 use native.Mathlib.Omega.{arith}
-use borrow.Author.Rules.{rules}
 use Rattle.refusals.specs.Refusal.{of_cell}
 use Rattle.refusals.specs.Answer.{refuses}
 use Rattle.matrices.specs.Matrix.{Matrix}
 use Rattle.refusals.proofs.SizeLaws.{small}
-use Rattle.matrices.proofs.CheckLaws.{Passed, passed_none, passed_more, cells_here, cells_done}
+use Rattle.matrices.proofs.CheckLaws.{passed_none, passed_more, cells_here, cells_done}
 use Rattle.matrices.proofs.checks.check_cells.Goals as goal
 
 pub overflow_mul-cells : goal.overflow_mul-cells

@@ -5,7 +5,7 @@ use Prim.Native.Nat.{ℕ, ◌+◌, ◌-◌, ◌*◌, ◌≤◌, ◌<◌}
 use lib.ListN.{length, get_or}
 use Rattle.enclosure.specs.Methods.{classical}
 use Rattle.matrices.specs.Entries.{entry_at}
-use Rattle.products.specs.declared.sums.Place.TheVariants.{Nowhere}
+use Rattle.std.specs.Prelude.{None}
 use Rattle.products.specs.Apart.{IsApart, zero_apart}
 use Rattle.products.specs.Classical.{SumsAfter}
 use Rattle.products.proofs.Rows.{WrittenTo}
@@ -22,7 +22,7 @@ decreases-loop-l l = l.k - l.l
 -- after l pairs the running value holds the lower and the upper sum over them
 abbrev pub invariant-loop-l-2 : goal.invariant-loop-l-2
 invariant-loop-l-2 l =
-    (l.l ≤ l.k) × (l.place ≡ Nowhere) × SumsAfter l.k l.n (record { lowers = l.al; uppers = l.au }) (record { lowers = l.bl; uppers = l.bu }) l.i l.j l.l l.s
+    (l.l ≤ l.k) × (l.place ≡ None) × SumsAfter l.k l.n (record { lowers = l.al; uppers = l.au }) (record { lowers = l.bl; uppers = l.bu }) l.i l.j l.l l.s
 
 abbrev pub decreases-loop-l-2 : goal.decreases-loop-l-2
 decreases-loop-l-2 l = l.k - l.l

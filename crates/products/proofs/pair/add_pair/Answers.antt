@@ -4,34 +4,24 @@ use Prim.Native.Nat.{ℕ}
 use Rattle.rounding.specs.Format.{binary32}
 use Rattle.enclosure.specs.Arithmetic.{of}
 use Rattle.enclosure.specs.RunningSums.{add_pair}
-use Rattle.refusals.specs.Answer.{Answer, gives, refuse}
-use Rattle.refusals.proofs.Answers.{passing_not}
+use Rattle.refusals.specs.Answer.{gives, refuses}
 use Rattle.products.specs.declared.apart.Apart.{Apart}
 use Rattle.products.specs.declared.sums.Sums.{Sums}
 use Rattle.products.specs.Apart.{IsApart}
 use Rattle.products.specs.Classical.{apart_cell, pattern_cell}
 use Rattle.products.specs.Running.{HoldsRange, bounds_of}
-use Rattle.products.specs.Pair.{range_of, pair_fault, pair_added}
+use Rattle.products.specs.Pair.{range_of, pair_fault}
 use Rattle.products.proofs.Pairs.{fine_taken, fine_cells, step_cells}
 use Rattle.products.proofs.AddedPair.{fault_tells, added_refused, added_given}
 use Rattle.products.proofs.pair.add_pair.Goals as goal
 
-pub returns-then-fault-ne0 : goal.returns-then-fault-ne0
-unfolding pair_added
-returns-then-fault-ne0 c =
-    let k = c.pair_fault-fault.ensures in
-    ap refuse k ∙ passing_not _ _ (λ e. c.if-fault-ne0.true (k ∙ e))
-
 pub of_bounds-requires : goal.of_bounds-requires
-of_bounds-requires c =
-    let a = c.args in
-    (fault_tells (a.lower, a.upper) (a.al, a.au) (a.bl, a.bu) (sym c.pair_fault-fault.ensures ∙ c.if-fault-ne0.false)).sums_fine
+of_bounds-requires c = (fault_tells _ _ _ (sym c.pair_fault-fault.ensures ∙ c.if-fault-ne0.false)).sums_fine
 
 pub step_pair-s-requires : goal.step_pair-s-requires
 step_pair-s-requires c =
-    let a = c.args in
-    let f = fault_tells (a.lower, a.upper) (a.al, a.au) (a.bl, a.bu) (sym c.pair_fault-fault.ensures ∙ c.if-fault-ne0.false) in
-    (c.of_bounds.ensures.0, fine_cells _ _ _ _ c.new.result (fine_taken a.al a.au c.new.result f.a_fine c.new.ensures) f.b_fine)
+    let f = fault_tells _ _ _ (sym c.pair_fault-fault.ensures ∙ c.if-fault-ne0.false) in
+    (c.of_bounds.ensures.0, fine_cells _ _ _ _ c.new.result (fine_taken _ _ c.new.result f.a_fine c.new.ensures) f.b_fine)
 
 -- what the step gives, from what its calls promise
 holds : (s a b : ℕ × ℕ) (t r : Sums) (p : Apart) → pair_fault s a b ≡ 0 → IsApart a.0 a.1 p → bounds_of t ≡ range_of s
@@ -42,18 +32,12 @@ holds s a b t r p e i k h =
 
 pub returns-then-refused : goal.returns-then-refused
 returns-then-refused c =
-    let a = c.args in
     let e = sym c.pair_fault-fault.ensures ∙ c.if-fault-ne0.false in
-    added_refused (a.lower, a.upper) (a.al, a.au) (a.bl, a.bu) c.step_pair-s.result e
-    (holds _ _ _ _ _ _ e c.new.ensures c.of_bounds.ensures.1 c.step_pair-s.ensures) (sym c.refused.ensures ∙ c.if-refused.true)
-
-abbrev bounds : ℕ → ℕ → Answer (ℕ × ℕ)
-bounds l u = gives (l, u)
+    ap refuses c.of_matrix-then-refused.ensures
+    ∙ added_refused _ _ _ c.step_pair-s.result e (holds _ _ _ _ _ _ e c.new.ensures c.of_bounds.ensures.1 c.step_pair-s.ensures) (sym c.refused.ensures ∙ c.if-refused.true)
 
 pub returns : goal.returns
 returns c =
-    let a = c.args in
     let e = sym c.pair_fault-fault.ensures ∙ c.if-fault-ne0.false in
-    ap₂ bounds c.lower.ensures c.upper.ensures
-    ∙ added_given (a.lower, a.upper) (a.al, a.au) (a.bl, a.bu) c.step_pair-s.result e
-    (holds _ _ _ _ _ _ e c.new.ensures c.of_bounds.ensures.1 c.step_pair-s.ensures) (sym c.refused.ensures ∙ c.if-refused.false)
+    ap₂ (λ (l u : ℕ). gives (l, u)) c.lower.ensures c.upper.ensures
+    ∙ added_given _ _ _ c.step_pair-s.result e (holds _ _ _ _ _ _ e c.new.ensures c.of_bounds.ensures.1 c.step_pair-s.ensures) (sym c.refused.ensures ∙ c.if-refused.false)

@@ -3,7 +3,7 @@
 use mathlib.Core.Path.{◌≡◌}
 use Prim.Native.Nat.{◌+◌, ◌-◌, ◌*◌, ◌≤◌}
 use Rattle.enclosure.specs.Methods.{seven}
-use Rattle.products.specs.declared.sums.Place.TheVariants.{Nowhere}
+use Rattle.std.specs.Prelude.{None}
 use Rattle.products.specs.MidRad.{entry_from}
 use Rattle.products.proofs.Rows.{WrittenTo}
 use Rattle.products.proofs.FourEntry.{MiddleSum}
@@ -11,7 +11,7 @@ use Rattle.products.proofs.seven.entries.Given as goal
 
 abbrev pub invariant-loop-l : goal.invariant-loop-l
 invariant-loop-l l =
-    (l.l ≤ l.k) × (l.place ≡ Nowhere) × MiddleSum (record { k = l.k; n = l.n; ma = l.ma; ra = l.ra; mb = l.mb; rb = l.rb; i = l.i; j = l.j }) l.l l.s
+    (l.l ≤ l.k) × (l.place ≡ None) × MiddleSum (record { k = l.k; n = l.n; ma = l.ma; ra = l.ra; mb = l.mb; rb = l.rb; i = l.i; j = l.j }) l.l l.s
 
 abbrev pub decreases-loop-l : goal.decreases-loop-l
 decreases-loop-l l = l.k - l.l

@@ -5,12 +5,10 @@ use mathlib.Core.List.{List}
 use Prim.Native.Nat.{ℕ, ◌≤◌, ◌<◌}
 use native.Mathlib.Omega.{arith}
 use lib.Arith.{digits_lt}
+use borrow.Author.Rules.{rules}
 use borrow.Author.Tests.{le-leb, lt-leb, lt-ltb}
-use Rattle.refusals.specs.declared.Outcome.{Outcome}
-use Rattle.refusals.specs.declared.Outcome.TheVariants as O
 use Rattle.refusals.specs.Refusal.{placed}
-use Rattle.refusals.specs.Answer.{Answer, gives, refuses, done, outcome, and_then, then}
-use Rattle.refusals.proofs.Answers.{said}
+use Rattle.refusals.specs.Answer.{Answer, gives, refuses, done, and_then, then}
 use Rattle.refusals.proofs.SizeLaws.{small}
 use Rattle.sheets.specs.declared.layout.Record.{Record}
 use Rattle.sheets.specs.declared.chain.Cell.{Cell}
@@ -60,10 +58,10 @@ module _ (kind : ℕ) (amounts : List ℕ) (rows columns least : ℕ) (r : Recor
   amounted : (x : Answer ℕ) → x ≡ cell_amount kind amounts r → verdict (and_then x (worn_cell columns r)) ≡ verdict (judge_of (cell_amount kind amounts) rows columns least r)
   amounted x e = ap (λ v. verdict (and_then v (worn_cell columns r))) e ∙ ap verdict (judge_ruled _ _ _ _ _ h k l)
 
-  -- with the amount w: by the answer o on 3, 4 and 5
-  worn : (w : ℕ) (z o : Outcome) → gives w ≡ cell_amount kind amounts r → outcome z ≡ then (widened_of r.lower r.upper w) done → z ≡ o
-      → placing r.row r.column (outcome o) ≡ verdict (judge_of (cell_amount kind amounts) rows columns least r)
-  worn w z o e f g = ap (placing r.row r.column) (said outcome f g) ∙ placing_is columns r (widened_of r.lower r.upper w) ∙ amounted (gives w) e
+  -- with the amount w: by the answer z on 3, 4 and 5
+  worn : (w : ℕ) (z : Answer (Unit {0})) → gives w ≡ cell_amount kind amounts r → z ≡ then (widened_of r.lower r.upper w) done
+      → placing r.row r.column z ≡ verdict (judge_of (cell_amount kind amounts) rows columns least r)
+  worn w z e f = ap (placing r.row r.column) f ∙ placing_is columns r (widened_of r.lower r.upper w) ∙ amounted (gives w) e
 
 pub returns-then-fault-eq6 : goal.returns-then-fault-eq6
 returns-then-fault-eq6 c =
@@ -80,15 +78,10 @@ returns-then-fault-ne0 c =
 pub wear_amount-requires : goal.wear_amount-requires
 wear_amount-requires c = sym c.wear_fault-fault.ensures ∙ c.if-fault-ne0.false
 
-pub returns-in-Done : goal.returns-in-Done
-returns-in-Done c =
+pub returns : goal.returns
+returns c =
     let a = c.args in
-    worn a.kind a.amounts.now a.rows a.columns a.least a.r c.if-row-rows.false c.if-column-columns.false c.if-position-least.false _ _ O.Done
-    (ap gives c.wear_amount.ensures ∙ amount_given _ _ _ (sym c.wear_fault-fault.ensures ∙ c.if-fault-ne0.false)) c.check_worn.ensures c.in-Done.is
-
-pub returns-in-Refused : goal.returns-in-Refused
-returns-in-Refused c =
-    let a = c.args in
-    ap refuses c.of_cell-in-Refused.ensures
-    ∙ worn a.kind a.amounts.now a.rows a.columns a.least a.r c.if-row-rows.false c.if-column-columns.false c.if-position-least.false _ _ (O.Refused _)
-    (ap gives c.wear_amount.ensures ∙ amount_given _ _ _ (sym c.wear_fault-fault.ensures ∙ c.if-fault-ne0.false)) c.check_worn.ensures c.in-Refused.is
+    let e : c.map_err.result ≡ placing a.r.row a.r.column c.check_worn.result = search rules in
+    e
+    ∙ worn a.kind a.amounts.now a.rows a.columns a.least a.r c.if-row-rows.false c.if-column-columns.false c.if-position-least.false _ _
+    (ap gives c.wear_amount.ensures ∙ amount_given _ _ _ (sym c.wear_fault-fault.ensures ∙ c.if-fault-ne0.false)) c.check_worn.ensures

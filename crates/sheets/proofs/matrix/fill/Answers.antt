@@ -3,16 +3,14 @@ use mathlib.Core.List.{List}
 use Prim.Native.Nat.{ℕ, ◌+◌, ◌-◌, ◌*◌, ◌≤◌, ◌<◌}
 use native.Mathlib.Omega.{arith}
 use lib.ListN.{length-set}
-use Rattle.refusals.specs.Answer.{gives, refuses, done}
+use Rattle.refusals.specs.Answer.{Answer, gives, refuses, done}
 use Rattle.refusals.proofs.SizeLaws.{small}
 use Rattle.sheets.specs.declared.layout.Record.{Record}
 use Rattle.sheets.specs.declared.chain.Cell.{Cell}
-use Rattle.sheets.specs.declared.chain.Step.{Step}
-use Rattle.sheets.specs.declared.chain.Step.TheVariants as S
 use Rattle.sheets.specs.Layout.{record_of}
 use Rattle.sheets.specs.Amount.{wear_fault, wear_amount, cell_amount}
 use Rattle.sheets.specs.Cell.{worn_fault}
-use Rattle.sheets.specs.Chain.{stepped, worn_cell, visit_of, Walk, more, walk}
+use Rattle.sheets.specs.Chain.{worn_cell, visit_of, Walk, more, walk}
 use Rattle.sheets.specs.Reading.{cell_lower, cell_upper}
 use Rattle.sheets.proofs.CellAmounts.{amount_given, amount_tells}
 use Rattle.sheets.proofs.Walking.{Passing, walk_passing, visit_passing, visit_position, walk_end, walk_turn}
@@ -38,15 +36,15 @@ module _ (kind : ℕ) (amounts s : List ℕ) (rows columns t index least : ℕ) 
         rw e (t.0, ap (worn_fault _ _) t.1 ∙ p.fine)
 
     -- what is visited there
-    visited : (z y : Step) → stepped z ≡ worn_cell columns r (wear_amount kind amounts r.wear) → z ≡ y → visit_of (cell_amount kind amounts) s rows columns index least ≡ stepped y
-    visited z y f g = visit_passing _ _ _ _ _ _ _ _ _ passing e (amount_given _ _ _ fine.0) f ∙ ap stepped g
+    visited : (z y : Answer Cell) → z ≡ worn_cell columns r (wear_amount kind amounts r.wear) → z ≡ y → visit_of (cell_amount kind amounts) s rows columns index least ≡ y
+    visited z y f g = visit_passing _ _ _ _ _ _ _ _ _ passing e (amount_given _ _ _ fine.0) f ∙ g
 
     -- a turn that passes the cell x
-    turned : (z : Step) (x : Cell) → rows ≤ 32 → columns ≤ 32 → stepped z ≡ worn_cell columns r (wear_amount kind amounts r.wear) → z ≡ S.Cell x
+    turned : (z : Answer Cell) (x : Cell) → rows ≤ 32 → columns ≤ 32 → z ≡ worn_cell columns r (wear_amount kind amounts r.wear) → z ≡ gives x
         → (least ≤ x.position) × (x.position < rows * columns) × (rows * columns ≤ 1024)
         × (walk (cell_amount kind amounts) s rows columns t index least ≡ more x (walk (cell_amount kind amounts) s rows columns (t - 1) x.next (x.position + 1)))
     turned z x i k f g =
-        let v = visited z (S.Cell x) f g in
+        let v = visited z (gives x) f g in
         let j = visit_position (cell_amount kind amounts) s rows columns index least x v in
         (j.0, j.1, small rows columns i k, walk_turn _ _ _ _ t (t - 1) _ _ (omega arith) n (gives x) v)
 
@@ -65,17 +63,17 @@ passed-requires c =
     let e = c.record_at.ensures in
     (omega arith, rw e (omega (arith, p.row)), rw e (omega (arith, p.column)), f.0, f.1)
 
-turn : (c : goal.In-Cell) →
+turn : (c : goal.In-Ok) →
     let a = c.args in
     let h = c.loop-index in
-    let x = c.in-Cell.c in
+    let x = c.in-Ok.c in
     (h.least ≤ x.position) × (x.position < a.rows * a.columns) × (a.rows * a.columns ≤ 1024)
     × (walk (cell_amount a.kind a.amounts.now) a.s.now a.rows a.columns h.invariant.0 h.index h.least ≡ more x (walk (cell_amount a.kind a.amounts.now) a.s.now a.rows a.columns (h.invariant.0 - 1) x.next (x.position + 1)))
 turn c =
     let a = c.args in
     let h = c.loop-index in
     turned a.kind a.amounts.now a.s.now a.rows a.columns h.invariant.0 h.index h.least (omega arith, omega arith) (omega arith) h.invariant.5 _ c.record_at.ensures _ _ c.requires.0 c.requires.1 c.passed.ensures
-    c.in-Cell.is
+    c.in-Ok.is
 
 pub offset_bounds-lowers-position : goal.offset_bounds-lowers-position
 offset_bounds-lowers-position c = let j = turn c in omega arith
@@ -109,11 +107,11 @@ loop-index-preserved c =
       put_more cell_upper _ _ _ _ j.3 ∙ h.invariant.7,
     )
 
-pub returns-in-Refused : goal.returns-in-Refused
-returns-in-Refused c =
+pub returns-in-Err : goal.returns-in-Err
+returns-in-Err c =
     let a = c.args in
     let h = c.loop-index in
-    let w = walk_turn _ _ _ _ h.invariant.0 (h.invariant.0 - 1) _ _ (omega arith) (omega arith) (refuses _) (visited a.kind a.amounts.now a.s.now a.rows a.columns h.invariant.0 h.index h.least (omega arith, omega arith) (omega arith) h.invariant.5 _ c.record_at.ensures _ _ c.passed.ensures c.in-Refused.is) in
+    let w = walk_turn _ _ _ _ h.invariant.0 (h.invariant.0 - 1) _ _ (omega arith) (omega arith) (refuses _) (visited a.kind a.amounts.now a.s.now a.rows a.columns h.invariant.0 h.index h.least (omega arith, omega arith) (omega arith) h.invariant.5 _ c.record_at.ensures _ _ c.passed.ensures c.in-Err.is) in
     (sym (put_none cell_lower _ _ _ w) ∙ h.invariant.6, sym (put_none cell_upper _ _ _ w) ∙ h.invariant.7)
 
 pub returns : goal.returns

@@ -1,13 +1,11 @@
 use mathlib.Core.Path.{◌≡◌, sym, ap, ◌∙◌}
 use Prim.Native.Nat.{ℕ, ◌+◌, ◌≤◌}
 use native.Mathlib.Omega.{arith}
+use mathlib.Core.Bool.{cond}
 use Rattle.refusals.specs.Answer.{gives, refuses}
-use Rattle.sheets.specs.declared.cell.HandedIn.TheVariants.{Zero, Cell}
-use Rattle.sheets.specs.Sheet.{tally}
-use Rattle.sheets.specs.Writing.{scan_to}
 use Rattle.sheets.proofs.Counting.{div_lt, mod_lt}
-use Rattle.sheets.proofs.Scanning.{scan_none, scan_more, scan_faulty}
-use Rattle.sheets.proofs.tally.scan.Goals.{in-Zero, in-Cell}
+use Rattle.sheets.proofs.Scanning.{scan_none, scan_counted, scan_faulty}
+use Rattle.sheets.proofs.tally.scan.Goals.{then-is_some, else-is_some}
 use Rattle.sheets.proofs.tally.scan.Goals as goal
 
 pub loop-p-init : goal.loop-p-init
@@ -23,27 +21,23 @@ overflow_cast-column c =
     let a = c.args in
     omega (arith, mod_lt c.loop-p.p a.columns (omega arith))
 
-pub returns-in-Faulty : goal.returns-in-Faulty
-returns-in-Faulty c =
+pub returns-in-Err : goal.returns-in-Err
+returns-in-Err c =
     let h = c.loop-p in
-    ap refuses c.of_cell.ensures ∙ sym (scan_faulty _ _ _ h.p _ _ _ (omega arith) h.invariant.2 (sym c.handed.ensures ∙ c.in-Faulty.is))
-
--- the cell at p is counted
-counted : (c : goal.Joined-handed) →
-    let a = c.args in
-    (c.match-handed.count ≤ c.loop-p.p + 1) × (scan_to a.columns a.lowers.now a.uppers.now (c.loop-p.p + 1) ≡ gives c.match-handed.count)
-unfolding tally
-counted c =
-    let h = c.loop-p in
-    elim c.match-handed.branch [
-      | in-Zero w ↦
-          (omega (arith, h.invariant, w.count-is), scan_more _ _ _ h.p h.count Zero h.invariant.2 (sym c.handed.ensures ∙ w.in-Zero.is) ∙ ap (λ (n : ℕ). gives n) (omega (arith, w.count-is)))
-      | in-Cell w ↦
-          (omega (arith, h.invariant, w.count-is), scan_more _ _ _ h.p h.count (Cell _ _) h.invariant.2 (sym c.handed.ensures ∙ w.in-Cell.is) ∙ ap (λ (n : ℕ). gives n) (omega (arith, w.count-is)))
-    ]
+    ap refuses c.of_cell.ensures ∙ sym (scan_faulty _ _ _ h.p _ _ _ (omega arith) h.invariant.2 (sym c.handed.ensures ∙ c.in-Err.is))
 
 pub loop-p-preserved : goal.loop-p-preserved
-loop-p-preserved c = let k = counted c in (omega arith, k.0, k.1)
+loop-p-preserved c =
+    let a = c.args in
+    let h = c.loop-p in
+    let n = c.if-is_some.count in
+    let k : (n ≤ h.count + 1) × (h.count + cond c.is_some.result 1 0 ≡ n) =
+    elim c.if-is_some.branch [
+      | then-is_some w ↦ (omega (arith, w.count-is), rw w.if-is_some.true (sym w.count-is))
+      | else-is_some w ↦ (omega (arith, w.count-is), rw w.if-is_some.false (omega (arith, w.count-is)))
+    ] in
+    let e = scan_counted a.columns a.lowers.now a.uppers.now h.p h.count _ _ _ h.invariant.2 c.handed.ensures c.in-Ok.is c.is_some.ensures in
+    (omega arith, omega (arith, k.0, h.invariant), e ∙ ap (λ (m : ℕ). gives m) k.1)
 
 pub returns : goal.returns
 returns c =

@@ -1,8 +1,0 @@
--- `binary32::partial::mul_down` meets its contract: `down_of` rounds what `product` found, which rounds as the exact value does.
-use mathlib.Core.Path.{ap, ◌∙◌}
-use Rattle.binary32.specs.Number.{hold_down}
-use borrow.Author.Rules.{rules}
-use Rattle.binary32.proofs.partial.mul_down.Goals as goal
-
-pub returns : goal.returns
-returns c = c.down_of.ensures ∙ ap hold_down c.product.ensures.downs
