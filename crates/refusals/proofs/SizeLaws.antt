@@ -4,6 +4,7 @@ use mathlib.Core.Bool.{true}
 use Prim.Native.Nat.{ℕ, ◌*◌, ◌≤◌}
 use native.Mathlib.Nat.{mul-le-mul}
 use lib.Dec.{T, leb, leb→le}
+use Rattle.refusals.specs.Reason.{WrongSize, ShortSlice}
 use Rattle.refusals.specs.Refusal.{of_matrix}
 use Rattle.refusals.specs.Answer.{done}
 use Rattle.refusals.specs.Sizes.{sized, check_size, check_lengths, check_fit}
@@ -17,7 +18,7 @@ module _ (rows columns : ℕ) where
   pub size_tells : (matrix : ℕ) → check_size matrix rows columns ≡ done → (1 ≤ rows) × (rows ≤ 32) × (1 ≤ columns) × (columns ≤ 32)
   unfolding check_size
   size_tells matrix e =
-      let a = and_tells (leb 1 rows) _ (unless_tells (sized rows columns) (of_matrix 1 matrix) e) in
+      let a = and_tells (leb 1 rows) _ (unless_tells (sized rows columns) (of_matrix WrongSize matrix) e) in
       let b = and_tells (leb rows 32) _ a.1 in
       let c = and_tells (leb 1 columns) _ b.1 in
       (is_le 1 rows a.0, is_le rows 32 b.0, is_le 1 columns c.0, is_le columns 32 c.1)
@@ -27,7 +28,7 @@ module _ (matrix cells lowers uppers : ℕ) where
   pub lengths_tell : check_lengths matrix cells lowers uppers ≡ done → (cells ≤ lowers) × (cells ≤ uppers)
   unfolding check_lengths
   lengths_tell e =
-      let s = and_tells (leb cells lowers) (leb cells uppers) (unless_tells _ (of_matrix 2 matrix) e) in
+      let s = and_tells (leb cells lowers) (leb cells uppers) (unless_tells _ (of_matrix ShortSlice matrix) e) in
       (is_le cells lowers s.0, is_le cells uppers s.1)
 
 -- ---- both

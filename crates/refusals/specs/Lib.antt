@@ -1,3 +1,4 @@
+pub mod Reason
 pub mod Refusal
 pub mod Answer
 pub mod Sizes

@@ -1,5 +1,6 @@
--- The checks of one matrix for refusals 1 (sizes) and 2 (slice lengths). Definitions only (01, "When a call is turned down").
+-- The checks of one matrix for refusals 1 (sizes) and 2 (slice lengths). Definitions only.
 use Rattle.std.specs.Prelude.{Bool, false, cond, ℕ, ◌*◌, leb}
+use Rattle.refusals.specs.Reason.{WrongSize, ShortSlice}
 use Rattle.refusals.specs.Refusal.{of_matrix}
 use Rattle.refusals.specs.Answer.{Answer, unless, then}
 
@@ -16,11 +17,11 @@ sized rows columns = cond (leb 1 rows) (cond (leb rows largest_size) (cond (leb 
 
 -- refusal 1: a size is not from 1 to 32
 unfoldable pub check_size : ℕ → ℕ → ℕ → Answer (Unit {0})
-check_size matrix rows columns = unless (sized rows columns) (of_matrix 1 matrix)
+check_size matrix rows columns = unless (sized rows columns) (of_matrix WrongSize matrix)
 
 -- refusal 2: one of the two slices, with `lowers` and `uppers` words, is shorter than the number of cells
 unfoldable pub check_lengths : ℕ → ℕ → ℕ → ℕ → Answer (Unit {0})
-check_lengths matrix cells lowers uppers = unless (cond (leb cells lowers) (leb cells uppers) false) (of_matrix 2 matrix)
+check_lengths matrix cells lowers uppers = unless (cond (leb cells lowers) (leb cells uppers) false) (of_matrix ShortSlice matrix)
 
 -- refusal 1, then 2
 unfoldable pub check_fit : ℕ → ℕ → ℕ → ℕ → ℕ → Answer (Unit {0})

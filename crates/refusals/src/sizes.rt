@@ -3,6 +3,7 @@ ghost use Rattle.std.specs.Prelude.{◌≡◌};
 ghost use Rattle.refusals.specs.Sizes.{sized, check_size, check_lengths, check_fit};
 
 use crate::Refusal;
+use crate::reason::Reason;
 
 // The most rows or columns of a matrix.
 pub const LARGEST_SIZE: usize = 32;
@@ -25,7 +26,7 @@ pub fn check_size(matrix: u8, rows: usize, columns: usize) -> Result<(), Refusal
     if are_sizes(rows, columns) {
         return Ok(());
     }
-    Err(Refusal::of_matrix(1, matrix))
+    Err(Refusal::of_matrix(Reason::WrongSize, matrix))
 }
 
 // Refusal 2 where a slice is shorter than the matrix has cells.
@@ -34,7 +35,7 @@ pub fn check_lengths(matrix: u8, cells: usize, lowers: usize, uppers: usize) -> 
     ensures { result ≡ check_lengths matrix cells lowers uppers }
 {
     if lowers < cells || uppers < cells {
-        return Err(Refusal::of_matrix(2, matrix));
+        return Err(Refusal::of_matrix(Reason::ShortSlice, matrix));
     }
     Ok(())
 }
