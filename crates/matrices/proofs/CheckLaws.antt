@@ -1,12 +1,13 @@
 -- The checks of a product: one law for each way that the code returns.
 use mathlib.Core.Path.{◌≡◌, sym, ap, ◌∙◌}
-use mathlib.Core.Bool.{Bool, not, cond}
+use mathlib.Core.Bool.{Bool, cond}
 use Prim.Native.Nat.{ℕ, ◌+◌, ◌*◌, ◌/◌, ◌%◌, ◌<◌}
 use native.Mathlib.Omega.{arith}
 use lib.Dec.{ltb}
-use borrow.Author.Tests.{lt-ltb, le-ltb, ne_eqb}
+use borrow.Author.Tests.{lt-ltb, le-ltb}
+use Rattle.refusals.specs.declared.reason.Reason.{Reason}
 use Rattle.refusals.specs.Refusal.{of_cell}
-use Rattle.refusals.specs.Answer.{Answer, refuses, done}
+use Rattle.refusals.specs.Answer.{Answer, refuses, done, at_cell}
 use Rattle.matrices.specs.Lists.{first}
 use Rattle.matrices.specs.Matrix.{Matrix, fault_at}
 use Rattle.matrices.specs.Checks.{faulty, check_cells}
@@ -24,7 +25,7 @@ module _ (X : Matrix) where
   pub passed_none : Passed 0
   passed_none = first_none test
 
-  pub passed_more : (c : ℕ) → Passed c → fault_at X c ≡ 0 → Passed (c + 1)
+  pub passed_more : (c : ℕ) → Passed c → fault_at X c ≡ done → Passed (c + 1)
   passed_more c h e = first_more test c h (ap faulty e)
 
 module _ (matrix rows columns : ℕ) (X : Matrix) where
@@ -32,17 +33,17 @@ module _ (matrix rows columns : ℕ) (X : Matrix) where
   n = rows * columns
 
   abbrev at : ℕ → Answer (Unit {0})
-  at c = refuses (of_cell (fault_at X c) matrix (c / columns) (c % columns))
+  at c = at_cell matrix (c / columns) (c % columns) (fault_at X c)
 
   abbrev by_position : ℕ → Answer (Unit {0})
   by_position c = cond (ltb c n) (at c) done
 
-  pub cells_here : (c : ℕ) → Passed X c → c < rows * columns → (fault_at X c ≡ 0 → ⊥)
-      → refuses (of_cell (fault_at X c) matrix (c / columns) (c % columns)) ≡ check_cells matrix rows columns X
+  pub cells_here : (c : ℕ) (reason : Reason) → Passed X c → c < rows * columns → refuses reason ≡ fault_at X c
+      → refuses (of_cell reason matrix (c / columns) (c % columns)) ≡ check_cells matrix rows columns X
   unfolding check_cells
-  cells_here c h l t =
-      let s : first (test X) n ≡ c = first_here (test X) c n h (ap not (ne_eqb (fault_at X c) 0 t)) l in
-      sym (ap by_position s ∙ ap (λ u. cond u (at c) done) (lt-ltb c n l))
+  cells_here c reason h l t =
+      let s : first (test X) n ≡ c = first_here (test X) c n h (sym (ap faulty t)) l in
+      ap (at_cell matrix (c / columns) (c % columns)) t ∙ sym (ap by_position s ∙ ap (λ u. cond u (at c) done) (lt-ltb c n l))
 
   pub cells_done : Passed X (rows * columns) → done ≡ check_cells matrix rows columns X
   unfolding check_cells

@@ -1,27 +1,27 @@
 -- What an accepted check tells: the method, the sizes, the slices' lengths, and that every cell is a pair of numbers in order.
-use mathlib.Core.Path.{◌≡◌, refl, sym, subst}
+use mathlib.Core.Path.{◌≡◌, refl, sym, ap, subst, ◌∙◌}
 use mathlib.Core.Bool.{Bool, true, false, not, cond}
 use mathlib.Core.Option.{Option, none, some}
 use Prim.Native.Nat.{ℕ, ◌*◌, ◌/◌, ◌%◌, ◌≤◌}
 use native.Mathlib.Omega.{arith}
-use lib.Dec.{T, ltb, eqb, eqb→eq, nltb→le}
+use lib.Dec.{T, ltb, eqb, eqb→eq, ltb→lt, nltb→le}
 use lib.ListN.{length}
-use borrow.Author.Tests.{eqb-true}
 use Rattle.enclosure.specs.Methods.{Method}
-use Rattle.refusals.specs.Refusal.{of_matrix, of_cell}
-use Rattle.refusals.specs.Answer.{refuses, done}
+use Rattle.refusals.specs.declared.reason.Reason.TheVariants.{UnknownMethod, WrongSize}
+use Rattle.refusals.specs.Refusal.{of_matrix}
+use Rattle.refusals.specs.Answer.{Judged, gives, refuses, done, at_cell}
 use Rattle.refusals.specs.Sizes.{check_size, check_lengths}
-use Rattle.refusals.proofs.Answers.{not_both, then_tells, unless_tells}
+use Rattle.refusals.proofs.Answers.{placed_tells, then_tells, unless_tells}
 use Rattle.refusals.proofs.SizeLaws.{size_tells, lengths_tell}
 use Rattle.matrices.specs.Lists.{first}
 use Rattle.matrices.specs.Matrix.{Matrix, fault_at, AllFine}
 use Rattle.matrices.specs.Checks.{Given, Covered, method_of, known, check_method, check_sizes, check_operands, check_lent, check_slices, faulty, check_cells, check_both, check_shapes, check_of}
-use Rattle.matrices.proofs.Firsts.{first_le, first_before}
+use Rattle.matrices.proofs.Firsts.{first_le, first_before, first_holds}
 
 -- ---- 9
 pub method_tells : (n : ℕ) → check_method n ≡ done → (m : Method) × (method_of n ≡ some m)
 unfolding check_method
-method_tells n e = go (method_of n) (unless_tells (known (method_of n)) (of_matrix 9 0) e)
+method_tells n e = go (method_of n) (unless_tells (known (method_of n)) (of_matrix UnknownMethod 0) e)
   where
     go : (o : Option Method) → known o ≡ true → (m : Method) × (o ≡ some m)
     go (some m) e = (m, refl)
@@ -55,7 +55,7 @@ sizes_tell ar ac br bc e =
       b_rows_below = b.1;
       b_columns_above = b.2;
       b_columns_below = b.3;
-      inner = eqb→eq ac br (subst T (sym (unless_tells (eqb ac br) (of_matrix 1 2) u.1)) tt);
+      inner = eqb→eq ac br (subst T (sym (unless_tells (eqb ac br) (of_matrix WrongSize 2) u.1)) tt);
     }
 
 -- ---- 2
@@ -86,12 +86,12 @@ slices_tell g e =
 
 -- ---- 3 and 4
 
-not_faulty : (n : ℕ) → faulty n ≡ false → n ≡ 0
-not_faulty n t = go (eqb n 0) refl t
-  where
-    go : (b : Bool) → eqb n 0 ≡ b → not b ≡ false → n ≡ 0
-    go true e t = eqb-true n 0 e
-    go false e t = let z : ◌≡◌ {A = ℕ} 0 1 = cc in absurd (omega arith)
+not_faulty : (v : Judged (Unit {0})) → faulty v ≡ false → v ≡ done
+not_faulty (gives tt) t = refl
+not_faulty (refuses n) t = let z : ◌≡◌ {A = ℕ} 0 1 = cc in absurd (omega arith)
+
+is_faulty : (v : Judged (Unit {0})) → v ≡ done → faulty v ≡ true → ⊥
+is_faulty v e t = let z : false ≡ true = sym (ap faulty e) ∙ t in let y : ◌≡◌ {A = ℕ} 0 1 = cc in omega arith
 
 pub cells_tell : (matrix rows columns : ℕ) (X : Matrix) → check_cells matrix rows columns X ≡ done → AllFine X (rows * columns)
 unfolding check_cells
@@ -103,14 +103,14 @@ cells_tell matrix rows columns X e c l = not_faulty (fault_at X c) (first_before
     test : ℕ → Bool
     test c = faulty (fault_at X c)
 
-    go : (t : Bool) → (T (not t) → n ≤ first test n)
-        → cond t (refuses (of_cell (fault_at X (first test n)) matrix (first test n / columns) (first test n % columns))) done ≡ done → n ≤ first test n
-    go true g e = absurd (not_both e)
-    go false g e = g tt
+    go : (t : Bool) → (T (not t) → n ≤ first test n) → (T t → first test n < n)
+        → cond t (at_cell matrix (first test n / columns) (first test n % columns) (fault_at X (first test n))) done ≡ done → n ≤ first test n
+    go true g l e = absurd (is_faulty _ (placed_tells _ _ _ _ tt e) (first_holds test n (l tt)))
+    go false g l e = g tt
 
     all : first test n ≡ n
     all =
-        let h : n ≤ first test n = go (ltb (first test n) n) (nltb→le (first test n) n) e in
+        let h : n ≤ first test n = go (ltb (first test n) n) (nltb→le (first test n) n) (ltb→lt (first test n) n) e in
         let i : first test n ≤ n = first_le test n in
         omega arith
 

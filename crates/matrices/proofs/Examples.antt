@@ -1,5 +1,4 @@
--- The lines of 01 that are marked *, as one statement about a table: what the definitions give is what the paper states. Numbers are patterns.
--- The line of a midpoint that is rounded is that of 02, P2.
+-- The worked examples of the papers, as one statement about a table: what the definitions give is what the papers state. Numbers are patterns.
 use mathlib.Core.Path.{◌≡◌, refl}
 use mathlib.Core.List.{List, [], ◌∷◌, ◌++◌, map}
 use mathlib.Core.Option.{bind}
@@ -13,7 +12,9 @@ use Rattle.enclosure.specs.Sums.{sum}
 use Rattle.enclosure.specs.Conversion.{mid, rad}
 use Rattle.enclosure.specs.Methods.{entry, entry₁, ends, radius₃, radius₄, radius₇, centre, centre₇, total}
 use Rattle.enclosure.specs.Methods.{least_term, greatest_term, inner_term, outer_radius, outer_term, raised_radius, raised_term, shared_term, mid_term, part_term, part}
-use Rattle.refusals.specs.Answer.{Answer, gives, refuse, and_then, then}
+use Rattle.refusals.specs.declared.reason.Reason.{Reason}
+use Rattle.refusals.specs.declared.reason.Reason.TheVariants.{TooLarge}
+use Rattle.refusals.specs.Answer.{Answer, Judged, gives, refuse, unplaced, and_then, then}
 use Rattle.refusals.specs.Sizes.{check_size, check_lengths}
 use Rattle.binary32.specs.Number.{value_of, held, negated}
 use Rattle.binary32.specs.Operations.{with₂, answer, add_down, add_up, add_near, mul_down, mul_up}
@@ -29,11 +30,11 @@ pub record Line : Type 0 where
   pub found : Answer (List ℕ)
   pub stated : Answer (List ℕ)
 
-abbrev one : Answer ℕ → Answer (List ℕ)
-one a = and_then a (λ p. gives (p ∷ []))
+abbrev one : Judged ℕ → Answer (List ℕ)
+one a = and_then (unplaced a) (λ p. gives (p ∷ []))
 
-abbrev two : Answer (ℕ × ℕ) → Answer (List ℕ)
-two a = and_then a (λ p. gives (p.0 ∷ p.1 ∷ []))
+abbrev two : Judged (ℕ × ℕ) → Answer (List ℕ)
+two a = and_then (unplaced a) (λ p. gives (p.0 ∷ p.1 ∷ []))
 
 -- [al, au] × [bl, bu], one row and one column
 abbrev product : ℕ → (al au bl bu : ℕ) → Answer (List ℕ)
@@ -44,8 +45,8 @@ product method al au bl bu =
 abbrev is : Answer (List ℕ) → List ℕ → Line
 is found stated = record { found = found; stated = gives stated }
 
-abbrev refused : Answer (List ℕ) → ℕ → Line
-refused found number = record { found = found; stated = refuse number }
+abbrev refused : Answer (List ℕ) → Reason → Line
+refused found reason = record { found = found; stated = refuse reason }
 
 unfoldable pub table : List Line
 table =
@@ -54,8 +55,8 @@ table =
     ∷ is (one (add_down 0x3F800000 0x33800000)) (0x3F800000 ∷ [])
     ∷ is (one (add_near 0x3F800000 0x33800000)) (0x3F800000 ∷ [])
     -- MAX + 2^103 nearest: 5. MAX + 1 unit: up 5, down MAX
-    ∷ refused (one (add_near 0x7F7FFFFF 0x73000000)) 5
-    ∷ refused (one (add_up 0x7F7FFFFF 1)) 5
+    ∷ refused (one (add_near 0x7F7FFFFF 0x73000000)) TooLarge
+    ∷ refused (one (add_up 0x7F7FFFFF 1)) TooLarge
     ∷ is (one (add_down 0x7F7FFFFF 1)) (0x7F7FFFFF ∷ [])
     -- one unit × one unit: up one unit, down 0. Minus one unit × one unit: down minus one unit, up 0
     ∷ is (one (mul_up 1 1)) (1 ∷ [])

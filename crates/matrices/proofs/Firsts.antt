@@ -39,6 +39,24 @@ module _ (test : ℕ → Bool) where
       let y : suc c + (n - suc c) ≡ n = omega arith in
       subst (λ t. first test t ≡ c) y (stays c (n - suc c) h g)
 
+  -- where one is met, the test holds there
+  pub first_holds : (n : ℕ) → first test n < n → test (first test n) ≡ true
+  unfolding first
+  first_holds zero h = absurd (none h)
+    where
+      none : zero < zero → ⊥
+      none h = omega arith
+  first_holds (suc n) h = go (ltb (first test n) n) (test n) (λ t. first_holds n (ltb→lt (first test n) n t)) refl h
+    where
+      go : (t u : Bool) → (T t → test (first test n) ≡ true) → test n ≡ u → cond t (first test n) (cond u n (suc n)) < suc n
+          → test (cond t (first test n) (cond u n (suc n))) ≡ true
+      go true u f g h = f tt
+      go false true f g h = g
+      go false false f g h = absurd (none h)
+        where
+          none : suc n < suc n → ⊥
+          none h = omega arith
+
   pub first_le : (n : ℕ) → first test n ≤ n
   unfolding first
   first_le zero = omega arith

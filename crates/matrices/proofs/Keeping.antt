@@ -17,6 +17,7 @@ use Rattle.binary32.specs.Number.{value_of}
 use Rattle.binary32.proofs.Held.{pattern_value}
 use Rattle.intervals.specs.Conversion.{fault_of}
 use Rattle.intervals.proofs.Faults.{fine_tells}
+use Rattle.refusals.specs.declared.reason.Reason.TheVariants.{TooLarge}
 use Rattle.refusals.specs.Refusal.{of_cell}
 use Rattle.refusals.specs.Answer.{Answer, refuses, done}
 use Rattle.refusals.proofs.Answers.{not_both, then_tells}
@@ -45,12 +46,12 @@ accepted none h = absurd (no h)
     no e = subst (λ x. cond x (Unit {0}) ⊥) e tt
 
 -- ---- a cell without a fault
-pub fine_valid : (lo hi : ℕ) → fault_of lo hi ≡ 0 → Valid binary32 (cell_of (of binary32) (value_of lo) (value_of hi))
+pub fine_valid : (lo hi : ℕ) → fault_of lo hi ≡ done → Valid binary32 (cell_of (of binary32) (value_of lo) (value_of hi))
 fine_valid lo hi h =
     let o = fine_tells lo hi h in
     record { low_number = o.low_num; high_number = o.high_num; ordered = o.order; converted = refl }
 
-valid : (X : Matrix) (c : ℕ) → fault_at X c ≡ 0 → Valid binary32 (cell_at X c)
+valid : (X : Matrix) (c : ℕ) → fault_at X c ≡ done → Valid binary32 (cell_at X c)
 unfolding cell_at
 valid X c = fine_valid (lower_at X c) (upper_at X c)
 
@@ -111,7 +112,7 @@ module _ (g : Given) where
       let t = then_tells (check_of g) _ tt e in
       (t.0.1, whole (ltb (stop g) (cells g)) refl t.1)
     where
-      whole : (b : Bool) → ltb (stop g) (cells g) ≡ b → cond b (refuses (of_cell 5 3 (stop g / g.b_columns) (stop g % g.b_columns))) done ≡ done → stop g ≡ cells g
+      whole : (b : Bool) → ltb (stop g) (cells g) ≡ b → cond b (refuses (of_cell TooLarge 3 (stop g / g.b_columns) (stop g % g.b_columns))) done ≡ done → stop g ≡ cells g
       whole true t e = absurd (not_both e)
       whole false t e =
           let h : cells g ≤ stop g = ltb-false (stop g) (cells g) t in

@@ -1,9 +1,10 @@
--- The checks of a product before it computes anything, in their order. Definitions only (01, "When a call is turned down").
-use Rattle.std.specs.Prelude.{Bool, true, false, not, cond, List, ℕ, ◌*◌, ◌/◌, ◌%◌, ◌≤◌, ◌<◌, ltb, eqb, length}
+-- The checks of a product before it computes anything, in their order. Definitions only.
+use Rattle.std.specs.Prelude.{Bool, true, false, cond, List, ℕ, ◌*◌, ◌/◌, ◌%◌, ◌≤◌, ◌<◌, ltb, eqb, length}
 use Rattle.std.proofs.Math.Option.{Option, none, some, get_or}
 use Rattle.enclosure.specs.Methods.{Method, classical, three, four, five, seven}
-use Rattle.refusals.specs.Refusal.{of_matrix, of_cell}
-use Rattle.refusals.specs.Answer.{Answer, refuses, done, unless, then}
+use Rattle.refusals.specs.declared.reason.Reason.TheVariants.{UnknownMethod, WrongSize}
+use Rattle.refusals.specs.Refusal.{of_matrix}
+use Rattle.refusals.specs.Answer.{Answer, Judged, gives, refuses, done, at_cell, unless, then}
 use Rattle.refusals.specs.Sizes.{check_size, check_lengths}
 use Rattle.matrices.specs.Lists.{first}
 use Rattle.matrices.specs.Matrix.{Matrix, of_bounds, fault_at}
@@ -63,11 +64,11 @@ known (some m) = true
 known none = false
 
 unfoldable pub check_method : ℕ → Answer (Unit {0})
-check_method n = unless (known (method_of n)) (of_matrix 9 0)
+check_method n = unless (known (method_of n)) (of_matrix UnknownMethod 0)
 
 -- ---- refusal 1: A's sizes (matrix 1), then B's sizes or the mismatch of A's columns and B's rows (matrix 2)
 unfoldable pub check_sizes : ℕ → ℕ → ℕ → ℕ → Answer (Unit {0})
-check_sizes ar ac br bc = then (check_size 1 ar ac) (then (check_size 2 br bc) (unless (eqb ac br) (of_matrix 1 2)))
+check_sizes ar ac br bc = then (check_size 1 ar ac) (then (check_size 2 br bc) (unless (eqb ac br) (of_matrix WrongSize 2)))
 
 -- ---- refusal 2: a slice is shorter than its cells; in this order A's (matrix 1), B's (2), work slices (0, for method 1 too), result (3)
 unfoldable pub check_operands : (a b : ℕ) → Matrix → Matrix → Answer (Unit {0})
@@ -84,13 +85,14 @@ check_slices g =
     then (check_operands a b g.A g.B) (check_lent a b c g.a_mids g.a_rads g.b_mids g.b_rads g.lowers g.uppers)
 
 -- ---- refusals 3 and 4: the first faulty cell by rows; at each cell 3 before 4
-abbrev pub faulty : ℕ → Bool
-faulty n = not (eqb n 0)
+abbrev pub faulty : Judged (Unit {0}) → Bool
+faulty (gives v) = false
+faulty (refuses n) = true
 
 unfoldable pub check_cells : ℕ → ℕ → ℕ → Matrix → Answer (Unit {0})
 check_cells matrix rows columns X =
     let c = first (λ c. faulty (fault_at X c)) (rows * columns) in
-    cond (ltb c (rows * columns)) (refuses (of_cell (fault_at X c) matrix (c / columns) (c % columns))) done
+    cond (ltb c (rows * columns)) (at_cell matrix (c / columns) (c % columns) (fault_at X c)) done
 
 -- A's cells, then B's
 unfoldable pub check_both : (ar ac br bc : ℕ) → Matrix → Matrix → Answer (Unit {0})

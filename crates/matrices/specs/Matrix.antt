@@ -5,6 +5,7 @@ use Rattle.enclosure.specs.Arithmetic.{of}
 use Rattle.enclosure.specs.Cell.{Cell}
 use Rattle.enclosure.specs.Conversion.{cell_of}
 use Rattle.binary32.specs.Number.{value_of}
+use Rattle.refusals.specs.Answer.{Judged, done}
 use Rattle.intervals.specs.Conversion.{fault_of, mid_of, rad_of}
 
 pub record Matrix : Type 0 where
@@ -32,10 +33,10 @@ module _ (X : Matrix) where
   abbrev pub rad_at : ℕ → ℕ
   rad_at c = rad_of (lower_at c) (upper_at c)
 
-  -- the fault of the cell at position c: 3, 4, or 0 for none
-  abbrev pub fault_at : ℕ → ℕ
+  -- the fault of the cell at position c, or none
+  abbrev pub fault_at : ℕ → Judged (Unit {0})
   fault_at c = fault_of (lower_at c) (upper_at c)
 
 -- the first n cells have no fault
 abbrev pub AllFine : Matrix → ℕ → Type 0
-AllFine X n = (c : ℕ) → c < n → fault_at X c ≡ 0
+AllFine X n = (c : ℕ) → c < n → fault_at X c ≡ done

@@ -1,7 +1,8 @@
--- The answer of a product, and the lent slices afterwards, for all arguments. Definitions only (01, "Four products", "When a call is turned down").
+-- The answer of a product, and the lent slices afterwards, for all arguments. Definitions only.
 use Rattle.std.specs.Prelude.{◌≡◌, cond, List, ℕ, ◌*◌, ◌/◌, ◌%◌, ltb, eqb}
 use Rattle.std.proofs.Math.Option.{Option}
 use Rattle.enclosure.specs.Methods.{Range}
+use Rattle.refusals.specs.declared.reason.Reason.TheVariants.{TooLarge}
 use Rattle.refusals.specs.Refusal.{of_cell}
 use Rattle.refusals.specs.Answer.{Answer, refuses, done, then, unless_refused}
 use Rattle.intervals.specs.Slices.{zeros}
@@ -24,7 +25,7 @@ stop g = stop_of (entries g) (cells g)
 
 -- the answer: the refusal of a check, or refusal 5 with the row and column of the first refused entry, or done
 unfoldable pub product_of : Given → Answer (Unit {0})
-product_of g = then (check_of g) (cond (ltb (stop g) (cells g)) (refuses (of_cell 5 3 (stop g / g.b_columns) (stop g % g.b_columns))) done)
+product_of g = then (check_of g) (cond (ltb (stop g) (cells g)) (refuses (of_cell TooLarge 3 (stop g / g.b_columns) (stop g % g.b_columns))) done)
 
 -- ---- the lent slices afterwards: a refusal by a check leaves them as they were
 

@@ -1,22 +1,24 @@
 // The checks of a product on its matrices: their sizes (refusal 1), and each cell (refusals 3 and 4).
 ghost use Rattle.std.specs.Prelude.{◌≡◌, eqb};
 ghost use Rattle.refusals.specs.Answer.{unless};
+ghost use Rattle.refusals.specs.declared.reason.Reason.TheVariants.{WrongSize};
 ghost use Rattle.refusals.specs.Refusal.{of_matrix};
 ghost use Rattle.matrices.specs.Matrix.{of_bounds};
 ghost use Rattle.matrices.specs.Checks.{Covered, check_sizes, check_cells};
 
 use intervals::check;
 use refusals::Refusal;
+use refusals::reason::Reason;
 use refusals::sizes::check_size;
 
 // Refusal 1 where A's columns are not as many as B's rows.
 fn check_inner(a_columns: usize, b_rows: usize) -> Result<(), Refusal>
-    ensures { result ≡ unless (eqb a_columns b_rows) (of_matrix 1 2) }
+    ensures { result ≡ unless (eqb a_columns b_rows) (of_matrix WrongSize 2) }
 {
     if a_columns == b_rows {
         return Ok(());
     }
-    Err(Refusal::of_matrix(1, 2))
+    Err(Refusal::of_matrix(Reason::WrongSize, 2))
 }
 
 // Refusal 1 for A's sizes, then for B's, then for the mismatch of the two.
@@ -35,6 +37,7 @@ pub fn check_sizes(
 }
 
 // Refusal 3 or 4 for the first faulty cell by rows.
+#[tactic(auto, using(refusals::proofs::SizeLaws::small, crate::proofs::CheckLaws::passed_none, crate::proofs::CheckLaws::passed_more, crate::proofs::CheckLaws::cells_done))]
 pub fn check_cells(
     matrix: u8,
     rows: usize,
@@ -45,16 +48,12 @@ pub fn check_cells(
     requires { Covered rows columns lowers.now uppers.now }
     ensures { result ≡ check_cells matrix rows columns (of_bounds lowers.now uppers.now) }
 {
-    let cells = rows * columns;
-    let mut c = 0;
-    while c < cells {
-        let fault = check(lowers[c], uppers[c]);
-        if fault != 0 {
+    for c in 0..rows * columns {
+        if let Err(reason) = check(lowers[c], uppers[c]) {
             let row = (c / columns) as u8;
             let column = (c % columns) as u8;
-            return Err(Refusal::of_cell(fault, matrix, row, column));
+            return Err(Refusal::of_cell(reason, matrix, row, column));
         }
-        c += 1;
     }
     Ok(())
 }

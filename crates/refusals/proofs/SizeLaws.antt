@@ -4,7 +4,7 @@ use mathlib.Core.Bool.{true}
 use Prim.Native.Nat.{ℕ, ◌*◌, ◌≤◌}
 use native.Mathlib.Nat.{mul-le-mul}
 use lib.Dec.{T, leb, leb→le}
-use Rattle.refusals.specs.Reason.{WrongSize, ShortSlice}
+use Rattle.refusals.specs.declared.reason.Reason.TheVariants.{WrongSize, ShortSlice}
 use Rattle.refusals.specs.Refusal.{of_matrix}
 use Rattle.refusals.specs.Answer.{done}
 use Rattle.refusals.specs.Sizes.{sized, check_size, check_lengths, check_fit}

@@ -1,7 +1,7 @@
 -- The number of each reason for a refusal. Definitions only.
 use Rattle.std.specs.Prelude.{ℕ}
 use Rattle.refusals.specs.declared.reason.Reason.{Reason}
-pub use Rattle.refusals.specs.declared.reason.Reason.TheVariants.{WrongSize, ShortSlice, NotFinite, Crossed, TooLarge, WrongLayout, Outside, NotRising, UnknownMethod, UnknownClass, NoRoom, WrongCount, WrongLoad, NegativeAmount}
+use Rattle.refusals.specs.declared.reason.Reason.TheVariants.{WrongSize, ShortSlice, NotFinite, Crossed, TooLarge, WrongLayout, Outside, NotRising, UnknownMethod, UnknownClass, NoRoom, WrongCount, WrongLoad, NegativeAmount}
 
 abbrev pub number_of : Reason → ℕ
 number_of WrongSize = 1

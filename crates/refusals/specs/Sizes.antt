@@ -1,6 +1,6 @@
 -- The checks of one matrix for refusals 1 (sizes) and 2 (slice lengths). Definitions only.
 use Rattle.std.specs.Prelude.{Bool, false, cond, ℕ, ◌*◌, leb}
-use Rattle.refusals.specs.Reason.{WrongSize, ShortSlice}
+use Rattle.refusals.specs.declared.reason.Reason.TheVariants.{WrongSize, ShortSlice}
 use Rattle.refusals.specs.Refusal.{of_matrix}
 use Rattle.refusals.specs.Answer.{Answer, unless, then}
 
