@@ -7,7 +7,8 @@ use Prim.Native.Nat.{ℕ, ◌<◌}
 use lib.IntN.{ℤ}
 use Rattle.rounding.specs.Format.{binary32}
 use Rattle.rounding.specs.Rounding.{up, down, near}
-use Rattle.refusals.specs.Answer.{Answer, gives, refuse}
+use Rattle.refusals.specs.declared.reason.Reason.TheVariants.{NotFinite, TooLarge}
+use Rattle.refusals.specs.Answer.{Judged, gives, refuses}
 use Rattle.binary32.specs.declared.parts.Parts.{Parts}
 use Rattle.binary32.specs.declared.funnel.Ways.{Ways}
 use Rattle.binary32.specs.declared.exact.Exact.TheVariants.{Value, Unknown}
@@ -59,19 +60,19 @@ pub checked_is : (op : ℤ → ℤ → Option ℤ) (a b z : ℕ) → finite z �
 unfolding checked_of answer Fits
 checked_is op a b z f n = go (finites a b) refl
   where
-    told : (m : Option ℤ) → Fits m → cond (finite (hold z m)) (gives (hold z m)) (refuse 5) ≡ answer_of m
-    told none k = ap (λ t. cond t (gives z) (refuse 5)) f
-    told (some v) k = ap (λ t. cond t (gives (hold z (some v))) (refuse 5)) (is_finite (hold z (some v)) (pattern_finite (k v refl)))
+    told : (m : Option ℤ) → Fits m → cond (finite (hold z m)) (gives (hold z m)) (refuses TooLarge) ≡ answer_of m
+    told none k = ap (λ t. cond t (gives z) (refuses TooLarge)) f
+    told (some v) k = ap (λ t. cond t (gives (hold z (some v))) (refuses TooLarge)) (is_finite (hold z (some v)) (pattern_finite (k v refl)))
 
     go : (t : Bool) → finites a b ≡ t
-        → cond t (cond (finite (hold z (with₂ op a b))) (gives (hold z (with₂ op a b))) (refuse 5)) (refuse 3)
-        ≡ cond t (answer_of (op (value_of a) (value_of b))) (refuse 3)
-    go true e = ap (λ m. cond (finite (hold z m)) (gives (hold z m)) (refuse 5)) (with_some op a b e) ∙ told (op (value_of a) (value_of b)) n
+        → cond t (cond (finite (hold z (with₂ op a b))) (gives (hold z (with₂ op a b))) (refuses TooLarge)) (refuses NotFinite)
+        ≡ cond t (answer_of (op (value_of a) (value_of b))) (refuses NotFinite)
+    go true e = ap (λ m. cond (finite (hold z m)) (gives (hold z m)) (refuses TooLarge)) (with_some op a b e) ∙ told (op (value_of a) (value_of b)) n
     go false e = refl
 
 -- the same in one direction, of the whole number F x y in units of 1 / D
 pub answered : {way : Way} {picked : Ways → ℤ} {z below above : ℕ} → DirectionLaws way picked z below above
-    → (D : ℕ) (F : ℤ → ℤ → ℤ) (a b : ℕ) {p : ℕ} {r : Answer ℕ} → 0 < D → r ≡ checked_of a b p → p ≡ hold z (with₂ (λ x y. way binary32 D (F x y)) a b)
+    → (D : ℕ) (F : ℤ → ℤ → ℤ) (a b : ℕ) {p : ℕ} {r : Judged ℕ} → 0 < D → r ≡ checked_of a b p → p ≡ hold z (with₂ (λ x y. way binary32 D (F x y)) a b)
     → r ≡ answer (λ x y. way binary32 D (F x y)) a b
 unfolding Fits
 answered {z} laws D F a b d e f = e ∙ ap (checked_of a b) f ∙ checked_is _ a b z laws.outside (λ v. laws.numbers D _ v d)

@@ -3,7 +3,7 @@ use Rattle.std.specs.Prelude.{cond, ℕ, ◌-◌, ◌^◌, ℤ, ◌+ℤ◌, ◌-
 use Rattle.std.proofs.Math.Option.{Option, none, some, bind}
 use Rattle.rounding.specs.Format.{Format, binary32}
 use Rattle.rounding.specs.Rounding.{up, down, near}
-use Rattle.refusals.specs.Reason.{NotFinite, TooLarge}
+use Rattle.refusals.specs.declared.reason.Reason.TheVariants.{NotFinite, TooLarge}
 use Rattle.refusals.specs.Answer.{Judged, gives, refuses}
 use Rattle.binary32.specs.Number.{value_of, finite, finites, held, pattern_of}
 

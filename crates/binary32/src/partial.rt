@@ -26,7 +26,7 @@ pub fn add<D: Direction>(a: u32, b: u32) -> u32
 }
 
 // The exact midpoint of a and b, rounded once.
-pub fn middle<D: Direction>(a: u32, b: u32) -> u32
+pub fn midpoint<D: Direction>(a: u32, b: u32) -> u32
     ensures { result ≡ hold D.NONE (with₂ (midpoint D.way) a b) }
 {
     round::<D>(total(a, b, Binary32::SMALLEST_EXPONENT - 1))

@@ -6,6 +6,7 @@ ghost use Rattle.binary32.specs.Operations.{mul_down, mul_up, mul_near, midpoint
 ghost use Rattle.coupling.specs.Operations.{pattern_for};
 
 use binary32::Binary32;
+use binary32::direction::{Down, Near, Up};
 use refusals::Refusal;
 
 // The pattern of the result, or the refusal's number added to the pattern of infinity: no result has exponent field 255.
@@ -21,71 +22,71 @@ fn pattern_for(answer: Result<u32, Refusal>) -> u32
 pub fn coupling_add_down(a: u32, b: u32) -> u32
     ensures { result ≡ pattern_for (add_down a b) }
 {
-    pattern_for(binary32::add_down(a, b))
+    pattern_for(binary32::add::<Down>(a, b))
 }
 
 pub fn coupling_add_up(a: u32, b: u32) -> u32
     ensures { result ≡ pattern_for (add_up a b) }
 {
-    pattern_for(binary32::add_up(a, b))
+    pattern_for(binary32::add::<Up>(a, b))
 }
 
 pub fn coupling_add_near(a: u32, b: u32) -> u32
     ensures { result ≡ pattern_for (add_near a b) }
 {
-    pattern_for(binary32::add_near(a, b))
+    pattern_for(binary32::add::<Near>(a, b))
 }
 
 pub fn coupling_sub_down(a: u32, b: u32) -> u32
     ensures { result ≡ pattern_for (sub_down a b) }
 {
-    pattern_for(binary32::sub_down(a, b))
+    pattern_for(binary32::sub::<Down>(a, b))
 }
 
 pub fn coupling_sub_up(a: u32, b: u32) -> u32
     ensures { result ≡ pattern_for (sub_up a b) }
 {
-    pattern_for(binary32::sub_up(a, b))
+    pattern_for(binary32::sub::<Up>(a, b))
 }
 
 pub fn coupling_sub_near(a: u32, b: u32) -> u32
     ensures { result ≡ pattern_for (sub_near a b) }
 {
-    pattern_for(binary32::sub_near(a, b))
+    pattern_for(binary32::sub::<Near>(a, b))
 }
 
 pub fn coupling_mul_down(a: u32, b: u32) -> u32
     ensures { result ≡ pattern_for (mul_down a b) }
 {
-    pattern_for(binary32::mul_down(a, b))
+    pattern_for(binary32::mul::<Down>(a, b))
 }
 
 pub fn coupling_mul_up(a: u32, b: u32) -> u32
     ensures { result ≡ pattern_for (mul_up a b) }
 {
-    pattern_for(binary32::mul_up(a, b))
+    pattern_for(binary32::mul::<Up>(a, b))
 }
 
 pub fn coupling_mul_near(a: u32, b: u32) -> u32
     ensures { result ≡ pattern_for (mul_near a b) }
 {
-    pattern_for(binary32::mul_near(a, b))
+    pattern_for(binary32::mul::<Near>(a, b))
 }
 
 pub fn coupling_midpoint_down(a: u32, b: u32) -> u32
     ensures { result ≡ pattern_for (midpoint_down a b) }
 {
-    pattern_for(binary32::midpoint_down(a, b))
+    pattern_for(binary32::midpoint::<Down>(a, b))
 }
 
 pub fn coupling_midpoint_up(a: u32, b: u32) -> u32
     ensures { result ≡ pattern_for (midpoint_up a b) }
 {
-    pattern_for(binary32::midpoint_up(a, b))
+    pattern_for(binary32::midpoint::<Up>(a, b))
 }
 
 pub fn coupling_midpoint_near(a: u32, b: u32) -> u32
     ensures { result ≡ pattern_for (midpoint_near a b) }
 {
-    pattern_for(binary32::midpoint_near(a, b))
+    pattern_for(binary32::midpoint::<Near>(a, b))
 }

@@ -14,8 +14,9 @@ use Rattle.rounding.specs.Format.{binary32, Num}
 use Rattle.rounding.specs.Rounding.{up, down}
 use Rattle.rounding.specs.Property.{IsUp, IsDown}
 use Rattle.rounding.proofs.Directed.{up_is, down_is}
-use Rattle.refusals.specs.Answer.{gives, refuse}
-use Rattle.refusals.proofs.Answers.{gives_injective, not_both, both_tell, passing_tells}
+use Rattle.refusals.specs.declared.reason.Reason.TheVariants.{NotFinite}
+use Rattle.refusals.specs.Answer.{gives, refuses, done}
+use Rattle.refusals.proofs.Answers.{gives_injective, not_both, both_tell, then_tells}
 use Rattle.enclosure.proofs.Laws.{one}
 use Rattle.binary32.specs.Number.{value_of, finite, finites, pattern_of}
 use Rattle.binary32.specs.Operations.{add, sub, sub_down, add_up, answer_of, answer}
@@ -30,7 +31,7 @@ answer_tells : (op : ℤ → ℤ → Option ℤ) (a b p : ℕ) → answer op a b
 unfolding answer
 answer_tells op a b p = go (finites a b) (op (value_of a) (value_of b)) refl
   where
-    go : (t : Bool) (o : Option ℤ) → op (value_of a) (value_of b) ≡ o → cond t (answer_of o) (refuse 3) ≡ gives p
+    go : (t : Bool) (o : Option ℤ) → op (value_of a) (value_of b) ≡ o → cond t (answer_of o) (refuses NotFinite) ≡ gives p
         → (v : ℤ) × (op (value_of a) (value_of b) ≡ some v) × (pattern_of v ≡ p)
     go true (some v) e h = (v, e, gives_injective h)
     go true none e h = absurd (not_both h)
@@ -63,7 +64,7 @@ module _ (lo hi w c d : ℕ) (h : outward_of lo hi w ≡ gives (c, d)) where
       and_both (finite c) (finite d) (finite_of c l.0 l.2 (down_is binary32 1 one l.1).num) (finite_of d u.0 u.2 (up_is binary32 1 one u.1).num)
 
   -- and in order, where lo and hi are and w is not below zero
-  pub outward_fine : value_of lo ≼ value_of hi → pos 0 ≼ value_of w → 0 ≡ fault_of c d
+  pub outward_fine : value_of lo ≼ value_of hi → pos 0 ≼ value_of w → done ≡ fault_of c d
   outward_fine o p = fault_by_order c d true outward_finite (at_most_is c d (lin_le
       (value_of lo ∷ value_of hi ∷ value_of w ∷ value_of c ∷ value_of d ∷ []) (le o ∷ le p ∷ le outward_below ∷ le outward_above ∷ []) (search reading depth 20) (omega arith)))
 
@@ -73,6 +74,6 @@ unfolding bounds_of
 back_encloses lo hi c d o e =
     let m = mid_of lo hi in
     let r = rad_of lo hi in
-    let h = (passing_tells (radius_fault_of m r) (outward_of m m r) (c, d) e).1 in
+    let h = (then_tells (radius_fault_of m r) (outward_of m m r) (c, d) e).1 in
     let best = (optimal_of lo hi o).encloses in
     (≼_trans (outward_below m m r c d h) best.low_reached, ≼_trans best.high_reached (outward_above m m r c d h))

@@ -5,7 +5,7 @@ use Rattle.rounding.specs.Rounding.{up}
 use Rattle.enclosure.specs.Arithmetic.{of}
 use Rattle.enclosure.specs.Conversion.{mid, rad}
 use Rattle.enclosure.specs.Optimal.{Optimal}
-use Rattle.refusals.specs.Reason.{NotFinite, Crossed}
+use Rattle.refusals.specs.declared.reason.Reason.TheVariants.{NotFinite, Crossed}
 use Rattle.refusals.specs.Answer.{Judged, gives, refuses, done, then, both}
 use Rattle.binary32.specs.Number.{value_of, finites, pattern_of, hold_up}
 use Rattle.binary32.specs.Operations.{midpoint, with₂, sub_down, add_up}

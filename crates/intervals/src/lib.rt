@@ -2,43 +2,52 @@
 #![tactic(auto)]
 
 ghost use Rattle.std.specs.Prelude.{◌≡◌};
+ghost use Rattle.refusals.specs.Answer.{done};
 ghost use Rattle.intervals.specs.Conversion.{fault_of, radius_fault_of, mid_of, mid_up_of, rad_of, midrad_of, OptimalFor, outward_of, bounds_of};
 
-use binary32::direction::Up;
+use binary32::direction::{Down, Up};
 use binary32::finite::are_finite;
-use binary32::midpoint::{NearUp, near_up};
+use binary32::midpoints::{NearUp, near_up};
 use binary32::order::at_most;
-use binary32::{add_up, partial, sub_down};
-use refusals::Refusal;
+use binary32::partial;
+use refusals::reason::Reason;
 
 pub mod slices;
 
-// The fault of a pair of bounds, as the number of a refusal: 3, a bound has exponent field 255; 4, the lower bound is above the upper; 0, none.
+// The fault of a pair of bounds: NotFinite, a bound has exponent field 255; Crossed, the lower bound is above the upper.
 #[tactic(auto, unfolding(crate::specs::Conversion::fault_of))]
-pub fn check(lo: u32, hi: u32) -> u8
+pub fn check(lo: u32, hi: u32) -> Result<(), Reason>
     ensures { result ≡ fault_of lo hi }
 {
     if !are_finite(lo, hi) {
-        return 3;
+        return Err(Reason::NotFinite);
     }
-    if at_most(lo, hi) { 0 } else { 4 }
+    if at_most(lo, hi) {
+        Ok(())
+    } else {
+        Err(Reason::Crossed)
+    }
 }
 
-// The fault of a midpoint and a radius: 3, one has exponent field 255; 4, the radius is negative; 0, none.
+// The fault of a midpoint and a radius: NotFinite, one has exponent field 255; Crossed, the radius is negative.
 #[tactic(auto, unfolding(crate::specs::Conversion::radius_fault_of))]
-fn check_radius(m: u32, r: u32) -> u8
+fn check_radius(m: u32, r: u32) -> Result<(), Reason>
     ensures { result ≡ radius_fault_of m r }
 {
     if !are_finite(m, r) {
-        return 3;
+        return Err(Reason::NotFinite);
     }
-    if at_most(0, r) { 0 } else { 4 }
+    if at_most(0, r) {
+        Ok(())
+    } else {
+        Err(Reason::Crossed)
+    }
 }
 
 // The distance from the midpoint to the farther bound, rounded up. That is the lower bound where the midpoint to nearest is the one rounded up too, and so
 // not below the exact one. Never refused.
 fn radius(lo: u32, hi: u32, mid: NearUp) -> u32
-    requires { (fault_of lo hi ≡ 0) × (mid.near ≡ mid_of lo hi) × (mid.up ≡ mid_up_of lo hi) }
+    requires { (fault_of lo hi ≡ done) × (mid.near ≡ mid_of lo hi) × (mid.up ≡ mid_up_of lo hi) }
     ensures { result ≡ rad_of lo hi }
 {
     if mid.near == mid.up {
@@ -49,33 +58,31 @@ fn radius(lo: u32, hi: u32, mid: NearUp) -> u32
 
 // Bounds [a, b] to <m, r>: m is the exact midpoint to nearest, r is the larger of m - a and b - m, rounded up. Neither overflows, and no pair of
 // binary32 numbers that encloses [a, b] has a smaller radius.
-pub fn to_midrad(lo: u32, hi: u32) -> Result<(u32, u32), Refusal>
+#[tactic(auto, unfolding(crate::specs::Conversion::midrad_of))]
+pub fn to_midrad(lo: u32, hi: u32) -> Result<(u32, u32), Reason>
     ensures answer { result ≡ midrad_of lo hi }
     ensures optimal { OptimalFor lo hi (result) }
 {
-    let fault = check(lo, hi);
-    if fault != 0 {
-        return Err(Refusal::of_matrix(fault, 0));
-    }
+    check(lo, hi)?;
     let mid = near_up(lo, hi);
     Ok((mid.near, radius(lo, hi, mid)))
 }
 
 // lo - amount rounded down and hi + amount rounded up.
-pub fn outward(lo: u32, hi: u32, amount: u32) -> Result<(u32, u32), Refusal>
+pub fn outward(lo: u32, hi: u32, amount: u32) -> Result<(u32, u32), Reason>
     ensures { result ≡ outward_of lo hi amount }
 {
-    Ok((sub_down(lo, amount)?, add_up(hi, amount)?))
+    Ok((
+        binary32::sub::<Down>(lo, amount)?,
+        binary32::add::<Up>(hi, amount)?,
+    ))
 }
 
 // <m, r> to bounds: m - r rounded down and m + r rounded up.
 #[tactic(auto, unfolding(crate::specs::Conversion::bounds_of))]
-pub fn to_bounds(m: u32, r: u32) -> Result<(u32, u32), Refusal>
+pub fn to_bounds(m: u32, r: u32) -> Result<(u32, u32), Reason>
     ensures { result ≡ bounds_of m r }
 {
-    let fault = check_radius(m, r);
-    if fault != 0 {
-        return Err(Refusal::of_matrix(fault, 0));
-    }
+    check_radius(m, r)?;
     outward(m, m, r)
 }

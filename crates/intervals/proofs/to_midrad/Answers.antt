@@ -1,24 +1,16 @@
 -- `intervals::to_midrad` meets its contract: each return is a case of the definition.
-use mathlib.Core.Path.{ap, ap₂, sym, ◌∙◌, subst₂}
+use mathlib.Core.Path.{ap₂, sym, ◌∙◌, subst₂}
 use Prim.Native.Nat.{ℕ}
-use Rattle.refusals.specs.Answer.{gives, refuse, refuses}
-use Rattle.refusals.proofs.Answers.{passing_on, passing_not}
+use Rattle.refusals.specs.Answer.{gives}
+use Rattle.refusals.proofs.Answers.{then_gives}
 use Rattle.intervals.specs.Conversion.{midrad_of, OptimalFor}
 use Rattle.intervals.proofs.Faults.{fine_tells}
 use Rattle.intervals.proofs.Converting.{mid_rounded, optimal_of}
 use Rattle.intervals.proofs.to_midrad.Goals as goal
 
-pub returns-then-fault-ne0 : goal.returns-then-fault-ne0
-unfolding midrad_of
-returns-then-fault-ne0 c =
-    let k = c.check-fault.ensures in record {
-      answer = ap refuses c.of_matrix.ensures ∙ ap refuse k ∙ passing_not _ _ (λ e. c.if-fault-ne0.true (k ∙ e));
-      optimal = tt {0};
-    }
-
 pub radius-requires : goal.radius-requires
 radius-requires c =
-    let fine = sym c.check-fault.ensures ∙ c.if-fault-ne0.false in
+    let fine = sym c.check.ensures ∙ c.in_ok-check.was in
     let lo = c.args.lo in
     let hi = c.args.hi in
     (fine, c.near_up-mid.ensures.nears ∙ mid_rounded lo hi (fine_tells lo hi fine), c.near_up-mid.ensures.ups)
@@ -26,12 +18,12 @@ radius-requires c =
 pub returns : goal.returns
 unfolding midrad_of
 returns c =
-    let fine = sym c.check-fault.ensures ∙ c.if-fault-ne0.false in
+    let fine = sym c.check.ensures ∙ c.in_ok-check.was in
     let lo = c.args.lo in
     let hi = c.args.hi in
     let o = fine_tells lo hi fine in
     let mid = c.near_up-mid.ensures.nears ∙ mid_rounded lo hi o in
     let rad = c.radius.ensures in record {
-      answer = ap₂ (λ (x y : ℕ). gives (x, y)) mid rad ∙ passing_on _ _ fine;
+      answer = then_gives _ _ _ _ fine (ap₂ (λ (x y : ℕ). gives (x, y)) mid rad);
       optimal = subst₂ (λ (x y : ℕ). OptimalFor lo hi (gives (x, y))) (sym mid) (sym rad) (optimal_of lo hi o);
     }

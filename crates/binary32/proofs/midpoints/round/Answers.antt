@@ -1,9 +1,9 @@
--- `binary32::midpoint::round`: `pattern` makes the patterns of two of the significands that `cut` found (`gives`).
+-- `binary32::midpoints::round`: `pattern` makes the patterns of two of the significands that `cut` found (`gives`).
 use Rattle.std.proofs.Common.{◌∙◌}
 use Rattle.rounding.specs.Rounding.{up, near}
 use Rattle.binary32.specs.Number.{hold_up, hold_near}
 use Rattle.binary32.proofs.Packing.{gives}
-use Rattle.binary32.proofs.midpoint.round.Goals as goal
+use Rattle.binary32.proofs.midpoints.round.Goals as goal
 
 pub returns : goal.returns
 returns c = record {
