@@ -6,6 +6,7 @@ use Prim.Native.Nat.{ℕ, ◌≤◌, ◌<◌}
 use native.Mathlib.Omega.{arith}
 use lib.ListN.{length, drop, length-append}
 use borrow.Author.Tests.{le-leb, lt-leb}
+use Rattle.refusals.specs.declared.reason.Reason.TheVariants.{ShortSlice}
 use Rattle.refusals.specs.Refusal.{of_matrix, code_of}
 use Rattle.refusals.specs.Answer.{Answer, gives, refuses, refuse, coded}
 use Rattle.refusals.proofs.Answers.{gives_injective, next_tells, passing_tells}
@@ -65,9 +66,9 @@ module _ (d : List ℕ) (n : Answer Running) (P : List ℕ → Type 0) (p : P (w
   promised e f = (e, (f, subst P (sym f) p))
 
   -- a slice that is too short
-  pub short_left : {r : ℕ} → length d < 11 → r ≡ code_of (of_matrix 2 0) → Promised r d
+  pub short_left : {r : ℕ} → length d < 11 → r ≡ code_of (of_matrix ShortSlice 0) → Promised r d
   short_left h e =
-      let s : in_slice d n ≡ refuse 2 = rw (lt-leb 11 (length d) h) in
+      let s : in_slice d n ≡ refuse ShortSlice = rw (lt-leb 11 (length d) h) in
       promised (e ∙ ap (coded (λ _. 0)) (sym s)) (ap (λ m. words_after m d) (sym s))
 
   -- one that is long enough

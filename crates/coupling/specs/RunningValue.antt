@@ -1,5 +1,6 @@
 -- The running entry in a lent slice, for a caller in C: its value is the first 11 numbers. Definitions only (02, P7).
 use Rattle.std.specs.Prelude.{◌≡◌, List, [], ◌∷◌, ◌++◌, ℕ, ◌+◌, ◌≤◌, leb, length, get_or, drop}
+use Rattle.refusals.specs.declared.reason.Reason.TheVariants.{ShortSlice}
 use Rattle.refusals.specs.Refusal.{of_matrix}
 use Rattle.refusals.specs.Answer.{Answer, gives, refuses, unless, then}
 use Rattle.running.specs.declared.cell.Gauged.{Gauged}
@@ -27,7 +28,7 @@ gauged lower upper class = record { lower = lower; upper = upper; class = class 
 -- ---- the answer of each call: refusal 2 for a slice with fewer than 11 numbers, then that of the value
 
 abbrev pub in_slice : List ℕ → Answer Running → Answer Running
-in_slice w next = then (unless (leb 11 (length w)) (of_matrix 2 0)) next
+in_slice w next = then (unless (leb 11 (length w)) (of_matrix ShortSlice 0)) next
 
 unfoldable pub start_in : List ℕ → Answer Running
 start_in w = in_slice w (gives new_of)

@@ -7,6 +7,7 @@ ghost use Rattle.coupling.specs.RunningValue.{gauged, start_in, take_in, amounts
 
 use crate::running_words::{WORDS, put, put_next, value_in};
 use refusals::Refusal;
+use refusals::reason::Reason;
 use running::Running;
 use running::cell::Gauged;
 
@@ -17,7 +18,7 @@ pub fn coupling_running_start(value: &mut [u32]) -> u32
     ensures begins { Begins value.old value.new }
 {
     if value.len() < WORDS {
-        return Refusal::of_matrix(2, 0).code();
+        return Refusal::of_matrix(Reason::ShortSlice, 0).code();
     }
     put(Running::new(), value);
     0
@@ -42,7 +43,7 @@ pub fn coupling_running_take(
         (λ h. take h (gauged a_lower a_upper a_class) (gauged b_lower b_upper b_class)) value.old value.new }
 {
     if value.len() < WORDS {
-        return Refusal::of_matrix(2, 0).code();
+        return Refusal::of_matrix(Reason::ShortSlice, 0).code();
     }
     let a = Gauged {
         lower: a_lower,
@@ -64,7 +65,7 @@ pub fn coupling_running_amounts(value: &mut [u32], load: &[u8]) -> u32
     ensures goes_on { GoesOn (λ h. exchange h load.now) value.old value.new }
 {
     if value.len() < WORDS {
-        return Refusal::of_matrix(2, 0).code();
+        return Refusal::of_matrix(Reason::ShortSlice, 0).code();
     }
     put_next(value_in(value).exchange(load), value)
 }

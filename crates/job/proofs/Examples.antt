@@ -11,6 +11,7 @@ use Rattle.rounding.specs.Pattern.{val, encode}
 use Rattle.enclosure.specs.Sums.{sum}
 use Rattle.enclosure.specs.Conversion.{mid, rad}
 use Rattle.enclosure.specs.Methods.{entry, entry₁, total, least_term, greatest_term}
+use Rattle.refusals.specs.declared.reason.Reason.TheVariants.{TooLarge, UnknownMethod, WrongCount}
 use Rattle.refusals.specs.Refusal.{of_matrix, of_cell}
 use Rattle.refusals.specs.Answer.{gives, refuses}
 use Rattle.refusals.specs.Sizes.{check_size, check_lengths, check_fit}
@@ -49,7 +50,7 @@ unfolding train_product check_count sheets_in next_length first_length sheets_pr
 three = refl
 
 -- [2, MAX] × [2, 2] is too large, whatever stands behind: three bytes that are no sheet
-early : train_product 1 3 (sheet 1 0x40000000 0x7F7FFFFF ++ sheet 0 0x40000000 0x40000000 ++ (1 ∷ 2 ∷ 3 ∷ [])) ≡ refuses (of_cell 5 9 0 0)
+early : train_product 1 3 (sheet 1 0x40000000 0x7F7FFFFF ++ sheet 0 0x40000000 0x40000000 ++ (1 ∷ 2 ∷ 3 ∷ [])) ≡ refuses (of_cell TooLarge 9 0 0)
 unfolding train_product check_count sheets_in next_length first_length sheets_product fold_from step_of times_of read_as
     u16_at u32_at all_from blank record_of whole framed check_fit check_size check_lengths units_of amount_of fixed_amounts below_zero wear_fault wear_amount cell_amount worn_fault widened_of judge_of visit_of walk chain_of read_of put_in record_bytes
     product_of check_of check_shapes check_method method_of check_sizes check_slices check_operands check_lent check_both check_cells first
@@ -57,14 +58,14 @@ unfolding train_product check_count sheets_in next_length first_length sheets_pr
 early = refl
 
 -- 9 before 12, 12 for no sheet and for nine
-unknown : train_product 2 0 [] ≡ refuses (of_matrix 9 0)
+unknown : train_product 2 0 [] ≡ refuses (of_matrix UnknownMethod 0)
 unfolding train_product check_method method_of
 unknown = refl
 
-none : train_product 1 0 [] ≡ refuses (of_matrix 12 0)
+none : train_product 1 0 [] ≡ refuses (of_matrix WrongCount 0)
 unfolding train_product check_method method_of check_count
 none = refl
 
-nine : train_product 1 9 [] ≡ refuses (of_matrix 12 0)
+nine : train_product 1 9 [] ≡ refuses (of_matrix WrongCount 0)
 unfolding train_product check_method method_of check_count
 nine = refl

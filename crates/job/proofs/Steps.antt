@@ -5,6 +5,7 @@ use mathlib.Core.Option.{Option}
 use Prim.Native.Nat.{ℕ, ◌*◌}
 use lib.ListN.{take, drop}
 use borrow.Author.Tests.{eq-eqb, ne_eqb}
+use Rattle.refusals.specs.declared.reason.Reason.TheVariants.{WrongSize}
 use Rattle.refusals.specs.declared.Refusal.{Refusal}
 use Rattle.refusals.specs.Refusal.{of_matrix}
 use Rattle.refusals.specs.Answer.{Answer, gives, refuses, done, then, naming}
@@ -49,7 +50,7 @@ module _ (method n p : ℕ) (X : Factor) (s : List ℕ) where
   step_unread e = rw (sym e)
 
   module _ {Y : Factor} (e : gives Y ≡ read_as p s) where
-    pub step_unfit : {x : Refusal} → (X.columns ≡ Y.rows → ⊥) → x ≡ of_matrix 1 p → refuses x ≡ step_of method n p X s
+    pub step_unfit : {x : Refusal} → (X.columns ≡ Y.rows → ⊥) → x ≡ of_matrix WrongSize p → refuses x ≡ step_of method n p X s
     unfolding step_of
     step_unfit h f = rw (sym e, ne_eqb X.columns Y.rows h, f)
 

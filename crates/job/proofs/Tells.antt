@@ -4,6 +4,7 @@ use mathlib.Core.List.{List}
 use Prim.Native.Nat.{ℕ}
 use lib.Dec.{eqb}
 use borrow.Author.Tests.{eqb-true}
+use Rattle.refusals.specs.declared.reason.Reason.TheVariants.{WrongSize}
 use Rattle.refusals.specs.Refusal.{of_matrix}
 use Rattle.refusals.specs.Answer.{gives, done, naming, unless}
 use Rattle.refusals.proofs.Answers.{gives_injective, then_tells, unless_tells, naming_tells, next_tells}
@@ -38,7 +39,7 @@ step_tells method n p X s Z e =
     let r = next_tells (read_as p s) _ Z e in
     let Y = r.0 in
     let w = read_tells p s Y r.1 in
-    let t = then_tells (unless (eqb X.columns Y.rows) (of_matrix 1 p)) (times_of method n X Y) Z r.2 in
+    let t = then_tells (unless (eqb X.columns Y.rows) (of_matrix WrongSize p)) (times_of method n X Y) Z r.2 in
     let u = then_tells (naming n (product_of (operands method X Y))) (gives (product_in method X Y)) Z t.1 in
     record {
       answer = w.answer;

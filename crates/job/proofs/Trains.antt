@@ -6,6 +6,7 @@ use native.Mathlib.Omega.{arith}
 use lib.Dec.{leb}
 use lib.ListN.{length, take, drop}
 use borrow.Author.Tests.{leb-true}
+use Rattle.refusals.specs.declared.reason.Reason.TheVariants.{WrongCount}
 use Rattle.refusals.specs.declared.Refusal.{Refusal}
 use Rattle.refusals.specs.Refusal.{of_matrix}
 use Rattle.refusals.specs.Answer.{Answer, gives, refuses, done, then}
@@ -22,7 +23,7 @@ use Rattle.job.proofs.Sizes.{Small, product_small}
 count_tells : (n : ℕ) → check_count n ≡ done → (1 ≤ n) × (n ≤ 8)
 unfolding check_count
 count_tells n e =
-    let t = and_tells (leb 1 n) (leb n 8) (unless_tells _ (of_matrix 12 0) e) in
+    let t = and_tells (leb 1 n) (leb n 8) (unless_tells _ (of_matrix WrongCount 0) e) in
     (leb-true 1 n t.0, leb-true n 8 t.1)
 
 -- ---- the next sheet

@@ -1,5 +1,6 @@
 -- The product of sheets from the left: each product of two is the next left factor. Definitions only (01, the sheet job; 02, P1).
 use Rattle.std.specs.Prelude.{List, [], ◌∷◌, ℕ, ◌+◌, eqb}
+use Rattle.refusals.specs.declared.reason.Reason.TheVariants.{WrongSize, WrongCount}
 use Rattle.refusals.specs.Refusal.{of_matrix}
 use Rattle.refusals.specs.Answer.{Answer, gives, refuse, unless, and_then, then, naming}
 use Rattle.refusals.specs.Sizes.{most_cells}
@@ -27,7 +28,7 @@ times_of method n X Y = then (naming n (product_of (operands method X Y))) (give
 
 -- ---- the left factor X times the sheet s at position p: the read, refusal 1 where the two do not fit, the product
 unfoldable pub step_of : (method n p : ℕ) → Factor → List ℕ → Answer Factor
-step_of method n p X s = and_then (read_as p s) (λ Y. then (unless (eqb X.columns Y.rows) (of_matrix 1 p)) (times_of method n X Y))
+step_of method n p X s = and_then (read_as p s) (λ Y. then (unless (eqb X.columns Y.rows) (of_matrix WrongSize p)) (times_of method n X Y))
 
 -- X times the sheets from position p on
 unfoldable pub fold_from : (method n p : ℕ) → Factor → List (List ℕ) → Answer Factor
@@ -36,5 +37,5 @@ fold_from method n p X (s ∷ ss) = and_then (step_of method n p X s) (λ Y. fol
 
 -- the product of the sheets; one alone is taken as read, and none is refusal 12
 unfoldable pub sheets_product : (method n : ℕ) → List (List ℕ) → Answer Factor
-sheets_product method n [] = refuse 12
+sheets_product method n [] = refuse WrongCount
 sheets_product method n (s ∷ ss) = and_then (read_as 1 s) (λ X. fold_from method n 2 X ss)

@@ -1,5 +1,6 @@
 -- A train of couplings: one buffer of 1 to 8 sheets back to back, multiplied from the left. Definitions only (02, P1).
 use Rattle.std.specs.Prelude.{cond, false, List, [], ◌∷◌, ℕ, zero, suc, leb, length, take, drop}
+use Rattle.refusals.specs.declared.reason.Reason.TheVariants.{WrongCount}
 use Rattle.refusals.specs.Refusal.{of_matrix}
 use Rattle.refusals.specs.Answer.{Answer, unless, then}
 use Rattle.sheets.specs.Cut.{first_length}
@@ -14,7 +15,7 @@ most_sheets = 8
 
 -- refusal 12: the number of sheets is not from 1 to 8
 unfoldable pub check_count : ℕ → Answer (Unit {0})
-check_count count = unless (cond (leb 1 count) (leb count most_sheets) false) (of_matrix 12 0)
+check_count count = unless (cond (leb 1 count) (leb count most_sheets) false) (of_matrix WrongCount 0)
 
 -- ---- the sheets in the buffer
 

@@ -5,6 +5,7 @@ ghost use Rattle.job.specs.Factor.{in_front, in_arrays, read_as};
 ghost use Rattle.job.specs.Fold.{times_of, step_of};
 
 use refusals::Refusal;
+use refusals::reason::Reason;
 use refusals::sizes::MOST_CELLS;
 use sheets::Sizes;
 
@@ -97,7 +98,7 @@ pub fn times_sheet(
     let mut bu = [0u32; MOST_CELLS];
     let right = read_as(position, s, &mut bl, &mut bu)?;
     if inner != right.rows {
-        return Err(Refusal::of_matrix(1, position));
+        return Err(Refusal::of_matrix(Reason::WrongSize, position));
     }
     multiply(method, matrix, rows, inner, right.columns, &bl, &bu, lo, up)
 }

@@ -8,6 +8,7 @@ ghost use Rattle.job.specs.Train.{most_sheets, check_count, next_length, sheets_
 use crate::factor::{read_as, times_sheet};
 use matrices::methods::check_method;
 use refusals::Refusal;
+use refusals::reason::Reason;
 use sheets::Sizes;
 use sheets::cut::first_length;
 
@@ -20,10 +21,10 @@ fn check_count(count: u32) -> Result<(), Refusal>
     ensures { result ≡ check_count count }
 {
     if count < 1 {
-        return Err(Refusal::of_matrix(12, 0));
+        return Err(Refusal::of_matrix(Reason::WrongCount, 0));
     }
     if MOST_SHEETS < count {
-        return Err(Refusal::of_matrix(12, 0));
+        return Err(Refusal::of_matrix(Reason::WrongCount, 0));
     }
     Ok(())
 }

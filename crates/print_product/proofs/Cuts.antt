@@ -8,6 +8,7 @@ use lib.Dec.{leb}
 use lib.ListN.{length, take, drop, length-drop}
 use lib.Seq.{take_all, take-take, get_or-take, length-take-le}
 use borrow.Author.Tests.{leb-true, leb-false}
+use Rattle.refusals.specs.declared.reason.Reason.TheVariants.{WrongLayout}
 use Rattle.refusals.specs.declared.Refusal.{Refusal}
 use Rattle.refusals.specs.Refusal.{of_matrix, named}
 use Rattle.refusals.specs.Answer.{refuses, refuse, then, and_then}
@@ -25,7 +26,7 @@ use Rattle.print_product.specs.Printed.{answer_text, sheets_text, printed_of}
 
 -- ---- a sheet of more than 16,400 bytes is refused
 
-too_long : (s : List ℕ) → 16400 < length s → sheet_read s ≡ refuse 6
+too_long : (s : List ℕ) → 16400 < length s → sheet_read s ≡ refuse WrongLayout
 unfolding read_of
 too_long s h = rw (unframed_long s h)
 
@@ -67,17 +68,17 @@ module _ (method : ℕ) (s : List ℕ) (long : 32801 < length s) where
           let m : first_length (take 32801 s) ≡ k = first_cut ∙ omega arith in
           let n : first_length s ≡ k = first_whole ∙ omega arith in
           let same : take k (take 32801 s) ≡ take k s = take-take k 32801 s (omega arith) in
-          let b : sheet_read (drop k (take 32801 s)) ≡ refuse 6 = too_long (drop k (take 32801 s)) (omega (arith, length-drop k (take 32801 s), cut_length)) in
-          let c : sheet_read (drop k s) ≡ refuse 6 = too_long (drop k s) (omega (arith, length-drop k s)) in
-          rw (m, n, same) (ap (answer_text method) (second_refused method (of_matrix 6 0) (take k s) (drop k (take 32801 s)) b ∙ sym (second_refused method (of_matrix 6 0) (take k s) (drop k s) c)))
+          let b : sheet_read (drop k (take 32801 s)) ≡ refuse WrongLayout = too_long (drop k (take 32801 s)) (omega (arith, length-drop k (take 32801 s), cut_length)) in
+          let c : sheet_read (drop k s) ≡ refuse WrongLayout = too_long (drop k s) (omega (arith, length-drop k s)) in
+          rw (m, n, same) (ap (answer_text method) (second_refused method (of_matrix WrongLayout 0) (take k s) (drop k (take 32801 s)) b ∙ sym (second_refused method (of_matrix WrongLayout 0) (take k s) (drop k s) c)))
       go false e =
           let k : ℕ = 16 * count_of s in
           let many : 16400 < k = leb-false k 16400 e in
           let m : length (sheet_a (take 32801 s)) ≡ first_length (take 32801 s) = length-take-le (first_length (take 32801 s)) (take 32801 s) (omega (arith, first_cut, cut_length)) in
           let n : length (sheet_a s) ≡ first_length s = length-take-le (first_length s) s (omega (arith, first_whole)) in
           ap (answer_text method)
-          (first_refused method (of_matrix 6 0) (sheet_a (take 32801 s)) (sheet_b (take 32801 s)) (too_long (sheet_a (take 32801 s)) (omega (arith, m, first_cut)))
-          ∙ sym (first_refused method (of_matrix 6 0) (sheet_a s) (sheet_b s) (too_long (sheet_a s) (omega (arith, n, first_whole)))))
+          (first_refused method (of_matrix WrongLayout 0) (sheet_a (take 32801 s)) (sheet_b (take 32801 s)) (too_long (sheet_a (take 32801 s)) (omega (arith, m, first_cut)))
+          ∙ sym (first_refused method (of_matrix WrongLayout 0) (sheet_a s) (sheet_b s) (too_long (sheet_a s) (omega (arith, n, first_whole)))))
 
 sheets_cut : (method : ℕ) (s : List ℕ) → sheets_text method (take 32801 s) ≡ sheets_text method s
 sheets_cut method s = go (leb (length s) 32801) refl

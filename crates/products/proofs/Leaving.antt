@@ -12,6 +12,7 @@ use lib.ListN.{length, drop, replicate}
 use lib.Seq.{drop-drop, drop_at}
 use borrow.Author.Tests.{ltb-true, ltb-false, eq-eqb, ne_eqb}
 use Rattle.enclosure.specs.Methods.{Method, Range, classical}
+use Rattle.refusals.specs.declared.reason.Reason.TheVariants.{TooLarge}
 use Rattle.refusals.specs.declared.Refusal.{Refusal}
 use Rattle.refusals.specs.Refusal.{of_cell}
 use Rattle.refusals.specs.Answer.{Answer, refuses, done}
@@ -79,7 +80,7 @@ module _ (g : Given) (ok : check_of g ≡ done) where
   unfolding product_of
   answer_is p r e f = f ∙ ap answer_at e ∙ rw ok (go (ltb (stop g) (cells g)))
     where
-      go : (b : Bool) → answer_at (cond b (Some (record { row = row; column = column })) None) ≡ cond b (refuses (of_cell 5 3 row column)) done
+      go : (b : Bool) → answer_at (cond b (Some (record { row = row; column = column })) None) ≡ cond b (refuses (of_cell TooLarge 3 row column)) done
       go true = refl
       go false = refl
 

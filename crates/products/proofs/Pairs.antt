@@ -14,6 +14,7 @@ use Rattle.enclosure.specs.Cell.{Cell}
 use Rattle.enclosure.specs.Conversion.{cell_of}
 use Rattle.enclosure.specs.Methods.{Range}
 use Rattle.enclosure.specs.RunningSums.{add_pair}
+use Rattle.refusals.specs.Answer.{done}
 use Rattle.binary32.specs.Number.{value_of}
 use Rattle.binary32.specs.Order.{magnitude_of}
 use Rattle.binary32.proofs.Held.{finite_is, finites_first, finites_second}
@@ -37,7 +38,7 @@ pub record Taken (lo hi : ℕ) (a : Apart) : Type 0 where
   pub lower : IsNumber (lower_number a) × (worth (lower_number a) ≡ value_of lo)
   pub upper : IsNumber (upper_number a) × (worth (upper_number a) ≡ value_of hi)
 
-pub fine_taken : (lo hi : ℕ) (a : Apart) → fault_of lo hi ≡ 0 → IsApart lo hi a → Taken lo hi a
+pub fine_taken : (lo hi : ℕ) (a : Apart) → fault_of lo hi ≡ done → IsApart lo hi a → Taken lo hi a
 fine_taken lo hi a f i =
     let x = (fine_tells lo hi f).both in
     record {
@@ -46,7 +47,7 @@ fine_taken lo hi a f i =
     }
 
 -- it and the cell [bl, bu]
-pub fine_cells : (al au bl bu : ℕ) (a : Apart) → Taken al au a → fault_of bl bu ≡ 0 → Cells a bl bu
+pub fine_cells : (al au bl bu : ℕ) (a : Apart) → Taken al au a → fault_of bl bu ≡ done → Cells a bl bu
 fine_cells al au bl bu a t f =
     let o = fine_tells bl bu f in
     record {

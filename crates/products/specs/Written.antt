@@ -2,6 +2,7 @@
 use Rattle.std.specs.Prelude.{◌≡◌, cond, List, ℕ, ◌*◌, ◌/◌, ◌%◌, ◌≤◌, ◌<◌, length, ltb, Option as Maybe, Some, None}
 use Rattle.std.proofs.Math.Option.{Option}
 use Rattle.enclosure.specs.Methods.{Range}
+use Rattle.refusals.specs.declared.reason.Reason.TheVariants.{TooLarge}
 use Rattle.refusals.specs.Refusal.{of_cell}
 use Rattle.refusals.specs.Answer.{Answer, refuses, done}
 use Rattle.intervals.specs.Slices.{zeros}
@@ -43,7 +44,7 @@ pub record Written (E : ℕ → Option Range) (m n : ℕ) (lo up : List ℕ) (r 
 
 abbrev pub answer_at : Found → Answer (Unit {0})
 answer_at None = done
-answer_at (Some p) = refuses (of_cell 5 3 p.row p.column)
+answer_at (Some p) = refuses (of_cell TooLarge 3 p.row p.column)
 
 abbrev pub cleared_at : Found → ℕ → List ℕ → List ℕ
 cleared_at None count d = d

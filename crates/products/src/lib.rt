@@ -10,6 +10,7 @@ use cells::convert;
 use intervals::slices::clear;
 use matrices::check_order::{Lent, check_all};
 use refusals::Refusal;
+use refusals::reason::Reason;
 use sums::Place;
 
 mod apart;
@@ -50,7 +51,7 @@ fn finish(place: Option<Place>, count: usize, lo: &mut [u32], up: &mut [u32]) ->
         Some(Place { row, column }) => {
             clear(count, lo);
             clear(count, up);
-            Err(Refusal::of_cell(5, 3, row as u8, column as u8))
+            Err(Refusal::of_cell(Reason::TooLarge, 3, row as u8, column as u8))
         }
     }
 }

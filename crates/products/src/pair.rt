@@ -17,22 +17,20 @@ use crate::rounded::{rounded_down, rounded_up};
 use crate::sums::Sums;
 use binary32::finite::are_finite;
 use intervals::check;
-use refusals::Refusal;
+use refusals::reason::Reason;
 
-// The fault of a pair and of the sums so far: 3 or 4 of the first cell, then of the second; 3, a sum is not a number; 0, none.
+// The fault of a pair and of the sums so far: that of the first cell, then of the second; NotFinite, a sum is not a number.
 #[tactic(auto, unfolding(crate::specs::Pair::pair_fault))]
-fn pair_fault(lower: u32, upper: u32, al: u32, au: u32, bl: u32, bu: u32) -> u8
+fn pair_fault(lower: u32, upper: u32, al: u32, au: u32, bl: u32, bu: u32) -> Result<(), Reason>
     ensures { result ≡ pair_fault (lower, upper) (al, au) (bl, bu) }
 {
-    let a = check(al, au);
-    if a != 0 {
-        return a;
+    check(al, au)?;
+    check(bl, bu)?;
+    if are_finite(lower, upper) {
+        Ok(())
+    } else {
+        Err(Reason::NotFinite)
     }
-    let b = check(bl, bu);
-    if b != 0 {
-        return b;
-    }
-    if are_finite(lower, upper) { 0 } else { 3 }
 }
 
 // Adds a pair of cells, as `Sums::step` does.
@@ -53,7 +51,7 @@ fn step_pair(s: Sums, a: Apart, bl: u32, bu: u32) -> Sums
 }
 
 // The sums [lower, upper] with the pair of cells [al, au] and [bl, bu] added: the least of the four corner products to the lower sum, all rounded down, and
-// the greatest to the upper sum, all rounded up. Refused with 3 or 4, or with 5 where a step is too large.
+// the greatest to the upper sum, all rounded up. Refused with NotFinite or Crossed, or with TooLarge where a step is.
 #[tactic(auto, unfolding(crate::specs::Pair::pair_added))]
 pub fn add_pair(
     lower: u32,
@@ -62,16 +60,13 @@ pub fn add_pair(
     au: u32,
     bl: u32,
     bu: u32,
-) -> Result<(u32, u32), Refusal>
+) -> Result<(u32, u32), Reason>
     ensures { result ≡ pair_added (lower, upper) (al, au) (bl, bu) }
 {
-    let fault = pair_fault(lower, upper, al, au, bl, bu);
-    if fault != 0 {
-        return Err(Refusal::of_matrix(fault, 0));
-    }
+    pair_fault(lower, upper, al, au, bl, bu)?;
     let s = step_pair(Sums::of_bounds(lower, upper), Apart::new(al, au), bl, bu);
     if s.refused() {
-        return Err(Refusal::of_matrix(5, 0));
+        return Err(Reason::TooLarge);
     }
     Ok((s.lower(), s.upper()))
 }

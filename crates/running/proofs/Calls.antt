@@ -3,7 +3,7 @@ use mathlib.Core.Path.{◌≡◌, ap, ◌∙◌}
 use Prim.Native.Nat.{ℕ, ◌<◌}
 use lib.Dec.{ltb}
 use borrow.Author.Tests.{ltb-true}
-use Rattle.refusals.specs.Refusal.{of_matrix}
+use Rattle.refusals.specs.declared.reason.Reason.TheVariants.{WrongSize}
 use Rattle.refusals.specs.Answer.{Answer, gives, done, unless, then}
 use Rattle.refusals.proofs.Answers.{then_tells, unless_tells}
 use Rattle.running.specs.declared.cell.Gauged.{Gauged}
@@ -16,7 +16,7 @@ module _ (v : Running) (a b : Gauged) where
   -- sums that are given have room for one pair more
   pub sums_room : (x : ℕ × ℕ) → sums_of v a b ≡ gives x → v.pairs < 32
   unfolding sums_of
-  sums_room x e = ltb-true v.pairs 32 (unless_tells _ _ (then_tells (unless (ltb v.pairs 32) (of_matrix 1 0)) _ x e).0.1)
+  sums_room x e = ltb-true v.pairs 32 (unless_tells _ _ (then_tells (unless (ltb v.pairs 32) WrongSize) _ x e).0.1)
 
   -- the answer n to the pair is that of the pairs taken
   pub answers_said : (n : Answer Running) → n ≡ take_of v a b → AnswersAfter v a b (then n done)

@@ -13,6 +13,7 @@ use Rattle.rounding.specs.Rounding.{ceil, lo, hi, up, down}
 use Rattle.enclosure.specs.Sums.{sum}
 use Rattle.enclosure.specs.Methods.{least_term, greatest_term, total, entry₁, entry}
 use Rattle.enclosure.specs.RunningSums.{add_pair}
+use Rattle.refusals.specs.declared.reason.Reason.TheVariants.{WrongSize, UnknownClass, NotFinite, Crossed}
 use Rattle.refusals.specs.Answer.{refuse}
 use Rattle.binary32.specs.Number.{value_of}
 use Rattle.binary32.specs.Operations.{answer}
@@ -72,44 +73,44 @@ abbrev value : ℕ → ℕ → ℕ → Running
 value l n w = record { lower = l; upper = 0; pairs = n; amounts = w ∷ w ∷ w ∷ w ∷ w ∷ w ∷ w ∷ w ∷ [] }
 
 -- 1 for a thirty-third pair, before a class that is above 7, and for a number of pairs that no calls make
-thirty_third : take_of (value 0 32 0) (cell 0 0 8) (cell 0 0 8) ≡ refuse 1
+thirty_third : take_of (value 0 32 0) (cell 0 0 8) (cell 0 0 8) ≡ refuse WrongSize
 unfolding sums_of take_of gauged_of
 thirty_third = refl
 
-far_more : take_of (value 0 0xFFFFFFFF 0) (cell 0 0 0) (cell 0 0 0) ≡ refuse 1
+far_more : take_of (value 0 0xFFFFFFFF 0) (cell 0 0 0) (cell 0 0 0) ≡ refuse WrongSize
 unfolding sums_of take_of
 far_more = refl
 
 -- 10 before 3 in one cell, whatever the class is above 7; 3 of the first cell before 10 of the second; 4 of the first before 3 of the second
-class_first : take_of (value 0 31 0) (cell 0x7F800000 0 0x100) (cell 0 0 0) ≡ refuse 10
+class_first : take_of (value 0 31 0) (cell 0x7F800000 0 0x100) (cell 0 0 0) ≡ refuse UnknownClass
 unfolding sums_of take_of gauged_of
 class_first = refl
 
-cell_first : take_of (value 0 0 0) (cell 0x7F800000 0 0) (cell 0 0 8) ≡ refuse 3
+cell_first : take_of (value 0 0 0) (cell 0x7F800000 0 0) (cell 0 0 8) ≡ refuse NotFinite
 unfolding sums_of take_of gauged_of worn_fault widened_of fault_of
 cell_first = refl
 
-order_first : take_of (value 0 0 0) (cell 0x3F800000 0 7) (cell 0x7F800000 0 0) ≡ refuse 4
+order_first : take_of (value 0 0 0) (cell 0x3F800000 0 7) (cell 0x7F800000 0 0) ≡ refuse Crossed
 unfolding sums_of take_of gauged_of worn_fault widened_of fault_of value_of val
 order_first = refl
 
 -- ---- values that no call made
 
 -- an amount that is no number: 3, with the cell that uses it
-no_amount : take_of (value 0 0 0x7FC00000) (cell 0x3F800000 0 0) (cell 0 0 8) ≡ refuse 3
+no_amount : take_of (value 0 0 0x7FC00000) (cell 0x3F800000 0 0) (cell 0 0 8) ≡ refuse NotFinite
 unfolding sums_of take_of gauged_of worn_fault widened_of
 no_amount = refl
 
 -- an amount of -1 crosses [1, 1]: 4, after the second cell was checked
-crossed : take_of (value 0 0 0xBF800000) (cell 0x3F800000 0x3F800000 0) (cell 0 0 8) ≡ refuse 10
+crossed : take_of (value 0 0 0xBF800000) (cell 0x3F800000 0x3F800000 0) (cell 0 0 8) ≡ refuse UnknownClass
 unfolding sums_of take_of gauged_of worn_fault widened_of fault_of answer value_of val encode expo size MAX ceil lo hi up down
 crossed = refl
 
-crossed_later : take_of (value 0x7F800000 0 0xBF800000) (cell 0x3F800000 0x3F800000 0) (cell 0xC0000000 0x40000000 0) ≡ refuse 4
+crossed_later : take_of (value 0x7F800000 0 0xBF800000) (cell 0x3F800000 0x3F800000 0) (cell 0xC0000000 0x40000000 0) ≡ refuse Crossed
 unfolding sums_of take_of gauged_of worn_fault widened_of fault_of pair_fault pair_added answer value_of val encode expo size MAX ceil lo hi up down
 crossed_later = refl
 
 -- a sum that is no number: 3, after both cells
-no_sum : take_of (value 0x7F800000 0 0) (cell 0x3F800000 0x3F800000 0) (cell 0x3F800000 0x3F800000 0) ≡ refuse 3
+no_sum : take_of (value 0x7F800000 0 0) (cell 0x3F800000 0x3F800000 0) (cell 0x3F800000 0x3F800000 0) ≡ refuse NotFinite
 unfolding sums_of take_of gauged_of worn_fault widened_of fault_of pair_fault pair_added answer value_of val encode expo size MAX ceil lo hi up down
 no_sum = refl

@@ -17,9 +17,9 @@ use Rattle.rounding.specs.Pattern.{encode}
 use Rattle.enclosure.specs.Arithmetic.{of}
 use Rattle.enclosure.specs.Methods.{Range, classical}
 use Rattle.enclosure.specs.RunningSums.{zero_range, add_pair}
-use Rattle.refusals.specs.Refusal.{of_matrix}
-use Rattle.refusals.specs.Answer.{Answer, gives, refuses, unless, then, and_then}
-use Rattle.refusals.proofs.Answers.{passing_on}
+use Rattle.refusals.specs.declared.reason.Reason.TheVariants.{TooLarge, WrongSize}
+use Rattle.refusals.specs.Answer.{Answer, Judged, gives, refuses, done, unplaced, unless, then, and_then}
+use Rattle.refusals.proofs.Answers.{then_gives}
 use Rattle.binary32.specs.Number.{finites, pattern_of}
 use Rattle.binary32.proofs.Held.{is_finite, pattern_value, pattern_finite}
 use Rattle.intervals.specs.Conversion.{fault_of}
@@ -28,7 +28,7 @@ use Rattle.matrices.proofs.EntryNumbers.{Numbers, numbers_of}
 use Rattle.sheets.specs.Load.{load_of}
 use Rattle.products.specs.Classical.{pattern_cell}
 use Rattle.products.specs.Pair.{range_of, range_answer, pair_fault, pair_added}
-use Rattle.products.proofs.AddedPair.{sums_faulty}
+use Rattle.products.proofs.AddedPair.{faultless}
 use Rattle.running.specs.declared.cell.Gauged.{Gauged}
 use Rattle.running.specs.declared.Running.{Running}
 use Rattle.running.specs.Gauged.{gauged_of}
@@ -39,7 +39,7 @@ use Rattle.running.proofs.Entries.{over_none, over_more}
 
 -- neither cell of a pair has a fault
 abbrev pub Fine : Pair → Type 0
-Fine p = (fault_of p.0.0 p.0.1 ≡ 0) × (fault_of p.1.0 p.1.1 ≡ 0)
+Fine p = (fault_of p.0.0 p.0.1 ≡ done) × (fault_of p.1.0 p.1.1 ≡ done)
 
 -- pair l of a list
 abbrev pub pair_at : List Pair → ℕ → Pair
@@ -100,7 +100,7 @@ Agree (refuses r) (gives t) = ⊥
 
 module _ (v : Running) (t : Taken) (s : Stands v t) where
   -- ---- a pair of cells without fault
-  module _ (x y : ℕ × ℕ) (fx : fault_of x.0 x.1 ≡ 0) (fy : fault_of y.0 y.1 ≡ 0) where
+  module _ (x y : ℕ × ℕ) (fx : fault_of x.0 x.1 ≡ done) (fy : fault_of y.0 y.1 ≡ done) where
     abbrev more : List Pair
     more = t.pairs ++ ((x, y) ∷ [])
 
@@ -110,7 +110,7 @@ module _ (v : Running) (t : Taken) (s : Stands v t) where
 
     by_value : pair_added (v.lower, v.upper) x y ≡ range_answer next
     unfolding pair_added
-    by_value = sym (passing_on (pair_fault (v.lower, v.upper) x y) _ (sym (sums_faulty (v.lower, v.upper) x y fx fy true (bounds_finite v t s))))
+    by_value = sym (then_gives (pair_fault (v.lower, v.upper) x y) tt _ _ (faultless (v.lower, v.upper) x y fx fy (bounds_finite v t s)) refl)
 
     by_list : entry_over more ≡ next
     unfolding bind
@@ -145,26 +145,26 @@ module _ (v : Running) (t : Taken) (s : Stands v t) where
   -- ---- a pair as it is gauged
 
   -- with these sums, and with these pairs
-  abbrev with_sums : ℕ × ℕ → Answer Running
+  abbrev with_sums : ℕ × ℕ → Judged Running
   with_sums z = gives (record { lower = z.0; upper = z.1; pairs = length t.pairs + 1; amounts = t.amounts })
 
-  abbrev with_pairs : List Pair → Answer Taken
-  with_pairs ps = then (unless (not (refused (entry_over ps))) (of_matrix 5 0)) (gives (record { amounts = t.amounts; pairs = ps }))
+  abbrev with_pairs : List Pair → Judged Taken
+  with_pairs ps = then (unless (not (refused (entry_over ps))) TooLarge) (gives (record { amounts = t.amounts; pairs = ps }))
 
   pub agree_take : (a b : Gauged) → Agree (take_of v a b) (taken_with t a b)
   unfolding take_of sums_of taken_with
   agree_take a b =
       rw (s.pairs, s.amounts) (go (ltb (length t.pairs) 32) (gauged_of t.amounts a) (gauged_of t.amounts b) refl refl refl)
     where
-      last : (x y : ℕ × ℕ) → fault_of x.0 x.1 ≡ 0 → fault_of y.0 y.1 ≡ 0 → length t.pairs < 32 → (m : Option Range)
+      last : (x y : ℕ × ℕ) → fault_of x.0 x.1 ≡ done → fault_of y.0 y.1 ≡ done → length t.pairs < 32 → (m : Option Range)
           → pair_added (v.lower, v.upper) x y ≡ range_answer m → entry_over (t.pairs ++ ((x, y) ∷ [])) ≡ m
-          → Agree (and_then (pair_added (v.lower, v.upper) x y) with_sums) (with_pairs (t.pairs ++ ((x, y) ∷ [])))
+          → Agree (unplaced (and_then (pair_added (v.lower, v.upper) x y) with_sums)) (unplaced (with_pairs (t.pairs ++ ((x, y) ∷ []))))
       last x y fx fy h none p q = rw (p, q) refl
       last x y fx fy h (some e) p q = rw (p, q) (stands_more x y fx fy e q h)
 
-      go : (n : Bool) (x y : Answer (ℕ × ℕ)) → ltb (length t.pairs) 32 ≡ n → gauged_of t.amounts a ≡ x → gauged_of t.amounts b ≡ y
-          → Agree (and_then (then (unless n (of_matrix 1 0)) (and_then x λ z. and_then y λ w. pair_added (v.lower, v.upper) z w)) with_sums)
-          (then (unless n (of_matrix 1 0)) (and_then x λ z. and_then y λ w. with_pairs (t.pairs ++ ((z, w) ∷ []))))
+      go : (n : Bool) (x y : Judged (ℕ × ℕ)) → ltb (length t.pairs) 32 ≡ n → gauged_of t.amounts a ≡ x → gauged_of t.amounts b ≡ y
+          → Agree (unplaced (and_then (then (unless n WrongSize) (and_then x λ z. and_then y λ w. pair_added (v.lower, v.upper) z w)) with_sums))
+          (unplaced (then (unless n WrongSize) (and_then x λ z. and_then y λ w. with_pairs (t.pairs ++ ((z, w) ∷ [])))))
       go false x y h p q = refl
       go true (refuses r) y h p q = refl
       go true (gives x) (refuses r) h p q = refl
@@ -178,8 +178,8 @@ module _ (v : Running) (t : Taken) (s : Stands v t) where
   unfolding exchange_of taken_load
   agree_exchange load = go (load_of load) refl
     where
-      go : (l : Answer (List ℕ)) → load_of load ≡ l
-          → Agree (and_then l λ w. gives (record { lower = v.lower; upper = v.upper; pairs = v.pairs; amounts = w })) (and_then l λ w. gives (record { amounts = w; pairs = t.pairs }))
+      go : (l : Judged (List ℕ)) → load_of load ≡ l
+          → Agree (unplaced (and_then l λ w. gives (record { lower = v.lower; upper = v.upper; pairs = v.pairs; amounts = w }))) (unplaced (and_then l λ w. gives (record { amounts = w; pairs = t.pairs })))
       go (refuses r) e = refl
       go (gives w) e =
           record {

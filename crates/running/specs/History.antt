@@ -1,5 +1,5 @@
 -- What a running entry shows after any calls: the entry by method 1 over all pairs taken, each widened by the amounts in force when it was taken.
--- Definitions only (02, P7).
+-- Definitions only.
 use Rattle.std.specs.Prelude.{◌≡◌, not, List, [], ◌∷◌, ◌++◌, ℕ, ltb, length, get_or}
 use Rattle.std.proofs.Math.Option.{Option}
 use Rattle.rounding.specs.Format.{binary32, units}
@@ -7,8 +7,8 @@ use Rattle.enclosure.specs.Arithmetic.{of}
 use Rattle.enclosure.specs.Cell.{Cell}
 use Rattle.enclosure.specs.Methods.{Range, classical, entry}
 use Rattle.enclosure.specs.Demand.{Encloses}
-use Rattle.refusals.specs.Refusal.{of_matrix}
-use Rattle.refusals.specs.Answer.{Answer, gives, done, unless, then, and_then}
+use Rattle.refusals.specs.declared.reason.Reason.TheVariants.{WrongSize, TooLarge}
+use Rattle.refusals.specs.Answer.{Answer, gives, done, unplaced, unless, then, and_then}
 use Rattle.refusals.specs.Sizes.{largest_size}
 use Rattle.matrices.specs.Entries.{refused}
 use Rattle.sheets.specs.Wear.{fixed_amounts}
@@ -56,17 +56,17 @@ pub record Taken : Type 0 where
   pub amounts : List ℕ
   pub pairs : List Pair
 
--- one pair more: refused with 1 as the thirty-third, then by the first cell, by the second, and with 5 where the entry over all pairs is
+-- one pair more: refused as the thirty-third, then by the first cell, by the second, and as too large where the entry over all pairs is
 unfoldable pub taken_with : Taken → Gauged → Gauged → Answer Taken
 taken_with t a b =
-    then (unless (ltb (length t.pairs) largest_size) (of_matrix 1 0))
+    unplaced (then (unless (ltb (length t.pairs) largest_size) WrongSize)
     (and_then (gauged_of t.amounts a) λ x. and_then (gauged_of t.amounts b) λ y.
-    then (unless (not (refused (entry_over (t.pairs ++ ((x, y) ∷ []))))) (of_matrix 5 0))
-    (gives (record { amounts = t.amounts; pairs = t.pairs ++ ((x, y) ∷ []) })))
+    then (unless (not (refused (entry_over (t.pairs ++ ((x, y) ∷ []))))) TooLarge)
+    (gives (record { amounts = t.amounts; pairs = t.pairs ++ ((x, y) ∷ []) }))))
 
--- other amounts for the pairs that follow: refused with 6, 3 or 13
+-- other amounts for the pairs that follow
 unfoldable pub taken_load : Taken → List ℕ → Answer Taken
-taken_load t load = and_then (load_of load) λ amounts. gives (record { amounts = amounts; pairs = t.pairs })
+taken_load t load = unplaced (and_then (load_of load) λ amounts. gives (record { amounts = amounts; pairs = t.pairs }))
 
 -- what is taken after a history: what was refused changes nothing
 unfoldable pub taken : History → Taken

@@ -1,7 +1,7 @@
--- The running entry as a value, and what each call makes of it, on all values. Definitions only (02, P7).
-use Rattle.std.specs.Prelude.{List, ℕ, ◌+◌, ltb}
-use Rattle.refusals.specs.Refusal.{of_matrix}
-use Rattle.refusals.specs.Answer.{Answer, gives, refuses, unless, then, and_then}
+-- The running entry as a value, and what each call makes of it, on all values. Definitions only.
+use Rattle.std.specs.Prelude.{List, ℕ, ◌+◌, ltb, Result}
+use Rattle.refusals.specs.declared.reason.Reason.TheVariants.{WrongSize}
+use Rattle.refusals.specs.Answer.{Answer, Judged, gives, refuses, unplaced, unless, then, and_then}
 use Rattle.refusals.specs.Sizes.{largest_size}
 use Rattle.sheets.specs.Wear.{fixed_amounts}
 use Rattle.sheets.specs.Load.{load_of}
@@ -19,20 +19,20 @@ new_of = record { lower = 0; upper = 0; pairs = 0; amounts = fixed_amounts }
 unfoldable pub show_of : Running → Shown
 show_of v = record { lower = v.lower; upper = v.upper; pairs = v.pairs }
 
--- the sums with a pair of cells added, or the refusal: 1 where 32 pairs are taken, then that of the first cell, of the second, and of the sums
-unfoldable pub sums_of : Running → Gauged → Gauged → Answer (ℕ × ℕ)
+-- the sums with a pair of cells added, or the reason why not: 32 pairs are taken; then that of the first cell, of the second, and of the sums
+unfoldable pub sums_of : Running → Gauged → Gauged → Judged (ℕ × ℕ)
 sums_of v a b =
-    then (unless (ltb v.pairs largest_size) (of_matrix 1 0))
+    then (unless (ltb v.pairs largest_size) WrongSize)
     (and_then (gauged_of v.amounts a) λ x. and_then (gauged_of v.amounts b) λ y. pair_added (v.lower, v.upper) x y)
 
--- the next value: by a pair, and by the amounts of a load, which is refused with 6, 3 or 13
+-- the next value: by a pair, and by the amounts of a load
 unfoldable pub take_of : Running → Gauged → Gauged → Answer Running
-take_of v a b = and_then (sums_of v a b) λ s. gives (record { lower = s.0; upper = s.1; pairs = v.pairs + 1; amounts = v.amounts })
+take_of v a b = unplaced (and_then (sums_of v a b) λ s. gives (record { lower = s.0; upper = s.1; pairs = v.pairs + 1; amounts = v.amounts }))
 
 unfoldable pub exchange_of : Running → List ℕ → Answer Running
-exchange_of v load = and_then (load_of load) λ amounts. gives (record { lower = v.lower; upper = v.upper; pairs = v.pairs; amounts = amounts })
+exchange_of v load = unplaced (and_then (load_of load) λ amounts. gives (record { lower = v.lower; upper = v.upper; pairs = v.pairs; amounts = amounts }))
 
 -- what a call leaves: what it gives, or the same as before where it is refused
-abbrev pub or_same : {A : Type 0} → Answer A → A → A
+abbrev pub or_same : {A E : Type 0} → Result A E → A → A
 or_same (gives v) same = v
 or_same (refuses r) same = same

@@ -2,7 +2,7 @@
 ghost use Rattle.std.specs.Prelude.{◌≡◌};
 ghost use Rattle.running.specs.Gauged.{gauged_of};
 
-use refusals::Refusal;
+use refusals::reason::Reason;
 use sheets::worn;
 
 // A cell as it was gauged: its bounds and its wear class.
@@ -17,13 +17,13 @@ pub struct Gauged {
 const LAST_CLASS: u32 = 7;
 
 impl Gauged {
-    // The bounds, widened by the amount of the cell's class among eight. Refused with 10, 3, 4 or 5.
+    // The bounds, widened by the amount of the cell's class among eight. Refused where the class is above 7, and by the widening.
     #[tactic(auto, unfolding(crate::specs::Gauged::gauged_of))]
-    pub fn widened(self, amounts: &[u32; 8]) -> Result<(u32, u32), Refusal>
+    pub fn widened(self, amounts: &[u32; 8]) -> Result<(u32, u32), Reason>
         ensures { result ≡ gauged_of amounts.now self }
     {
         if self.class > LAST_CLASS {
-            return Err(Refusal::of_matrix(10, 0));
+            return Err(Reason::UnknownClass);
         }
         let class = self.class as usize;
         worn::widened(self.lower, self.upper, amounts[class])

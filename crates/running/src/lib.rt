@@ -10,6 +10,7 @@ ghost use Rattle.running.specs.History.{AnswersAfter, ShowsEntry};
 use cell::Gauged;
 use products::pair::add_pair;
 use refusals::Refusal;
+use refusals::reason::Reason;
 use refusals::sizes::LARGEST_SIZE;
 use sheets::{load, wear};
 
@@ -49,13 +50,13 @@ impl Running {
         }
     }
 
-    // The sums with a pair of cells added. Refused with 1 for a thirty-third pair, then by the first cell, by the second, and with 5 by the sums.
+    // The sums with a pair of cells added. Refused for a thirty-third pair, then by the first cell, by the second, and by the sums.
     #[tactic(auto, unfolding(crate::specs::Value::sums_of))]
-    fn sums(self, a: Gauged, b: Gauged) -> Result<(u32, u32), Refusal>
+    fn sums(self, a: Gauged, b: Gauged) -> Result<(u32, u32), Reason>
         ensures { result ≡ sums_of self a b }
     {
         if self.pairs >= MOST_PAIRS {
-            return Err(Refusal::of_matrix(1, 0));
+            return Err(Reason::WrongSize);
         }
         let (al, au) = a.widened(&self.amounts)?;
         let (bl, bu) = b.widened(&self.amounts)?;
@@ -82,11 +83,7 @@ impl Running {
     pub fn exchange(self, bytes: &[u8]) -> Result<Running, Refusal>
         ensures { result ≡ exchange_of self bytes.now }
     {
-        let loaded = load::read(bytes);
-        if loaded.fault != 0 {
-            return Err(Refusal::of_matrix(loaded.fault, 0));
-        }
-        let amounts = loaded.amounts;
+        let amounts = load::read(bytes)?;
         Ok(Running { amounts, ..self })
     }
 

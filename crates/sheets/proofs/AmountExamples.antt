@@ -6,6 +6,7 @@ use lib.Ieee.{size}
 use Rattle.rounding.specs.Format.{MAX, expo}
 use Rattle.rounding.specs.Pattern.{val, encode}
 use Rattle.rounding.specs.Rounding.{ceil, lo, hi, up, down}
+use Rattle.refusals.specs.declared.reason.Reason.TheVariants.{WrongLayout, NegativeAmount, NotFinite, TooLarge}
 use Rattle.refusals.specs.Refusal.{of_cell}
 use Rattle.refusals.specs.Answer.{gives, refuses, refuse}
 use Rattle.refusals.specs.Sizes.{check_size, check_lengths, check_fit}
@@ -26,7 +27,7 @@ alone : read_of (head_bytes 0 32 32 1) 1024 1024 ≡ gives (sizes 32 32)
 unfolding u16_at all_from blank whole framed check_size check_lengths check_fit walk chain_of read_of record_bytes
 alone = refl
 
-third_kind : read_of (record_bytes 0 32 32 (1 + 65536 * 2) 0) 1024 1024 ≡ refuse 6
+third_kind : read_of (record_bytes 0 32 32 (1 + 65536 * 2) 0) 1024 1024 ≡ refuse WrongLayout
 unfolding u16_at whole framed read_of record_bytes
 third_kind = refl
 
@@ -48,16 +49,16 @@ unfolding u16_at u32_at record_of fault_of below_zero wear_fault wear_amount cel
 eighth = refl
 
 -- the greatest amount below zero, beside a bound that is no number: 14 before 3
-negative : read_of (cell_sheet 1 0x7FC00000 0x3F800000 0x80000001) 1 1 ≡ refuses (of_cell 14 0 0 0)
+negative : read_of (cell_sheet 1 0x7FC00000 0x3F800000 0x80000001) 1 1 ≡ refuses (of_cell NegativeAmount 0 0 0)
 unfolding u16_at u32_at all_from blank record_of whole framed check_size check_lengths check_fit fault_of below_zero wear_fault wear_amount cell_amount worn_fault widened_of judge_of visit_of walk chain_of read_of record_bytes value_of val
 negative = refl
 
 -- minus infinity, beside bounds in the wrong order: 3, and before 4
-infinite : read_of (cell_sheet 1 0x40000000 0x3F800000 0xFF800000) 1 1 ≡ refuses (of_cell 3 0 0 0)
+infinite : read_of (cell_sheet 1 0x40000000 0x3F800000 0xFF800000) 1 1 ≡ refuses (of_cell NotFinite 0 0 0)
 unfolding u16_at u32_at all_from blank record_of whole framed check_size check_lengths check_fit fault_of below_zero wear_fault wear_amount cell_amount worn_fault widened_of judge_of visit_of walk chain_of read_of record_bytes value_of val
 infinite = refl
 
 -- MAX as an amount is a number, but [1, 1] widened by it is too large
-far : read_of (cell_sheet 1 0x3F800000 0x3F800000 0x7F7FFFFF) 1 1 ≡ refuses (of_cell 5 0 0 0)
+far : read_of (cell_sheet 1 0x3F800000 0x3F800000 0x7F7FFFFF) 1 1 ≡ refuses (of_cell TooLarge 0 0 0)
 unfolding u16_at u32_at all_from blank record_of whole framed check_size check_lengths check_fit fault_of below_zero wear_fault wear_amount cell_amount worn_fault widened_of judge_of visit_of walk chain_of read_of record_bytes value_of val encode expo size MAX ceil lo hi up down answer
 far = refl

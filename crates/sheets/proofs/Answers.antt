@@ -4,6 +4,7 @@ use mathlib.Core.Bool.{true}
 use mathlib.Core.List.{List}
 use Prim.Native.Nat.{ℕ, ◌+◌, ◌*◌, ◌≤◌}
 use lib.ListN.{length, drop, replicate, length-replicate}
+use Rattle.refusals.specs.declared.reason.Reason.TheVariants.{WrongLayout}
 use Rattle.refusals.specs.Refusal.{of_matrix}
 use Rattle.refusals.specs.Answer.{Answer, gives, done, unless, then}
 use Rattle.refusals.specs.Sizes.{check_fit}
@@ -47,7 +48,7 @@ pub record Accepted (amounts s : List ℕ) (l u r c : ℕ) : Type 0 where
 
 pub accepted_by : (amounts : List ℕ) (s : List ℕ) (l u r c : ℕ) → read_by amounts s l u ≡ gives (sizes r c) → Accepted amounts s l u r c
 accepted_by amounts s l u r c e =
-    let a = then_tells (unless (framed s) (of_matrix 6 0)) _ (sizes r c) e in
+    let a = then_tells (unless (framed s) (of_matrix WrongLayout 0)) _ (sizes r c) e in
     let b = then_tells (check_fit 0 (rows_of s) (columns_of s) l u) _ (sizes r c) a.1 in
     let d = then_tells (chain_of amounts s).verdict (gives (sizes (rows_of s) (columns_of s))) (sizes r c) b.1 in
     let p : ◌≡◌ {A = Sizes} (sizes (rows_of s) (columns_of s)) (sizes r c) = cc in

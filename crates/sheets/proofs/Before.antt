@@ -4,6 +4,7 @@ use mathlib.Core.Bool.{Bool, true, false, cond}
 use mathlib.Core.List.{List}
 use Prim.Native.Nat.{ℕ, ◌*◌, ◌≤◌}
 use lib.Dec.{eqb}
+use Rattle.refusals.specs.declared.reason.Reason.TheVariants.{WrongLayout}
 use Rattle.refusals.specs.Refusal.{of_matrix}
 use Rattle.refusals.specs.Answer.{Answer, refuse, unless, then}
 use Rattle.sheets.specs.declared.Sizes.{Sizes}
@@ -26,14 +27,14 @@ module _ (s : List ℕ) where
       go true = refl
       go false = refl
 
-  pub before_refuses : kind_of s ≡ 1 → (next : Answer Sizes) → read_before s next ≡ refuse 6
+  pub before_refuses : kind_of s ≡ 1 → (next : Answer Sizes) → read_before s next ≡ refuse WrongLayout
   unfolding read_before
-  before_refuses e next = ap (λ t. then (unless t (of_matrix 6 0)) next) (amount_head e)
+  before_refuses e next = ap (λ t. then (unless t (of_matrix WrongLayout 0)) next) (amount_head e)
 
   pub before_same : kind_of s ≡ 0 → framed_before s ≡ framed s
   unfolding framed
   before_same e = sym (head_by 0 e) ∙ rw e
 
 -- what was written
-pub before_written : (rows columns : ℕ) (lo up : List ℕ) → rows * columns ≤ 1024 → (next : Answer Sizes) → read_before (sheet_of rows columns lo up) next ≡ refuse 6
+pub before_written : (rows columns : ℕ) (lo up : List ℕ) → rows * columns ≤ 1024 → (next : Answer Sizes) → read_before (sheet_of rows columns lo up) next ≡ refuse WrongLayout
 before_written rows columns lo up few next = before_refuses (sheet_of rows columns lo up) (kind_back rows columns lo up few) next

@@ -14,6 +14,7 @@ use Rattle.rounding.specs.Format.{binary32, expo}
 use Rattle.rounding.specs.Pattern.{val, encode}
 use Rattle.rounding.proofs.Pattern.{val_lt}
 use Rattle.rounding.proofs.Encoding.{encode_val}
+use Rattle.refusals.specs.declared.reason.Reason.TheVariants.{NotFinite}
 use Rattle.refusals.specs.Answer.{gives, refuse}
 use Rattle.refusals.proofs.Answers.{passing_tells}
 use Rattle.binary32.specs.Number.{signed_by, value_of, pattern_of, finite}
@@ -70,7 +71,7 @@ fine_finite a b e = let f = (fine_tells a b e).both in (finites_first a b f, fin
 
 pub answer_is : (op : ℤ → ℤ → Option ℤ) (a b : ℕ) → finite a ≡ true → finite b ≡ true → answer op a b ≡ answer_of (op (value_of a) (value_of b))
 unfolding answer
-answer_is op a b e f = ap₂ (λ s t. cond (cond s t false) (answer_of (op (value_of a) (value_of b))) (refuse 3)) e f
+answer_is op a b e f = ap₂ (λ s t. cond (cond s t false) (answer_of (op (value_of a) (value_of b))) (refuse NotFinite)) e f
 
 -- ---- a cell that is read with an amount
 

@@ -8,6 +8,7 @@ use lib.Dec.{eqb, leb, ltb}
 use lib.IntN.{pos}
 use lib.Signed.{le_z}
 use borrow.Author.Tests.{le-leb, lt-leb, eq-eqb, ne_eqb, ltb-false, ltb-true, eqb-true}
+use Rattle.refusals.specs.declared.reason.Reason.TheVariants.{WrongLayout}
 use Rattle.refusals.specs.Refusal.{of_matrix, of_cell}
 use Rattle.refusals.specs.Answer.{gives, refuses}
 use Rattle.refusals.proofs.Answers.{gives_injective, not_both}
@@ -90,11 +91,11 @@ module _ (kind : ℕ) (amounts : List ℕ) (r : Record) where
     unfolding cell_amount
     refused h = rw (← e, ne_eqb n 0 h)
 
-    pub amount_unnamed : n ≡ 6 → refuses (of_matrix 6 0) ≡ cell_amount kind amounts r
-    amount_unnamed h = ap (λ t. refuses (cond t (of_matrix 6 0) (of_cell n 0 r.row r.column))) (sym (eq-eqb n 6 h)) ∙ refused (λ k. omega arith)
+    pub amount_unnamed : n ≡ 6 → refuses (of_matrix WrongLayout 0) ≡ cell_amount kind amounts r
+    amount_unnamed h = ap (λ t. refuses (cond t (of_matrix WrongLayout 0) (of_cell n 0 r.row r.column))) (sym (eq-eqb n 6 h)) ∙ refused (λ k. omega arith)
 
     pub amount_named : (n ≡ 6 → ⊥) → (n ≡ 0 → ⊥) → refuses (of_cell n 0 r.row r.column) ≡ cell_amount kind amounts r
-    amount_named h k = ap (λ t. refuses (cond t (of_matrix 6 0) (of_cell n 0 r.row r.column))) (sym (ne_eqb n 6 h)) ∙ refused k
+    amount_named h k = ap (λ t. refuses (cond t (of_matrix WrongLayout 0) (of_cell n 0 r.row r.column))) (sym (ne_eqb n 6 h)) ∙ refused k
 
 -- a record of the plain form: the amount zero in an amount sheet
 pub plain_amount : (amounts : List ℕ) (r : Record) → r.wear ≡ 0 → cell_amount 1 amounts r ≡ gives 0

@@ -5,6 +5,7 @@ use lib.Ieee.{size}
 use Rattle.rounding.specs.Format.{MAX, expo}
 use Rattle.rounding.specs.Pattern.{val, encode}
 use Rattle.rounding.specs.Rounding.{ceil, lo, hi, up, down}
+use Rattle.refusals.specs.declared.reason.Reason.TheVariants.{WrongSize, NotRising, Outside, TooLarge, WrongLayout, UnknownClass}
 use Rattle.refusals.specs.Refusal.{of_cell}
 use Rattle.refusals.specs.Answer.{gives, refuses, refuse}
 use Rattle.refusals.specs.Sizes.{check_size, check_lengths, check_fit}
@@ -26,17 +27,17 @@ alone : read_of (record_bytes 0 32 32 1 0) 1024 1024 ≡ gives (sizes 32 32)
 unfolding u16_at all_from blank whole framed check_size check_lengths check_fit walk chain_of read_of record_bytes
 alone = refl
 
-large : read_of (record_bytes 0 33 1 1 0) 1024 1024 ≡ refuse 1
+large : read_of (record_bytes 0 33 1 1 0) 1024 1024 ≡ refuse WrongSize
 unfolding u16_at all_from blank whole framed check_size check_lengths check_fit read_of record_bytes
 large = refl
 
 -- a chain that comes back to its first cell, [1, 2]
-loop : read_of (record_bytes 1 1 2 2 0 ++ record_bytes 1 0 0 0x3F800000 0x40000000) 2 2 ≡ refuse 8
+loop : read_of (record_bytes 1 1 2 2 0 ++ record_bytes 1 0 0 0x3F800000 0x40000000) 2 2 ≡ refuse NotRising
 unfolding u16_at u32_at all_from blank record_of whole framed check_size check_lengths check_fit units_of amount_of fixed_amounts fault_of wear_fault wear_amount cell_amount worn_fault widened_of judge_of visit_of walk chain_of read_of record_bytes value_of val encode expo size MAX ceil lo hi up down answer
 loop = refl
 
 -- an index at the record count
-past : read_of (record_bytes 2 1 1 2 0 ++ record_bytes 0 0 0 0 0) 1 1 ≡ refuse 7
+past : read_of (record_bytes 2 1 1 2 0 ++ record_bytes 0 0 0 0 0) 1 1 ≡ refuse Outside
 unfolding u16_at u32_at all_from blank record_of whole framed check_size check_lengths check_fit judge_of visit_of walk chain_of read_of record_bytes
 past = refl
 
@@ -49,15 +50,15 @@ one_upper : matrix_of cell_upper (cell_sheet 0 0x3F800000 0x3F800000 7) ≡ 0x3F
 unfolding u16_at u32_at record_of units_of amount_of fixed_amounts fault_of wear_fault wear_amount cell_amount worn_fault widened_of judge_of visit_of walk chain_of put_in record_bytes value_of val encode expo size MAX ceil lo hi up down answer
 one_upper = refl
 
-far : read_of (cell_sheet 0 0x3F800000 0x7F7FFFFF 1) 1 1 ≡ refuses (of_cell 5 0 0 0)
+far : read_of (cell_sheet 0 0x3F800000 0x7F7FFFFF 1) 1 1 ≡ refuses (of_cell TooLarge 0 0 0)
 unfolding u16_at u32_at all_from blank record_of whole framed check_size check_lengths check_fit units_of amount_of fixed_amounts fault_of wear_fault wear_amount cell_amount worn_fault widened_of judge_of visit_of walk chain_of read_of record_bytes value_of val encode expo size MAX ceil lo hi up down answer
 far = refl
 
 -- byte 13 of a cell: 6 before 10; a class of 8: 10 before 3
-spare : read_of (cell_sheet 0 0x3F800000 0x3F800000 264) 1 1 ≡ refuse 6
+spare : read_of (cell_sheet 0 0x3F800000 0x3F800000 264) 1 1 ≡ refuse WrongLayout
 unfolding u16_at u32_at all_from blank record_of whole framed check_size check_lengths check_fit wear_fault wear_amount cell_amount judge_of visit_of walk chain_of read_of record_bytes
 spare = refl
 
-eighth : read_of (cell_sheet 0 0x7F800000 0x3F800000 8) 1 1 ≡ refuses (of_cell 10 0 0 0)
+eighth : read_of (cell_sheet 0 0x7F800000 0x3F800000 8) 1 1 ≡ refuses (of_cell UnknownClass 0 0 0)
 unfolding u16_at u32_at all_from blank record_of whole framed check_size check_lengths check_fit wear_fault wear_amount cell_amount judge_of visit_of walk chain_of read_of record_bytes
 eighth = refl

@@ -6,6 +6,7 @@ use native.Mathlib.Omega.{arith}
 use lib.Arith.{digits_lt}
 use lib.Dec.{ltb, leb}
 use borrow.Author.Tests.{le-ltb, lt-leb, leb-false, ltb-false}
+use Rattle.refusals.specs.declared.reason.Reason.TheVariants.{Outside, NotRising}
 use Rattle.refusals.specs.Answer.{Answer, gives, refuses, refuse, and_then}
 use Rattle.refusals.proofs.Answers.{not_both, next_tells}
 use Rattle.intervals.specs.Conversion.{outward_of}
@@ -37,7 +38,7 @@ cell_tells columns r c (gives x) h =
 module _ (rule : Record → Answer ℕ) (rows columns least : ℕ) (r : Record) where
   -- 7 by row and by column, 8; then the answer x by the rule and the bounds
   abbrev by_tests : Bool → Bool → Bool → Answer Cell → Answer Cell
-  by_tests s t u x = cond s (refuse 7) (cond t (refuse 7) (cond u (refuse 8) x))
+  by_tests s t u x = cond s (refuse Outside) (cond t (refuse Outside) (cond u (refuse NotRising) x))
 
   pub judge_by : (s t u : Bool) → leb rows r.row ≡ s → leb columns r.column ≡ t → ltb (position_of columns r) least ≡ u
       → by_tests s t u (and_then (rule r) (worn_cell columns r)) ≡ judge_of rule rows columns least r

@@ -6,6 +6,7 @@ use lib.Ieee.{size}
 use Rattle.rounding.specs.Format.{MAX, expo}
 use Rattle.rounding.specs.Pattern.{val, encode}
 use Rattle.rounding.specs.Rounding.{ceil, lo, hi, up, down}
+use Rattle.refusals.specs.declared.reason.Reason.TheVariants.{TooLarge, WrongLoad}
 use Rattle.refusals.specs.Refusal.{of_cell}
 use Rattle.refusals.specs.Answer.{Answer, gives, refuses, refuse}
 use Rattle.refusals.specs.Sizes.{check_size, check_lengths, check_fit}
@@ -88,17 +89,17 @@ worn_upper : uppers_with own (worn 1) (gives (sizes 1 1)) (7 ∷ 8 ∷ []) ≡ 0
 unfolding u16_at u32_at all_from blank record_of patterns_of fault_of wear_fault wear_amount cell_amount worn_fault widened_of judge_of visit_of walk chain_of put_in slice_with record_bytes value_of val encode expo size MAX ceil lo hi up down answer
 worn_upper = refl
 
-far : read_with own (worn 7) 1 1 ≡ refuses (of_cell 5 0 0 0)
+far : read_with own (worn 7) 1 1 ≡ refuses (of_cell TooLarge 0 0 0)
 unfolding u16_at u32_at all_from blank record_of whole framed check_size check_lengths check_fit patterns_of all_finite rising ascending amounts_fault load_fault load_of fault_of wear_fault wear_amount cell_amount worn_fault widened_of judge_of visit_of walk chain_of read_with record_bytes value_of val encode expo size MAX ceil lo hi up down answer
 far = refl
 
 -- a load is refused before the sheet is looked at, here one of no bytes
-first : read_with (load 1 1 0x3F800000 0x3F800000 0x3F800000) [] 0 0 ≡ refuse 13
+first : read_with (load 1 1 0x3F800000 0x3F800000 0x3F800000) [] 0 0 ≡ refuse WrongLoad
 unfolding u32_at patterns_of all_from all_finite ascending amounts_fault load_fault load_of read_with
 first = refl
 
 -- and whatever the sheet's kind; a cell with an amount of its own, here 1/2, is not widened by the load
-first_too : read_with (load 1 1 0x3F800000 0x3F800000 0x3F800000) (cell_sheet 1 0x3F800000 0x3F800000 0x3F000000) 1 1 ≡ refuse 13
+first_too : read_with (load 1 1 0x3F800000 0x3F800000 0x3F800000) (cell_sheet 1 0x3F800000 0x3F800000 0x3F000000) 1 1 ≡ refuse WrongLoad
 unfolding u32_at patterns_of all_from all_finite ascending amounts_fault load_fault load_of read_with
 first_too = refl
 

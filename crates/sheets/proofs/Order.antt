@@ -11,6 +11,7 @@ use lib.Dec.{eqb, ltb}
 use lib.IntN.{ℤ}
 use borrow.Author.Tests.{lt-leb, lt-ltb, ltb-true, ltb-false}
 use Rattle.rounding.specs.Rounding.{up, down}
+use Rattle.refusals.specs.declared.reason.Reason.TheVariants.{NotFinite, NotRising}
 use Rattle.refusals.specs.declared.Refusal.{Refusal}
 use Rattle.refusals.specs.Refusal.{of_matrix}
 use Rattle.refusals.specs.Answer.{Answer, gives, refuses, refuse, passing, and_then, both}
@@ -57,7 +58,7 @@ answer_low : (op : ℤ → ℤ → Option ℤ) (a b : ℕ) → Low (answer op a 
 unfolding answer
 answer_low op a b = go (finites a b) (op (value_of a) (value_of b))
   where
-    go : (t : Bool) (o : Option ℤ) → Low (cond t (answer_of o) (refuse 3))
+    go : (t : Bool) (o : Option ℤ) → Low (cond t (answer_of o) (refuse NotFinite))
     go true (some v) = tt
     go true none = omega arith
     go false o = omega arith
@@ -101,7 +102,7 @@ module _ (kind : ℕ) (amounts : List ℕ) (rows columns : ℕ) (q r : Record) (
   abbrev Later : Type 0
   Later = Before q.row q.column r.row r.column
 
-  unordered : (Later → ⊥) → judge_of rule rows columns (position_of columns q + 1) r ≡ refuse 8
+  unordered : (Later → ⊥) → judge_of rule rows columns (position_of columns q + 1) r ≡ refuse NotRising
   unordered h =
       sym (judge_by rule rows columns (position_of columns q + 1) r false false true (lt-leb rows r.row hr) (lt-leb columns r.column hc)
       (lt-ltb (position_of columns r) (position_of columns q + 1) (below (ltb (position_of columns q) (position_of columns r)) refl)))
@@ -110,21 +111,21 @@ module _ (kind : ℕ) (amounts : List ℕ) (rows columns : ℕ) (q r : Record) (
       below true e = absurd (h (to columns q.row q.column r.row r.column hq hc (ltb-true _ _ e)))
       below false e = omega (arith, ltb-false (position_of columns q) (position_of columns r) e)
 
-  ordered : judge_of rule rows columns (position_of columns q + 1) r ≡ refuse 8 → Later → ⊥
+  ordered : judge_of rule rows columns (position_of columns q + 1) r ≡ refuse NotRising → Later → ⊥
   ordered e h =
       let f : position_of columns q < position_of columns r = from columns q.row q.column r.row r.column hq hc h in
       go (cell_amount kind amounts r) (amount_no8 kind amounts r) (judge_ruled rule rows columns (position_of columns q + 1) r hr hc (omega arith) ∙ e)
     where
       no : (x : Refusal) → refuses x ≡ refuse {A = Cell} 8 → (x.number ≡ 8 → ⊥) → ⊥
-      no x k n = n (let z : x ≡ of_matrix 8 0 = cc in ap (λ (y : Refusal). y.number) z)
+      no x k n = n (let z : x ≡ of_matrix NotRising 0 = cc in ap (λ (y : Refusal). y.number) z)
 
-      bounds : (x : Answer (ℕ × ℕ)) → Low x → cell_from columns r x ≡ refuse 8 → ⊥
+      bounds : (x : Answer (ℕ × ℕ)) → Low x → cell_from columns r x ≡ refuse NotRising → ⊥
       bounds (gives x) l k = not_both (sym k)
       bounds (refuses x) l k = no _ k (λ n. omega arith)
 
-      go : (a : Answer ℕ) → No8 a → and_then a (worn_cell columns r) ≡ refuse 8 → ⊥
+      go : (a : Answer ℕ) → No8 a → and_then a (worn_cell columns r) ≡ refuse NotRising → ⊥
       go (refuses x) n k = no x k n
       go (gives w) n k = bounds (widened_of r.lower r.upper w) (widened_low r.lower r.upper w) k
 
-  pub unordered_is : (judge_of rule rows columns (position_of columns q + 1) r ≡ refuse 8) ↔ (Later → ⊥)
+  pub unordered_is : (judge_of rule rows columns (position_of columns q + 1) r ≡ refuse NotRising) ↔ (Later → ⊥)
   unordered_is = (ordered, unordered)

@@ -7,6 +7,7 @@ use native.Mathlib.Omega.{arith}
 use lib.Dec.{ltb}
 use lib.ListN.{length, get_or}
 use borrow.Author.Tests.{ltb-false}
+use Rattle.refusals.specs.declared.reason.Reason.TheVariants.{NoRoom}
 use Rattle.refusals.specs.Answer.{gives, refuse}
 use Rattle.refusals.specs.Sizes.{check_fit}
 use Rattle.refusals.proofs.Answers.{not_both, then_tells, next_tells}
@@ -29,7 +30,7 @@ pub record Granted (rows columns : ℕ) (lo up : List ℕ) (room n : ℕ) : Type
 room_tells : (room k n : ℕ) → by_room room k ≡ gives n → (n ≡ 16 * (k + 1)) × (n ≤ room)
 room_tells room k n e = go (ltb room (16 * (k + 1))) refl e
   where
-    go : (b : Bool) → ltb room (16 * (k + 1)) ≡ b → cond b (refuse 11) (gives (16 * (k + 1))) ≡ gives n → (n ≡ 16 * (k + 1)) × (n ≤ room)
+    go : (b : Bool) → ltb room (16 * (k + 1)) ≡ b → cond b (refuse NoRoom) (gives (16 * (k + 1))) ≡ gives n → (n ≡ 16 * (k + 1)) × (n ≤ room)
     go true p h = absurd (not_both h)
     go false p h = let y : n ≡ 16 * (k + 1) = cc in (y, omega (arith, ltb-false room (16 * (k + 1)) p))
 

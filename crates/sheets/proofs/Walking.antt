@@ -6,6 +6,7 @@ use Prim.Native.Nat.{ℕ, zero, suc, ◌+◌, ◌*◌, ◌≤◌, ◌<◌}
 use native.Mathlib.Omega.{arith}
 use lib.Dec.{eqb, leb}
 use borrow.Author.Tests.{le-leb, lt-leb, eq-eqb, ne_eqb, leb-false, eqb-true, eqb-false}
+use Rattle.refusals.specs.declared.reason.Reason.TheVariants.{Outside}
 use Rattle.refusals.specs.declared.Refusal.{Refusal}
 use Rattle.refusals.specs.Answer.{Answer, gives, refuses, done, refuse, and_then, then}
 use Rattle.refusals.proofs.Answers.{not_both, then_tells}
@@ -24,7 +25,7 @@ pub record Passing (rule : Record → Answer ℕ) (s : List ℕ) (rows columns i
 module _ (rule : Record → Answer ℕ) (s : List ℕ) (rows columns : ℕ) where
   -- ---- the record at an index
 
-  pub visit_past : (i l : ℕ) → count_of s ≤ i → refuse 7 ≡ visit_of rule s rows columns i l
+  pub visit_past : (i l : ℕ) → count_of s ≤ i → refuse Outside ≡ visit_of rule s rows columns i l
   unfolding visit_of
   visit_past i l h = rw (le-leb (count_of s) i h)
 
@@ -37,7 +38,7 @@ module _ (rule : Record → Answer ℕ) (s : List ℕ) (rows columns : ℕ) wher
   unfolding visit_of
   visit_tells i l c e = go (leb (count_of s) i) refl e
     where
-      go : (b : Bool) → leb (count_of s) i ≡ b → cond b (refuse 7) (judge_of rule rows columns l (record_of s i)) ≡ gives c
+      go : (b : Bool) → leb (count_of s) i ≡ b → cond b (refuse Outside) (judge_of rule rows columns l (record_of s i)) ≡ gives c
           → (i < count_of s) × (judge_of rule rows columns l (record_of s i) ≡ gives c)
       go true p h = absurd (not_both h)
       go false p h = (leb-false _ _ p, h)

@@ -1,5 +1,6 @@
 -- The wear amount of one cell, by the kind of its sheet. Definitions only (01, "The coupling sheet"; 02, P5 and P6).
 use Rattle.std.specs.Prelude.{Bool, false, cond, not, List, ℕ, ltb, eqb}
+use Rattle.refusals.specs.declared.reason.Reason.TheVariants.{WrongLayout}
 use Rattle.refusals.specs.declared.Refusal.{Refusal}
 use Rattle.refusals.specs.Refusal.{of_matrix, of_cell}
 use Rattle.refusals.specs.Answer.{Answer, gives, refuses}
@@ -23,7 +24,7 @@ wear_amount kind amounts wear = cond (eqb kind 0) (amount_in amounts wear) wear
 
 -- the refusal of a record by fault n: 10 and 14 name its row and column, 6 does not
 abbrev pub wear_refusal : ℕ → Record → Refusal
-wear_refusal n r = cond (eqb n 6) (of_matrix 6 0) (of_cell n 0 r.row r.column)
+wear_refusal n r = cond (eqb n 6) (of_matrix WrongLayout 0) (of_cell n 0 r.row r.column)
 
 -- the amount of a record, or the refusal
 unfoldable pub cell_amount : ℕ → List ℕ → Record → Answer ℕ

@@ -1,5 +1,6 @@
 -- The reader from before, which knew class sheets alone: its rule for the head. Definitions only (01, "The coupling sheet"; 02, P6).
 use Rattle.std.specs.Prelude.{Bool, false, cond, List, ℕ}
+use Rattle.refusals.specs.declared.reason.Reason.TheVariants.{WrongLayout}
 use Rattle.refusals.specs.Refusal.{of_matrix}
 use Rattle.refusals.specs.Answer.{Answer, unless, then}
 use Rattle.sheets.specs.declared.Sizes.{Sizes}
@@ -11,4 +12,4 @@ framed_before s = cond (whole s) (blank s 6 10) false
 
 -- its answer, where `next` is what it answered once length and head had passed
 unfoldable pub read_before : List ℕ → Answer Sizes → Answer Sizes
-read_before s next = then (unless (framed_before s) (of_matrix 6 0)) next
+read_before s next = then (unless (framed_before s) (of_matrix WrongLayout 0)) next

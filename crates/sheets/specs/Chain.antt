@@ -1,6 +1,7 @@
 -- The chain of a sheet, followed record by record with all checks, over a rule that gives the wear amount of a record or its refusal.
 -- Definitions only (01, "The coupling sheet" and "When a call is turned down"; 02, P6).
 use Rattle.std.specs.Prelude.{cond, List, [], ◌∷◌, ℕ, zero, suc, ◌+◌, ◌*◌, leb, ltb, eqb}
+use Rattle.refusals.specs.declared.reason.Reason.TheVariants.{Outside, NotRising}
 use Rattle.refusals.specs.Refusal.{placed}
 use Rattle.refusals.specs.Answer.{Answer, gives, refuses, done, refuse, and_then}
 use Rattle.sheets.specs.declared.layout.Record.{Record}
@@ -28,9 +29,9 @@ worn_cell columns r w = cell_from columns r (widened_of r.lower r.upper w)
 -- first cell, so that a position of `least` or more comes later by row, then column (proofs/Order, `unordered_is`)
 unfoldable pub judge_of : (Record → Answer ℕ) → ℕ → ℕ → ℕ → Record → Answer Cell
 judge_of rule rows columns least r =
-    cond (leb rows r.row) (refuse 7)
-    (cond (leb columns r.column) (refuse 7)
-    (cond (ltb (position_of columns r) least) (refuse 8)
+    cond (leb rows r.row) (refuse Outside)
+    (cond (leb columns r.column) (refuse Outside)
+    (cond (ltb (position_of columns r) least) (refuse NotRising)
     (and_then (rule r) (worn_cell columns r))))
 
 -- ---- the chain
@@ -55,7 +56,7 @@ onward (refuses r) f = stopped (refuses r)
 
 -- the checks of the record at an index: 7 where the index is not below the record count, then those of the record
 unfoldable pub visit_of : (Record → Answer ℕ) → List ℕ → ℕ → ℕ → ℕ → ℕ → Answer Cell
-visit_of rule s rows columns index least = cond (leb (count_of s) index) (refuse 7) (judge_of rule rows columns least (record_of s index))
+visit_of rule s rows columns index least = cond (leb (count_of s) index) (refuse Outside) (judge_of rule rows columns least (record_of s index))
 
 -- the walk from record `index` on; index 0 ends the chain. Positions rise, so rows × columns + 1 turns are enough (proofs/Walking, `enough`)
 unfoldable pub walk : (Record → Answer ℕ) → List ℕ → ℕ → ℕ → ℕ → ℕ → ℕ → Walk

@@ -1,6 +1,7 @@
 -- The answer of a read, and the lent slices afterwards: one definition over eight wear amounts, with the fixed table for a plain read and with a
 -- mill's own for one that names a load. Definitions only (01, "The coupling sheet" and "When a call is turned down"; 02, P5).
 use Rattle.std.specs.Prelude.{List, [], ◌∷◌, ◌++◌, ℕ, ◌*◌, set, replicate, drop}
+use Rattle.refusals.specs.declared.reason.Reason.TheVariants.{WrongLayout}
 use Rattle.refusals.specs.Refusal.{of_matrix}
 use Rattle.refusals.specs.Answer.{Answer, gives, unless, then, and_then, unless_refused}
 use Rattle.refusals.specs.Sizes.{check_fit}
@@ -20,7 +21,7 @@ sizes rows columns = record { rows = rows; columns = columns }
 -- refusal 6 for length and head, then 1, 2, then those of the chain; l and u are the lengths of the two lent slices
 abbrev pub read_by : List ℕ → List ℕ → ℕ → ℕ → Answer Sizes
 read_by amounts s l u =
-    then (unless (framed s) (of_matrix 6 0))
+    then (unless (framed s) (of_matrix WrongLayout 0))
     (then (check_fit 0 (rows_of s) (columns_of s) l u)
     (then (chain_of amounts s).verdict (gives (sizes (rows_of s) (columns_of s)))))
 

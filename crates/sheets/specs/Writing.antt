@@ -1,5 +1,6 @@
 -- The answer of a write, and the buffer afterwards. Definitions only (01, "The coupling sheet" and "When a call is turned down").
 use Rattle.std.specs.Prelude.{cond, List, [], ◌++◌, ℕ, zero, suc, ◌+◌, ◌*◌, ◌/◌, ◌%◌, ltb, length, drop}
+use Rattle.refusals.specs.declared.reason.Reason.TheVariants.{NoRoom}
 use Rattle.refusals.specs.Refusal.{placed}
 use Rattle.refusals.specs.Answer.{Answer, gives, refuses, refuse, and_then, then}
 use Rattle.refusals.specs.Sizes.{check_fit}
@@ -22,7 +23,7 @@ scan_to columns lo up (suc p) = and_then (scan_to columns lo up p) (λ k. unless
 
 -- refusal 11: the buffer of `room` bytes is shorter than a head and k records
 abbrev pub by_room : ℕ → ℕ → Answer ℕ
-by_room room k = cond (ltb room (16 * (k + 1))) (refuse 11) (gives (16 * (k + 1)))
+by_room room k = cond (ltb room (16 * (k + 1))) (refuse NoRoom) (gives (16 * (k + 1)))
 
 -- refusals 1, 2, then 3 and 4 by cells, then 11
 unfoldable pub write_of : ℕ → ℕ → List ℕ → List ℕ → ℕ → Answer ℕ

@@ -10,6 +10,7 @@ use crate::amount::{wear_amount, wear_fault};
 use crate::layout::{Record, record_at};
 use crate::worn::check_worn;
 use refusals::Refusal;
+use refusals::reason::Reason;
 
 // A cell of the chain with its widened bounds. `next` is the index of the next record, `position` is row × columns + column.
 #[derive(Clone, Copy)]
@@ -35,20 +36,20 @@ fn judge(
     let row = r.row;
     let column = r.column;
     if row >= rows {
-        return Err(Refusal::of_matrix(7, 0));
+        return Err(Refusal::of_matrix(Reason::Outside, 0));
     }
     if column >= columns {
-        return Err(Refusal::of_matrix(7, 0));
+        return Err(Refusal::of_matrix(Reason::Outside, 0));
     }
     let position = row * columns + column;
     if position < least {
-        return Err(Refusal::of_matrix(8, 0));
+        return Err(Refusal::of_matrix(Reason::NotRising, 0));
     }
     let i = row as u8;
     let j = column as u8;
     let fault = wear_fault(kind, r.wear);
     if fault == 6 {
-        return Err(Refusal::of_matrix(6, 0));
+        return Err(Refusal::of_matrix(Reason::WrongLayout, 0));
     }
     if fault != 0 {
         return Err(Refusal::of_cell(fault, 0, i, j));
@@ -74,7 +75,7 @@ pub fn follow(
     let mut least = 0;
     while index != 0 {
         if index >= s.len() / 16 {
-            return Err(Refusal::of_matrix(7, 0));
+            return Err(Refusal::of_matrix(Reason::Outside, 0));
         }
         let r = record_at(s, index);
         judge(kind, amounts, rows, columns, least, r)?;

@@ -20,6 +20,7 @@ pub mod wear;
 pub mod worn;
 
 use refusals::Refusal;
+use refusals::reason::Reason;
 use refusals::sizes::check_fit;
 
 // Rows and columns of a matrix.
@@ -75,7 +76,7 @@ pub fn check_write(
     let k = tally::scan(columns, rows * columns, lowers, uppers)?;
     let needed = 16 * (k + 1);
     if room < needed {
-        return Err(Refusal::of_matrix(11, 0));
+        return Err(Refusal::of_matrix(Reason::NoRoom, 0));
     }
     Ok(needed)
 }

@@ -7,6 +7,7 @@ use crate::matrix::fill;
 use crate::{Sizes, layout};
 use intervals::slices::clear;
 use refusals::Refusal;
+use refusals::reason::Reason;
 use refusals::sizes::check_fit;
 
 // The answer of a read into slices of these lengths. Checks length and head (6), sizes (1), slice lengths (2), then each cell of the chain.
@@ -15,7 +16,7 @@ fn check(amounts: &[u32; 8], s: &[u8], lowers: usize, uppers: usize) -> Result<S
     ensures { result ≡ read_by amounts.now s.now lowers uppers }
 {
     if !layout::is_framed(s) {
-        return Err(Refusal::of_matrix(6, 0));
+        return Err(Refusal::of_matrix(Reason::WrongLayout, 0));
     }
     let rows = layout::byte(s, 2);
     let columns = layout::byte(s, 3);

@@ -4,7 +4,7 @@ use Prim.Native.Nat.{ℕ}
 use Rattle.rounding.specs.Format.{binary32}
 use Rattle.enclosure.specs.Arithmetic.{of}
 use Rattle.enclosure.specs.RunningSums.{add_pair}
-use Rattle.refusals.specs.Answer.{gives, refuses}
+use Rattle.refusals.specs.Answer.{gives, done}
 use Rattle.products.specs.declared.apart.Apart.{Apart}
 use Rattle.products.specs.declared.sums.Sums.{Sums}
 use Rattle.products.specs.Apart.{IsApart}
@@ -16,15 +16,15 @@ use Rattle.products.proofs.AddedPair.{fault_tells, added_refused, added_given}
 use Rattle.products.proofs.pair.add_pair.Goals as goal
 
 pub of_bounds-requires : goal.of_bounds-requires
-of_bounds-requires c = (fault_tells _ _ _ (sym c.pair_fault-fault.ensures ∙ c.if-fault-ne0.false)).sums_fine
+of_bounds-requires c = (fault_tells _ _ _ (sym c.pair_fault.ensures ∙ c.in_ok-pair_fault.was)).sums_fine
 
 pub step_pair-s-requires : goal.step_pair-s-requires
 step_pair-s-requires c =
-    let f = fault_tells _ _ _ (sym c.pair_fault-fault.ensures ∙ c.if-fault-ne0.false) in
+    let f = fault_tells _ _ _ (sym c.pair_fault.ensures ∙ c.in_ok-pair_fault.was) in
     (c.of_bounds.ensures.0, fine_cells _ _ _ _ c.new.result (fine_taken _ _ c.new.result f.a_fine c.new.ensures) f.b_fine)
 
 -- what the step gives, from what its calls promise
-holds : (s a b : ℕ × ℕ) (t r : Sums) (p : Apart) → pair_fault s a b ≡ 0 → IsApart a.0 a.1 p → bounds_of t ≡ range_of s
+holds : (s a b : ℕ × ℕ) (t r : Sums) (p : Apart) → pair_fault s a b ≡ done → IsApart a.0 a.1 p → bounds_of t ≡ range_of s
     → HoldsRange (add_pair (of binary32) (bounds_of t) (apart_cell p) (pattern_cell b.0 b.1)) r → HoldsRange (add_pair (of binary32) (range_of s) (pattern_cell a.0 a.1) (pattern_cell b.0 b.1)) r
 holds s a b t r p e i k h =
     step_cells a.0 a.1 (pattern_cell b.0 b.1) p (fine_taken a.0 a.1 p (fault_tells s a b e).a_fine i) (range_of s) r
@@ -32,12 +32,11 @@ holds s a b t r p e i k h =
 
 pub returns-then-refused : goal.returns-then-refused
 returns-then-refused c =
-    let e = sym c.pair_fault-fault.ensures ∙ c.if-fault-ne0.false in
-    ap refuses c.of_matrix-then-refused.ensures
-    ∙ added_refused _ _ _ c.step_pair-s.result e (holds _ _ _ _ _ _ e c.new.ensures c.of_bounds.ensures.1 c.step_pair-s.ensures) (sym c.refused.ensures ∙ c.if-refused.true)
+    let e = sym c.pair_fault.ensures ∙ c.in_ok-pair_fault.was in
+    added_refused _ _ _ c.step_pair-s.result e (holds _ _ _ _ _ _ e c.new.ensures c.of_bounds.ensures.1 c.step_pair-s.ensures) (sym c.refused.ensures ∙ c.if-refused.true)
 
 pub returns : goal.returns
 returns c =
-    let e = sym c.pair_fault-fault.ensures ∙ c.if-fault-ne0.false in
+    let e = sym c.pair_fault.ensures ∙ c.in_ok-pair_fault.was in
     ap₂ (λ (l u : ℕ). gives (l, u)) c.lower.ensures c.upper.ensures
     ∙ added_given _ _ _ c.step_pair-s.result e (holds _ _ _ _ _ _ e c.new.ensures c.of_bounds.ensures.1 c.step_pair-s.ensures) (sym c.refused.ensures ∙ c.if-refused.false)
