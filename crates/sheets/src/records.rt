@@ -48,11 +48,7 @@ pub fn put_record(
     ensures { out.new ≡ over at (record_bytes next row column lower upper) out.old }
 {
     let bytes = record_bytes(next, row, column, lower, upper);
-    let mut j = 0;
-    while j < 16 {
-        out[at + j] = bytes[j];
-        j += 1;
-    }
+    out[at..at + 16].copy_from_slice(&bytes);
 }
 
 // The next index in record k of a chain of records 1 to `total`: k + 1, or 0 in the last record.
@@ -104,8 +100,7 @@ pub fn put_cells(
         ++ records_to columns total lowers.now uppers.now cells ++ drop (16 * (total + 1)) out.old }
 {
     let mut k = 0;
-    let mut p = 0;
-    while p < cells {
+    for p in 0..cells {
         k = put_cell(
             out,
             k,
@@ -115,6 +110,5 @@ pub fn put_cells(
             lowers[p],
             uppers[p],
         );
-        p += 1;
     }
 }
