@@ -14,24 +14,10 @@ fn record_bytes(next: usize, row: usize, column: usize, lower: u32, upper: u32) 
     requires { (row < 256) × (column < 256) }
     ensures { result ≡ record_bytes next row column lower upper }
 {
-    [
-        (next % 256) as u8,
-        (next / 256 % 256) as u8,
-        row as u8,
-        column as u8,
-        (lower % 256) as u8,
-        (lower / 256 % 256) as u8,
-        (lower / 65536 % 256) as u8,
-        (lower / 16777216 % 256) as u8,
-        (upper % 256) as u8,
-        (upper / 256 % 256) as u8,
-        (upper / 65536 % 256) as u8,
-        (upper / 16777216 % 256) as u8,
-        0,
-        0,
-        0,
-        0,
-    ]
+    let [n0, n1] = ((next % 65536) as u16).to_le_bytes();
+    let [l0, l1, l2, l3] = lower.to_le_bytes();
+    let [u0, u1, u2, u3] = upper.to_le_bytes();
+    [n0, n1, row as u8, column as u8, l0, l1, l2, l3, u0, u1, u2, u3, 0, 0, 0, 0]
 }
 
 // Writes the 16 bytes of a record from index `at` on.
