@@ -2,26 +2,19 @@
 use mathlib.Core.Path.{◌≡◌, refl, sym, ap}
 use mathlib.Core.Bool.{Bool, true, false, cond}
 use mathlib.Core.List.{List}
-use Prim.Native.Nat.{ℕ, suc, ◌+◌, ◌*◌, ◌<◌}
+use Prim.Native.Nat.{ℕ, ◌+◌, ◌*◌, ◌≤◌, ◌<◌}
 use native.Mathlib.Omega.{arith}
 use lib.Dec.{eqb}
-use lib.ListN.{get_or}
-use borrow.Author.Tests.{eq-eqb, ne_eqb, eqb-true, eqb-false}
+use lib.ListN.{length, get_or, take, drop}
+use borrow.Author.Tests.{eqb-true, eqb-false}
+use Rattle.std.specs.List.{list_all}
 use Rattle.sheets.specs.AllFrom.{all_from}
 use Rattle.sheets.specs.Layout.{u32_at, blank, record_of}
-use Rattle.sheets.proofs.AllFrom.{all_end, all_by}
+use Rattle.sheets.proofs.AllFrom.{all_listed}
 
-pub blank_none : (s : List ℕ) (p n : ℕ) → n ≡ 0 → true ≡ blank s p n
+pub blank_listed : (s : List ℕ) (p n : ℕ) → p + n ≤ length s → list_all (λ b. eqb b 0) (take n (drop p s)) ≡ blank s p n
 unfolding blank
-blank_none s p n e = all_end _ p n e
-
-pub blank_more : (s : List ℕ) (p n m : ℕ) → n ≡ suc m → get_or s p 0 ≡ 0 → blank s p n ≡ blank s (p + 1) m
-unfolding blank
-blank_more s p n m e z = sym (all_by (λ i. eqb (get_or s i 0) 0) p n m true e (eq-eqb (get_or s p 0) 0 z))
-
-pub blank_not : (s : List ℕ) (p n m : ℕ) → n ≡ suc m → (get_or s p 0 ≡ 0 → ⊥) → false ≡ blank s p n
-unfolding blank
-blank_not s p n m e z = all_by (λ i. eqb (get_or s i 0) 0) p n m false e (ne_eqb (get_or s p 0) 0 z)
+blank_listed s p n h = all_listed (λ b. eqb b 0) s n p h
 
 -- ---- the wear of a class sheet's cell: byte 12 where bytes 13 to 15 are zero, else above 255
 

@@ -2,6 +2,7 @@
 ghost use Rattle.std.specs.Prelude.{◌≡◌};
 ghost use Rattle.sheets.specs.Amount.{below_zero, wear_fault, wear_amount};
 
+use binary32::Binary32;
 use binary32::finite::is_finite;
 
 // Whether p is a number below zero.
@@ -9,7 +10,7 @@ use binary32::finite::is_finite;
 fn is_below_zero(p: u32) -> bool
     ensures { result ≡ below_zero p }
 {
-    if p <= 0x8000_0000 {
+    if p <= Binary32::SIGN {
         return false;
     }
     is_finite(p)

@@ -4,6 +4,7 @@ ghost use Rattle.binary32.specs.Number.{Finite};
 ghost use Rattle.intervals.specs.Conversion.{fault_of, outward_of};
 ghost use Rattle.sheets.specs.Cell.{canonical_of, both_zero, handed_of};
 
+use binary32::Binary32;
 use intervals::{check, outward};
 use refusals::Refusal;
 
@@ -13,7 +14,7 @@ fn canonical(p: u32) -> u32
     requires { Finite p }
     ensures { result ≡ canonical_of p }
 {
-    if p == 0x8000_0000 { 0 } else { p }
+    if p == Binary32::SIGN { 0 } else { p }
 }
 
 // Whether both patterns are 0.

@@ -3,7 +3,6 @@ ghost use Rattle.std.specs.Prelude.{◌≡◌, ◌≤◌, length};
 ghost use Rattle.sheets.specs.Cut.{first_length};
 
 use crate::layout::u16_at;
-use intervals::slices::shorter;
 
 // The length of the first sheet in s, which others follow: 16 × its record count, or all of s where s is shorter or ends before the count.
 #[tactic(auto, unfolding(crate::specs::Cut::first_length))]
@@ -13,5 +12,5 @@ pub fn first_length(s: &[u8]) -> usize
     if s.len() < 6 {
         return s.len();
     }
-    shorter(16 * u16_at(s, 4), s.len())
+    s.len().min(16 * u16_at(s, 4))
 }

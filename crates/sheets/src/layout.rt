@@ -18,7 +18,7 @@ pub fn byte(s: &[u8], p: usize) -> usize
     requires { p < length s.now }
     ensures { (result ≡ get_or s.now p 0) × (result < 256) }
 {
-    s[p] as usize
+    usize::from(s[p])
 }
 
 // The two-byte number at byte p.
@@ -27,7 +27,7 @@ pub fn u16_at(s: &[u8], p: usize) -> usize
     requires { p + 1 < length s.now }
     ensures { (result ≡ u16_at s.now p) × (result < 65536) }
 {
-    byte(s, p) + 256 * byte(s, p + 1)
+    usize::from(u16::from_le_bytes([s[p], s[p + 1]]))
 }
 
 // The four-byte number at byte p.
@@ -36,24 +36,16 @@ pub fn u32_at(s: &[u8], p: usize) -> u32
     requires { p + 3 < length s.now }
     ensures { result ≡ u32_at s.now p }
 {
-    let n = byte(s, p) + 256 * byte(s, p + 1) + 65536 * byte(s, p + 2) + 16777216 * byte(s, p + 3);
-    n as u32
+    u32::from_le_bytes([s[p], s[p + 1], s[p + 2], s[p + 3]])
 }
 
 // Whether the n bytes from p on are zero.
+#[tactic(auto, using(crate::proofs::Bytes::blank_listed))]
 fn is_blank(s: &[u8], p: usize, n: usize) -> bool
     requires { p + n ≤ length s.now }
     ensures { result ≡ blank s.now p n }
 {
-    let end = p + n;
-    let mut i = p;
-    while i < end {
-        if s[i] != 0 {
-            return false;
-        }
-        i += 1;
-    }
-    true
+    s[p..p + n].iter().all(|b| *b == 0)
 }
 
 // Record i.
@@ -63,19 +55,13 @@ pub fn record_at(s: &[u8], i: usize) -> Record
     ensures { result ≡ record_of s.now i }
 {
     let at = 16 * i;
-    let next = u16_at(s, at);
-    let row = byte(s, at + 2);
-    let column = byte(s, at + 3);
-    let lower = u32_at(s, at + 4);
-    let upper = u32_at(s, at + 8);
-    let wear = u32_at(s, at + 12);
     Record {
-        next: next,
-        row: row,
-        column: column,
-        lower: lower,
-        upper: upper,
-        wear: wear,
+        next: u16_at(s, at),
+        row: byte(s, at + 2),
+        column: byte(s, at + 3),
+        lower: u32_at(s, at + 4),
+        upper: u32_at(s, at + 8),
+        wear: u32_at(s, at + 12),
     }
 }
 
@@ -85,20 +71,6 @@ pub fn is_framed(s: &[u8]) -> bool
     ensures { result ≡ framed s.now }
 {
     let n = s.len();
-    if n % 16 != 0 {
-        return false;
-    }
-    if n < 16 {
-        return false;
-    }
-    if n > 16400 {
-        return false;
-    }
-    if 16 * u16_at(s, 4) != n {
-        return false;
-    }
-    if byte(s, 6) > 1 {
-        return false;
-    }
-    is_blank(s, 7, 9)
+    n % 16 == 0 && n >= 16 && n <= 16400 && 16 * u16_at(s, 4) == n && byte(s, 6) <= 1
+        && is_blank(s, 7, 9)
 }

@@ -1,10 +1,11 @@
 // A mill's own wear amounts: eight patterns in 32 bytes, which take the place of the fixed table (wear.rt) for one read.
 ghost use Rattle.std.specs.Prelude.{◌≡◌, length};
-ghost use Rattle.sheets.specs.Load.{patterns_of, all_finite, ascending, amounts_fault, load_of, loaded};
+ghost use Rattle.sheets.specs.Load.{patterns_of, all_finite, rising, ascending, amounts_fault, load_of, loaded};
 
 use crate::layout::u32_at;
 use binary32::finite::is_finite;
 use binary32::order::{at_most, magnitude};
+use std::array;
 
 // A load as read: its eight amounts and 0, or the number of its refusal, 6, 3 or 13, and amounts of no meaning.
 #[derive(Clone, Copy)]
@@ -19,47 +20,29 @@ fn patterns(load: &[u8]) -> [u32; 8]
     requires { length load.now ≡ 32 }
     ensures { result ≡ patterns_of load.now }
 {
-    [
-        u32_at(load, 0),
-        u32_at(load, 4),
-        u32_at(load, 8),
-        u32_at(load, 12),
-        u32_at(load, 16),
-        u32_at(load, 20),
-        u32_at(load, 24),
-        u32_at(load, 28),
-    ]
+    array::from_fn(|c| u32_at(load, 4 * c))
 }
 
 // Whether each amount is a number.
 fn are_finite(amounts: &[u32; 8]) -> bool
     ensures { result ≡ all_finite amounts.now }
 {
-    let mut c = 0;
-    while c < 8 {
-        if !is_finite(amounts[c]) {
-            return false;
-        }
-        c += 1;
-    }
-    true
+    amounts.iter().all(|p| is_finite(*p))
+}
+
+// Whether none of them is below its forerunner.
+fn rise(amounts: &[u32; 8]) -> bool
+    ensures { result ≡ rising amounts.now }
+{
+    (0..7).all(|c| at_most(amounts[c], amounts[c + 1]))
 }
 
 // Whether the first amount is zero, of either sign, and none is below its forerunner.
+#[tactic(auto, unfolding(crate::specs::Load::ascending))]
 fn ascend(amounts: &[u32; 8]) -> bool
     ensures { result ≡ ascending amounts.now }
 {
-    if magnitude(amounts[0]) != 0 {
-        return false;
-    }
-    let mut c = 0;
-    while c < 7 {
-        if !at_most(amounts[c], amounts[c + 1]) {
-            return false;
-        }
-        c += 1;
-    }
-    true
+    magnitude(amounts[0]) == 0 && rise(amounts)
 }
 
 // The fault of eight amounts: 3, one has exponent field 255; 13, the first is not zero or one is below its forerunner; 0, none.

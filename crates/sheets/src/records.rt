@@ -14,24 +14,10 @@ fn record_bytes(next: usize, row: usize, column: usize, lower: u32, upper: u32) 
     requires { (row < 256) × (column < 256) }
     ensures { result ≡ record_bytes next row column lower upper }
 {
-    [
-        (next % 256) as u8,
-        (next / 256 % 256) as u8,
-        row as u8,
-        column as u8,
-        (lower % 256) as u8,
-        (lower / 256 % 256) as u8,
-        (lower / 65536 % 256) as u8,
-        (lower / 16777216 % 256) as u8,
-        (upper % 256) as u8,
-        (upper / 256 % 256) as u8,
-        (upper / 65536 % 256) as u8,
-        (upper / 16777216 % 256) as u8,
-        0,
-        0,
-        0,
-        0,
-    ]
+    let [n0, n1] = ((next % 65536) as u16).to_le_bytes();
+    let [l0, l1, l2, l3] = lower.to_le_bytes();
+    let [u0, u1, u2, u3] = upper.to_le_bytes();
+    [n0, n1, row as u8, column as u8, l0, l1, l2, l3, u0, u1, u2, u3, 0, 0, 0, 0]
 }
 
 // Writes the 16 bytes of a record from index `at` on.
@@ -48,11 +34,7 @@ pub fn put_record(
     ensures { out.new ≡ over at (record_bytes next row column lower upper) out.old }
 {
     let bytes = record_bytes(next, row, column, lower, upper);
-    let mut j = 0;
-    while j < 16 {
-        out[at + j] = bytes[j];
-        j += 1;
-    }
+    out[at..at + 16].copy_from_slice(&bytes);
 }
 
 // The next index in record k of a chain of records 1 to `total`: k + 1, or 0 in the last record.
@@ -104,8 +86,7 @@ pub fn put_cells(
         ++ records_to columns total lowers.now uppers.now cells ++ drop (16 * (total + 1)) out.old }
 {
     let mut k = 0;
-    let mut p = 0;
-    while p < cells {
+    for p in 0..cells {
         k = put_cell(
             out,
             k,
@@ -115,6 +96,5 @@ pub fn put_cells(
             lowers[p],
             uppers[p],
         );
-        p += 1;
     }
 }

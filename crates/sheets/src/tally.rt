@@ -11,8 +11,7 @@ pub fn scan(columns: usize, cells: usize, lowers: &[u32], uppers: &[u32]) -> Res
     ensures { result ≡ scan_to columns lowers.now uppers.now cells }
 {
     let mut count = 0;
-    let mut p = 0;
-    while p < cells {
+    for p in 0..cells {
         let cell = match handed(lowers[p], uppers[p]) {
             Ok(cell) => cell,
             Err(r) => {
@@ -24,7 +23,6 @@ pub fn scan(columns: usize, cells: usize, lowers: &[u32], uppers: &[u32]) -> Res
         if cell.is_some() {
             count += 1;
         }
-        p += 1;
     }
     Ok(count)
 }

@@ -1,7 +1,7 @@
 -- `records::put_cells` meets its contract: the records of the first p cells stand behind the first sixteen bytes.
 use mathlib.Core.Path.{◌≡◌}
 use mathlib.Core.List.{◌++◌}
-use Prim.Native.Nat.{◌+◌, ◌-◌, ◌*◌, ◌≤◌}
+use Prim.Native.Nat.{◌+◌, ◌*◌}
 use lib.ListN.{take}
 use Rattle.sheets.specs.Sheet.{count_to, records_to}
 use Rattle.sheets.proofs.Fronts.{Front}
@@ -9,7 +9,4 @@ use Rattle.sheets.proofs.records.put_cells.Given as goal
 
 abbrev pub invariant-loop-p : goal.invariant-loop-p
 invariant-loop-p l =
-    (l.p ≤ l.cells) × (l.k ≡ count_to l.lowers l.uppers l.p) × Front (16 * (l.k + 1)) (take 16 l.initial.out ++ records_to l.columns l.total l.lowers l.uppers l.p) l.initial.out l.out
-
-abbrev pub decreases-loop-p : goal.decreases-loop-p
-decreases-loop-p l = l.cells - l.p
+    (l.k ≡ count_to l.lowers l.uppers l.p) × Front (16 * (l.k + 1)) (take 16 l.initial.out ++ records_to l.columns l.total l.lowers l.uppers l.p) l.initial.out l.out

@@ -9,7 +9,7 @@ use Rattle.sheets.proofs.tally.scan.Goals.{then-is_some, else-is_some}
 use Rattle.sheets.proofs.tally.scan.Goals as goal
 
 pub loop-p-init : goal.loop-p-init
-loop-p-init c = (omega arith, omega arith, scan_none _ _ _)
+loop-p-init c = (omega arith, scan_none _ _ _)
 
 pub overflow_cast-row : goal.overflow_cast-row
 overflow_cast-row c =
@@ -24,7 +24,7 @@ overflow_cast-column c =
 pub returns-in-Err : goal.returns-in-Err
 returns-in-Err c =
     let h = c.loop-p in
-    ap refuses c.of_cell.ensures ∙ sym (scan_faulty _ _ _ h.p _ _ _ (omega arith) h.invariant.2 (sym c.handed.ensures ∙ c.in-Err.is))
+    ap refuses c.of_cell.ensures ∙ sym (scan_faulty _ _ _ h.p _ _ _ (omega arith) h.invariant.1 (sym c.handed.ensures ∙ c.in-Err.is))
 
 pub loop-p-preserved : goal.loop-p-preserved
 loop-p-preserved c =
@@ -36,10 +36,10 @@ loop-p-preserved c =
       | then-is_some w ↦ (omega (arith, w.count-is), rw w.if-is_some.true (sym w.count-is))
       | else-is_some w ↦ (omega (arith, w.count-is), rw w.if-is_some.false (omega (arith, w.count-is)))
     ] in
-    let e = scan_counted a.columns a.lowers.now a.uppers.now h.p h.count _ _ _ h.invariant.2 c.handed.ensures c.in-Ok.is c.is_some.ensures in
-    (omega arith, omega (arith, k.0, h.invariant), e ∙ ap (λ (m : ℕ). gives m) k.1)
+    let e = scan_counted a.columns a.lowers.now a.uppers.now h.p h.count _ _ _ h.invariant.1 c.handed.ensures c.in-Ok.is c.is_some.ensures in
+    (omega (arith, k.0, h.invariant), e ∙ ap (λ (m : ℕ). gives m) k.1)
 
 pub returns : goal.returns
 returns c =
     let all : c.loop-p.p ≡ c.args.cells = omega arith in
-    sym (rw all at c.loop-p.invariant.2)
+    sym (rw all at c.loop-p.invariant.1)

@@ -1,12 +1,9 @@
 -- `tally::scan` meets its contract: the first p cells have no fault, and `count` of them are not [0, 0].
 use mathlib.Core.Path.{◌≡◌}
-use Prim.Native.Nat.{◌-◌, ◌≤◌}
+use Prim.Native.Nat.{◌≤◌}
 use Rattle.refusals.specs.Answer.{gives}
 use Rattle.sheets.specs.Writing.{scan_to}
 use Rattle.sheets.proofs.tally.scan.Given as goal
 
 abbrev pub invariant-loop-p : goal.invariant-loop-p
-invariant-loop-p l = (l.p ≤ l.cells) × (l.count ≤ l.p) × (scan_to l.columns l.lowers l.uppers l.p ≡ gives l.count)
-
-abbrev pub decreases-loop-p : goal.decreases-loop-p
-decreases-loop-p l = l.cells - l.p
+invariant-loop-p l = (l.count ≤ l.p) × (scan_to l.columns l.lowers l.uppers l.p ≡ gives l.count)
