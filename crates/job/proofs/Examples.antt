@@ -22,7 +22,7 @@ use Rattle.sheets.specs.AllFrom.{all_from}
 use Rattle.sheets.specs.Layout.{u16_at, u32_at, blank, record_of, whole, framed}
 use Rattle.sheets.specs.Cut.{first_length}
 use Rattle.sheets.specs.Wear.{units_of, amount_of, fixed_amounts}
-use Rattle.sheets.specs.Amount.{below_zero, wear_fault, wear_amount, cell_amount}
+use Rattle.sheets.specs.Amount.{below_zero, check_wear, wear_amount, cell_amount}
 use Rattle.sheets.specs.Cell.{worn_fault, widened_of}
 use Rattle.sheets.specs.Chain.{judge_of, visit_of, walk, chain_of}
 use Rattle.sheets.specs.Reading.{read_of, put_in}
@@ -44,7 +44,7 @@ sheet kind l u = record_bytes 1 1 1 (2 + 65536 * kind) 0 ++ record_bytes 0 0 0 l
 three : train_product 1 3 (sheet 0 0x3F800000 0x40000000 ++ sheet 1 0xBF800000 0x40400000 ++ sheet 0 0x40000000 0x40000000)
     ≡ gives (record { rows = 1; columns = 1; lowers = 0xC0800000 ∷ []; uppers = 0x41400000 ∷ [] })
 unfolding train_product check_count sheets_in next_length first_length sheets_product fold_from step_of times_of read_as
-    u16_at u32_at all_from blank record_of whole framed check_fit check_size check_lengths units_of amount_of fixed_amounts below_zero wear_fault wear_amount cell_amount worn_fault widened_of judge_of visit_of walk chain_of read_of put_in record_bytes
+    u16_at u32_at all_from blank record_of whole framed check_fit check_size check_lengths units_of amount_of fixed_amounts below_zero check_wear wear_amount cell_amount worn_fault widened_of judge_of visit_of walk chain_of read_of put_in record_bytes
     product_of check_of check_shapes check_method method_of check_sizes check_slices check_operands check_lent check_both check_cells first
     stop_of tabulate entry_at entry_of cell_at entry entry₁ total sum least_term greatest_term fault_of answer value_of mid rad up down lo hi ceil expo size MAX val encode bind minℤ maxℤ
 three = refl
@@ -52,7 +52,7 @@ three = refl
 -- [2, MAX] × [2, 2] is too large, whatever stands behind: three bytes that are no sheet
 early : train_product 1 3 (sheet 1 0x40000000 0x7F7FFFFF ++ sheet 0 0x40000000 0x40000000 ++ (1 ∷ 2 ∷ 3 ∷ [])) ≡ refuses (of_cell TooLarge 9 0 0)
 unfolding train_product check_count sheets_in next_length first_length sheets_product fold_from step_of times_of read_as
-    u16_at u32_at all_from blank record_of whole framed check_fit check_size check_lengths units_of amount_of fixed_amounts below_zero wear_fault wear_amount cell_amount worn_fault widened_of judge_of visit_of walk chain_of read_of put_in record_bytes
+    u16_at u32_at all_from blank record_of whole framed check_fit check_size check_lengths units_of amount_of fixed_amounts below_zero check_wear wear_amount cell_amount worn_fault widened_of judge_of visit_of walk chain_of read_of put_in record_bytes
     product_of check_of check_shapes check_method method_of check_sizes check_slices check_operands check_lent check_both check_cells first
     stop_of tabulate entry_at entry_of cell_at entry entry₁ total sum least_term greatest_term fault_of answer value_of mid rad up down lo hi ceil expo size MAX val encode bind minℤ maxℤ
 early = refl

@@ -19,7 +19,7 @@ use Rattle.sheets.specs.AllFrom.{all_from}
 use Rattle.sheets.specs.Layout.{u16_at, u32_at, blank, record_of, whole, framed}
 use Rattle.sheets.specs.Cut.{first_length}
 use Rattle.sheets.specs.Wear.{units_of, amount_of, fixed_amounts}
-use Rattle.sheets.specs.Amount.{wear_fault, wear_amount, cell_amount}
+use Rattle.sheets.specs.Amount.{check_wear, wear_amount, cell_amount}
 use Rattle.sheets.specs.Cell.{worn_fault, widened_of}
 use Rattle.sheets.specs.Chain.{judge_of, visit_of, walk, chain_of}
 use Rattle.sheets.specs.Reading.{read_of, put_in, slice_after}
@@ -51,7 +51,7 @@ four : printed_of (52 ∷ sheet 0x3F800000 0x40000000 ++ sheet 0xBF800000 0x4040
     ≡ (112 ∷ 114 ∷ 111 ∷ 100 ∷ 117 ∷ 99 ∷ 116 ∷ 32 ∷ 52 ∷ 32 ∷ 49 ∷ 32 ∷ 49 ∷ 10 ∷ [])
     ++ (48 ∷ 32 ∷ 48 ∷ 32 ∷ 67 ∷ 48 ∷ 52 ∷ 48 ∷ 48 ∷ 48 ∷ 48 ∷ 48 ∷ 32 ∷ 52 ∷ 48 ∷ 67 ∷ 48 ∷ 48 ∷ 48 ∷ 48 ∷ 48 ∷ 10 ∷ [])
 unfolding printed_of sheets_text digit_value first_length product_line cell_line cell_lines digit digits digit_count_to job_product sheets_product fold_from step_of times_of read_as
-    u16_at u32_at all_from blank record_of whole framed check_fit check_size check_lengths units_of amount_of fixed_amounts wear_fault wear_amount cell_amount worn_fault widened_of judge_of visit_of walk chain_of read_of put_in slice_after record_bytes
+    u16_at u32_at all_from blank record_of whole framed check_fit check_size check_lengths units_of amount_of fixed_amounts check_wear wear_amount cell_amount worn_fault widened_of judge_of visit_of walk chain_of read_of put_in slice_after record_bytes
     product_of result_after check_of check_shapes check_method method_of check_sizes check_slices check_operands check_lent check_both check_cells first
     stop_of tabulate entry_at entry_of cell_at entry radius₄ centre total sum inner_term outer_radius outer_term mid_term fault_of answer value_of mid rad maxℤ up down near lo hi nr ceil expo size MAX val encode ends bind
 four = refl

@@ -8,15 +8,15 @@ use native.Mathlib.Nat.{mod-eq_of_lt}
 use lib.Dec.{ltb}
 use lib.Ieee.{size}
 use lib.IntN.{ℤ, pos, neg_ℤ}
-use borrow.Author.Tests.{lt-leb, le-leb, ltb-true, ltb-false, eq-eqb}
+use borrow.Author.Tests.{lt-leb, le-leb, ltb-true, ltb-false}
 use Rattle.std.specs.Prelude.{Some, None}
 use Rattle.rounding.specs.Format.{binary32, expo}
 use Rattle.rounding.specs.Pattern.{val, encode}
 use Rattle.rounding.proofs.Pattern.{val_lt}
 use Rattle.rounding.proofs.Encoding.{encode_val}
 use Rattle.refusals.specs.declared.reason.Reason.TheVariants.{NotFinite}
-use Rattle.refusals.specs.Answer.{gives, refuse}
-use Rattle.refusals.proofs.Answers.{passing_tells}
+use Rattle.refusals.specs.Answer.{Judged, gives, refuses, done, unless, then}
+use Rattle.refusals.proofs.Answers.{then_tells, unless_tells}
 use Rattle.binary32.specs.Number.{signed_by, value_of, pattern_of, finite}
 use Rattle.binary32.specs.Operations.{answer_of, answer}
 use Rattle.binary32.proofs.Held.{finites_first, finites_second}
@@ -59,35 +59,31 @@ canonical_same p h n = go (ltb p (2 ^ 31)) refl
 
 -- ---- a cell that is handed in
 
-module _ (a b n : ℕ) (e : n ≡ fault_of a b) where
-  pub handed_fine : (p q : ℕ) (z : Bool) → n ≡ 0 → p ≡ canonical_of a → q ≡ canonical_of b → both_zero p q ≡ z → cond z (gives None) (gives (Some (p, q))) ≡ handed_of a b
+module _ (a b : ℕ) (v : Judged (Unit {0})) (e : v ≡ fault_of a b) where
+  pub handed_fine : (p q : ℕ) (z : Bool) → v ≡ done → p ≡ canonical_of a → q ≡ canonical_of b → both_zero p q ≡ z → cond z (gives None) (gives (Some (p, q))) ≡ handed_of a b
   unfolding handed_of
-  handed_fine p q z h f g k = rw (← e, eq-eqb n 0 h, ← f, ← g, k)
+  handed_fine p q z h f g k = rw (← e, h, ← f, ← g, k)
 
 -- ---- a cell without a fault
 
-pub fine_finite : (a b : ℕ) → fault_of a b ≡ 0 → (finite a ≡ true) × (finite b ≡ true)
+pub fine_finite : (a b : ℕ) → fault_of a b ≡ done → (finite a ≡ true) × (finite b ≡ true)
 fine_finite a b e = let f = (fine_tells a b e).both in (finites_first a b f, finites_second a b f)
 
 pub answer_is : (op : ℤ → ℤ → Option ℤ) (a b : ℕ) → finite a ≡ true → finite b ≡ true → answer op a b ≡ answer_of (op (value_of a) (value_of b))
 unfolding answer
-answer_is op a b e f = ap₂ (λ s t. cond (cond s t false) (answer_of (op (value_of a) (value_of b))) (refuse NotFinite)) e f
+answer_is op a b e f = ap₂ (λ s t. cond (cond s t false) (answer_of (op (value_of a) (value_of b))) (refuses NotFinite)) e f
 
 -- ---- a cell that is read with an amount
 
-pub worn_by : (a b w : ℕ) (t : Bool) → finite w ≡ t → cond t (fault_of a b) 3 ≡ worn_fault a b w
+pub worn_by : (a b w : ℕ) (t : Bool) → finite w ≡ t → then (unless t NotFinite) (fault_of a b) ≡ worn_fault a b w
 unfolding worn_fault
-worn_by a b w t e = ap (λ s. cond s (fault_of a b) 3) (sym e)
+worn_by a b w t e = ap (λ s. then (unless s NotFinite) (fault_of a b)) (sym e)
 
 -- amount and bounds are numbers, and the bounds are in order
-pub worn_tells : (a b w : ℕ) → worn_fault a b w ≡ 0 → (finite w ≡ true) × (fault_of a b ≡ 0)
+pub worn_tells : (a b w : ℕ) → worn_fault a b w ≡ done → (finite w ≡ true) × (fault_of a b ≡ done)
 unfolding worn_fault
-worn_tells a b w e = go (finite w) refl e
-  where
-    go : (t : Bool) → finite w ≡ t → cond t (fault_of a b) 3 ≡ 0 → (finite w ≡ true) × (fault_of a b ≡ 0)
-    go true p h = (p, h)
-    go false p h = absurd (omega arith)
+worn_tells a b w e = let t = then_tells (unless (finite w) NotFinite) (fault_of a b) tt e in (unless_tells _ _ t.0.1, t.1)
 
-pub widened_tells : (a b w : ℕ) (x : ℕ × ℕ) → widened_of a b w ≡ gives x → (worn_fault a b w ≡ 0) × (outward_of a b w ≡ gives x)
+pub widened_tells : (a b w : ℕ) (x : ℕ × ℕ) → widened_of a b w ≡ gives x → (worn_fault a b w ≡ done) × (outward_of a b w ≡ gives x)
 unfolding widened_of
-widened_tells a b w x e = passing_tells (worn_fault a b w) (outward_of a b w) x e
+widened_tells a b w x e = let t = then_tells (worn_fault a b w) (outward_of a b w) x e in (t.0.1, t.1)

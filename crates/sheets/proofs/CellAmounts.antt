@@ -7,17 +7,18 @@ use native.Mathlib.Omega.{arith}
 use lib.Dec.{eqb, leb, ltb}
 use lib.IntN.{pos}
 use lib.Signed.{le_z}
-use borrow.Author.Tests.{le-leb, lt-leb, eq-eqb, ne_eqb, ltb-false, ltb-true, eqb-true}
-use Rattle.refusals.specs.declared.reason.Reason.TheVariants.{WrongLayout}
-use Rattle.refusals.specs.Refusal.{of_matrix, of_cell}
-use Rattle.refusals.specs.Answer.{gives, refuses}
-use Rattle.refusals.proofs.Answers.{gives_injective, not_both}
+use borrow.Author.Tests.{le-leb, lt-leb, leb-true, eq-eqb, ltb-false, ltb-true}
+use Rattle.refusals.specs.declared.reason.Reason.TheVariants.{WrongLayout, UnknownClass, NegativeAmount}
+use Rattle.refusals.specs.declared.Refusal.{Refusal}
+use Rattle.refusals.specs.Refusal.{of_cell}
+use Rattle.refusals.specs.Answer.{Answer, gives, refuses, done, refuse, unless}
+use Rattle.refusals.proofs.Answers.{gives_injective, not_both, then_gives, then_refuses, then_tells, unless_tells}
 use Rattle.binary32.specs.Number.{signed_by, finite}
 use Rattle.binary32.specs.Order.{key_of, at_most}
 use Rattle.binary32.proofs.Orders.{key_order}
 use Rattle.sheets.specs.declared.layout.Record.{Record}
 use Rattle.sheets.specs.Wear.{amount_in}
-use Rattle.sheets.specs.Amount.{below_zero, wear_fault, wear_amount, wear_refusal, cell_amount}
+use Rattle.sheets.specs.Amount.{below_zero, check_wear, wear_amount, cell_amount}
 
 -- ---- a number below zero: a pattern above that of minus zero
 
@@ -49,56 +50,39 @@ module _ (p : ℕ) where
       same true = refl
       same false = refl
 
--- ---- the fault of a wear, and its amount
-
-module _ (kind wear : ℕ) where
-  pub wear_by : (s t u v : Bool) → eqb kind 0 ≡ s → ltb 255 wear ≡ t → ltb 7 wear ≡ u → below_zero wear ≡ v
-      → cond s (cond t 6 (cond u 10 0)) (cond v 14 0) ≡ wear_fault kind wear
-  unfolding wear_fault
-  wear_by s t u v e f g h = rw (e, f, g, h)
-
-  pub class_tells : kind ≡ 0 → wear_fault kind wear ≡ 0 → wear ≤ 7
-  class_tells k e = go (ltb 255 wear) (ltb 7 wear) refl (wear_by true (ltb 255 wear) (ltb 7 wear) _ (eq-eqb kind 0 k) refl refl refl ∙ e)
-    where
-      go : (t u : Bool) → ltb 7 wear ≡ u → ◌≡◌ {A = ℕ} (cond t 6 (cond u 10 0)) 0 → wear ≤ 7
-      go true u g h = absurd (omega arith)
-      go false true g h = absurd (omega arith)
-      go false false g h = ltb-false 7 wear g
-
-  pub amount_by : (amounts : List ℕ) (s : Bool) → eqb kind 0 ≡ s → cond s (amount_in amounts wear) wear ≡ wear_amount kind amounts wear
-  unfolding wear_amount
-  amount_by amounts s e = rw e
-
--- ---- the amount of a record, or its refusal
+-- ---- the check of a wear, and its amount
 
 module _ (kind : ℕ) (amounts : List ℕ) (r : Record) where
-  pub amount_given : wear_fault kind r.wear ≡ 0 → gives (wear_amount kind amounts r.wear) ≡ cell_amount kind amounts r
-  unfolding cell_amount
-  amount_given e = rw (eq-eqb _ _ e)
-
-  pub amount_tells : (w : ℕ) → cell_amount kind amounts r ≡ gives w → (wear_fault kind r.wear ≡ 0) × (wear_amount kind amounts r.wear ≡ w)
-  unfolding cell_amount
-  amount_tells w e = go (eqb (wear_fault kind r.wear) 0) refl e
+  -- a class that passes is one of the eight
+  pub class_tells : kind ≡ 0 → check_wear kind r ≡ done → r.wear ≤ 7
+  unfolding check_wear
+  class_tells k e = go (ltb 255 r.wear) (rw (eq-eqb kind 0 k) at e)
     where
-      go : (t : Bool) → eqb (wear_fault kind r.wear) 0 ≡ t
-          → cond t (gives (wear_amount kind amounts r.wear)) (refuses (wear_refusal (wear_fault kind r.wear) r)) ≡ gives w
-          → (wear_fault kind r.wear ≡ 0) × (wear_amount kind amounts r.wear ≡ w)
-      go true p h = (eqb-true _ _ p, gives_injective h)
-      go false p h = absurd (not_both h)
+      go : (t : Bool) → ◌≡◌ {A = Answer (Unit {0})} (cond t (refuse WrongLayout) (unless (leb r.wear 7) (of_cell UnknownClass 0 r.row r.column))) done → r.wear ≤ 7
+      go true h = absurd (not_both h)
+      go false h = leb-true r.wear 7 (unless_tells _ _ h)
 
-  module _ (n : ℕ) (e : n ≡ wear_fault kind r.wear) where
-    refused : (n ≡ 0 → ⊥) → refuses (wear_refusal n r) ≡ cell_amount kind amounts r
-    unfolding cell_amount
-    refused h = rw (← e, ne_eqb n 0 h)
+  pub amount_by : (s : Bool) → eqb kind 0 ≡ s → cond s (amount_in amounts r.wear) r.wear ≡ wear_amount kind amounts r.wear
+  unfolding wear_amount
+  amount_by s e = rw e
 
-    pub amount_unnamed : n ≡ 6 → refuses (of_matrix WrongLayout 0) ≡ cell_amount kind amounts r
-    amount_unnamed h = ap (λ t. refuses (cond t (of_matrix WrongLayout 0) (of_cell n 0 r.row r.column))) (sym (eq-eqb n 6 h)) ∙ refused (λ k. omega arith)
+  -- ---- the amount of a record, or its refusal
 
-    pub amount_named : (n ≡ 6 → ⊥) → (n ≡ 0 → ⊥) → refuses (of_cell n 0 r.row r.column) ≡ cell_amount kind amounts r
-    amount_named h k = ap (λ t. refuses (cond t (of_matrix WrongLayout 0) (of_cell n 0 r.row r.column))) (sym (ne_eqb n 6 h)) ∙ refused k
+  pub amount_given : check_wear kind r ≡ done → gives (wear_amount kind amounts r.wear) ≡ cell_amount kind amounts r
+  unfolding cell_amount
+  amount_given e = then_gives _ tt _ _ e refl
+
+  pub amount_refused : (x : Refusal) → check_wear kind r ≡ refuses x → refuses x ≡ cell_amount kind amounts r
+  unfolding cell_amount
+  amount_refused x e = then_refuses _ _ x e
+
+  pub amount_tells : (w : ℕ) → cell_amount kind amounts r ≡ gives w → (check_wear kind r ≡ done) × (wear_amount kind amounts r.wear ≡ w)
+  unfolding cell_amount
+  amount_tells w e = let t = then_tells (check_wear kind r) _ w e in (t.0.1, gives_injective t.1)
 
 -- a record of the plain form: the amount zero in an amount sheet
 pub plain_amount : (amounts : List ℕ) (r : Record) → r.wear ≡ 0 → cell_amount 1 amounts r ≡ gives 0
+unfolding check_wear
 plain_amount amounts r e =
-    sym (amount_given 1 amounts r (sym (wear_by 1 r.wear false _ _ false refl refl refl (sym (not_below r.wear (omega arith))))))
-    ∙ ap gives (sym (amount_by 1 r.wear amounts false refl) ∙ e)
+    sym (amount_given 1 amounts r (ap (λ (t : Bool). unless (not t) (of_cell NegativeAmount 0 r.row r.column)) (sym (not_below r.wear (omega arith)))))
+    ∙ ap gives (sym (amount_by 1 amounts r false refl) ∙ e)

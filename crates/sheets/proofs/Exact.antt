@@ -14,8 +14,8 @@ use Rattle.rounding.specs.Pattern.{val}
 use Rattle.rounding.specs.Rounding.{up, down}
 use Rattle.rounding.proofs.DirectedLaws.{up_exact, down_exact}
 use Rattle.rounding.proofs.Encoding.{encode_limit}
-use Rattle.refusals.specs.Answer.{gives, both}
-use Rattle.refusals.proofs.Answers.{passing_on}
+use Rattle.refusals.specs.Answer.{gives, done, both}
+use Rattle.refusals.proofs.Answers.{then_gives}
 use Rattle.binary32.specs.Number.{finite, finites, value_of, pattern_of}
 use Rattle.binary32.specs.Operations.{add, sub, answer_of, sub_down, add_up}
 use Rattle.binary32.proofs.Held.{finite_is, is_finite, pattern_value, pattern_finite, value_num}
@@ -74,21 +74,21 @@ module _ (p : ℕ) (h : finite p ≡ true) where
 
 -- ---- a cell read with an amount of zero
 
-module _ (a b : ℕ) (e : fault_of a b ≡ 0) where
+module _ (a b : ℕ) (e : fault_of a b ≡ done) where
   pub outward_none : (w : ℕ) → Zero w → outward_of a b w ≡ gives (canonical_of a, canonical_of b)
   outward_none w z = ap₂ both (sub_none a (fine_finite a b e).0 w z) (add_none b (fine_finite a b e).1 w z)
 
-  canonical_fine : fault_of (canonical_of a) (canonical_of b) ≡ 0
+  canonical_fine : fault_of (canonical_of a) (canonical_of b) ≡ done
   unfolding fault_of
   canonical_fine =
       let f = fine_finite a b e in
       let g : finites (canonical_of a) (canonical_of b) ≡ finites a b = ap₂ (λ s t. cond s t false) (canonical_finite a f.0 ∙ sym f.0) (canonical_finite b f.1 ∙ sym f.1) in
       ap₂ (λ s t. cond s (cond t 0 4) 3) g (ap₂ le_z (canonical_value a f.0) (canonical_value b f.1)) ∙ e
 
-pub widened_none : (a b w : ℕ) → fault_of a b ≡ 0 → Zero w → widened_of (canonical_of a) (canonical_of b) w ≡ gives (canonical_of a, canonical_of b)
+pub widened_none : (a b w : ℕ) → fault_of a b ≡ done → Zero w → widened_of (canonical_of a) (canonical_of b) w ≡ gives (canonical_of a, canonical_of b)
 unfolding widened_of
 widened_none a b w e z =
     let f = fine_finite a b e in
     let g = canonical_fine a b e in
-    sym (passing_on _ _ (sym (worn_by (canonical_of a) (canonical_of b) w true z.0) ∙ g)) ∙ outward_none (canonical_of a) (canonical_of b) g w z
+    sym (then_gives _ tt _ _ (sym (worn_by (canonical_of a) (canonical_of b) w true z.0) ∙ g) refl) ∙ outward_none (canonical_of a) (canonical_of b) g w z
     ∙ ap₂ (λ x y. gives (x, y)) (canonical_twice a f.0) (canonical_twice b f.1)

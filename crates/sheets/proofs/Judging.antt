@@ -7,7 +7,7 @@ use lib.Arith.{digits_lt}
 use lib.Dec.{ltb, leb}
 use borrow.Author.Tests.{le-ltb, lt-leb, leb-false, ltb-false}
 use Rattle.refusals.specs.declared.reason.Reason.TheVariants.{Outside, NotRising}
-use Rattle.refusals.specs.Answer.{Answer, gives, refuses, refuse, and_then}
+use Rattle.refusals.specs.Answer.{Answer, Judged, gives, refuses, done, refuse, and_then}
 use Rattle.refusals.proofs.Answers.{not_both, next_tells}
 use Rattle.intervals.specs.Conversion.{outward_of}
 use Rattle.sheets.specs.declared.layout.Record.{Record}
@@ -23,12 +23,12 @@ pub record Passed (rule : Record → Answer ℕ) (rows columns least : ℕ) (r :
   pub free : least ≤ position_of columns r
   pub amount : ℕ
   pub ruled : rule r ≡ gives amount
-  pub fine : worn_fault r.lower r.upper amount ≡ 0
+  pub fine : worn_fault r.lower r.upper amount ≡ done
   pub outward : outward_of r.lower r.upper amount ≡ gives (c.lower, c.upper)
   pub position : position_of columns r ≡ c.position
   pub next : r.next ≡ c.next
 
-cell_tells : (columns : ℕ) (r : Record) (c : Cell) (x : Answer (ℕ × ℕ)) → cell_from columns r x ≡ gives c
+cell_tells : (columns : ℕ) (r : Record) (c : Cell) (x : Judged (ℕ × ℕ)) → cell_from columns r x ≡ gives c
     → (x ≡ gives (c.lower, c.upper)) × (position_of columns r ≡ c.position) × (r.next ≡ c.next)
 cell_tells columns r c (refuses x) h = absurd (not_both h)
 cell_tells columns r c (gives x) h =
@@ -50,7 +50,7 @@ module _ (rule : Record → Answer ℕ) (rows columns least : ℕ) (r : Record) 
   judge_ruled h k l = judge_by false false false (lt-leb rows r.row h) (lt-leb columns r.column k) (le-ltb (position_of columns r) least l)
 
   -- and has the amount w
-  pub judge_cell : (w : ℕ) (x : Answer (ℕ × ℕ)) → r.row < rows → r.column < columns → least ≤ position_of columns r → rule r ≡ gives w
+  pub judge_cell : (w : ℕ) (x : Judged (ℕ × ℕ)) → r.row < rows → r.column < columns → least ≤ position_of columns r → rule r ≡ gives w
       → widened_of r.lower r.upper w ≡ x → cell_from columns r x ≡ judge_of rule rows columns least r
   judge_cell w x h k l e f = rw (← f, ← judge_ruled h k l, e)
 

@@ -7,8 +7,9 @@ use native.Mathlib.Omega.{arith}
 use lib.ListN.{length}
 use lib.Seq.{take_all}
 use lib.Dec.{eqb}
-use Rattle.refusals.specs.Answer.{Answer, gives, refuse, passing, and_then}
-use Rattle.refusals.proofs.Answers.{gives_injective, next_tells, passing_on, passing_not, passing_tells}
+use Rattle.refusals.specs.declared.reason.Reason.{Reason}
+use Rattle.refusals.specs.Answer.{Judged, gives, refuses, done, refuse, unplaced, and_then}
+use Rattle.refusals.proofs.Answers.{gives_injective, next_tells, then_tells, placed_tells}
 use Rattle.std.specs.List.{list_all, range_with_len}
 use Rattle.binary32.specs.Number.{finite}
 use Rattle.binary32.specs.Order.{magnitude_of, at_most}
@@ -33,25 +34,25 @@ pub ascending_by : (amounts : List ℕ) (t : Bool) → eqb (magnitude_of (amount
 unfolding ascending
 ascending_by amounts t e = rw e
 
--- ---- a load that the code answers with fault n and these amounts
+-- ---- a load that the code answers with v
 
-module _ (d amounts : List ℕ) (n : ℕ) (e : passing n (gives amounts) ≡ load_of d) where
-  pub with_refused : (s : List ℕ) (l u : ℕ) → (n ≡ 0 → ⊥) → refuse n ≡ read_with d s l u
+module _ (d : List ℕ) (v : Judged (List ℕ)) (e : v ≡ load_of d) where
+  pub with_refused : (s : List ℕ) (l u : ℕ) (n : Reason) → v ≡ refuses n → refuse n ≡ read_with d s l u
   unfolding read_with
-  with_refused s l u h = ap (λ (o : Answer (List ℕ)). and_then o (λ x. read_by x s l u)) (passing_not n _ h ∙ e)
+  with_refused s l u n h = ap (λ (o : Judged (List ℕ)). and_then (unplaced o) (λ x. read_by x s l u)) (sym h ∙ e)
 
-  pub with_loaded : (s : List ℕ) (l u : ℕ) → n ≡ 0 → read_by amounts s l u ≡ read_with d s l u
+  pub with_loaded : (s : List ℕ) (l u : ℕ) (amounts : List ℕ) → v ≡ gives amounts → read_by amounts s l u ≡ read_with d s l u
   unfolding read_with
-  with_loaded s l u h = ap (λ (o : Answer (List ℕ)). and_then o (λ x. read_by x s l u)) (passing_on n _ h ∙ e)
+  with_loaded s l u amounts h = ap (λ (o : Judged (List ℕ)). and_then (unplaced o) (λ x. read_by x s l u)) (sym h ∙ e)
 
-  pub loaded_is : n ≡ 0 → amounts ≡ patterns_of d
+  pub loaded_is : (amounts : List ℕ) → v ≡ gives amounts → amounts ≡ patterns_of d
   unfolding load_of
-  loaded_is h = sym (gives_injective (passing_tells (load_fault d) _ amounts (sym e ∙ sym (passing_on n _ h))).1)
+  loaded_is amounts h = sym (gives_injective (then_tells (load_fault d) _ amounts (sym e ∙ h)).1)
 
 -- what a read with a load tells that is not refused: the load has no fault, and the sheet is accepted
-pub with_tells : (d s : List ℕ) (l u r c : ℕ) → read_with d s l u ≡ gives (sizes r c) → (load_fault d ≡ 0) × Accepted (patterns_of d) s l u r c
+pub with_tells : (d s : List ℕ) (l u r c : ℕ) → read_with d s l u ≡ gives (sizes r c) → (load_fault d ≡ done) × Accepted (patterns_of d) s l u r c
 unfolding read_with load_of
 with_tells d s l u r c e =
-    let a = next_tells (load_of d) (λ x. read_by x s l u) (sizes r c) e in
-    let f = passing_tells (load_fault d) (gives (patterns_of d)) a.0 a.1 in
-    (f.0, accepted_by (patterns_of d) s l u r c (ap (λ (x : List ℕ). read_by x s l u) (gives_injective f.1) ∙ a.2))
+    let a = next_tells (unplaced (load_of d)) (λ x. read_by x s l u) (sizes r c) e in
+    let f = then_tells (load_fault d) (gives (patterns_of d)) a.0 (placed_tells _ _ _ (load_of d) a.0 a.1) in
+    (f.0.1, accepted_by (patterns_of d) s l u r c (ap (λ (x : List ℕ). read_by x s l u) (gives_injective f.1) ∙ a.2))

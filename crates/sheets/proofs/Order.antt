@@ -1,20 +1,21 @@
 -- The order of the chain: a position that rises is a cell that comes later by row, then column, and 8 is said of a cell exactly where it does not. Assumes nothing.
 use mathlib.Core.Path.{◌≡◌, refl, sym, ap, ◌∙◌}
-use mathlib.Core.Bool.{Bool, true, false, cond}
+use mathlib.Core.Bool.{Bool, true, false, cond, not}
 use mathlib.Core.List.{List}
 use mathlib.Core.Logic.{◌↔◌, ◌⊎◌, inl, inr}
 use mathlib.Core.Option.{Option, none, some}
 use Prim.Native.Nat.{ℕ, ◌+◌, ◌*◌, ◌≤◌, ◌<◌}
 use native.Mathlib.Omega.{arith}
 use lib.Arith.{digits_lt}
-use lib.Dec.{eqb, ltb}
+use lib.Dec.{eqb, leb, ltb}
 use lib.IntN.{ℤ}
 use borrow.Author.Tests.{lt-leb, lt-ltb, ltb-true, ltb-false}
 use Rattle.rounding.specs.Rounding.{up, down}
-use Rattle.refusals.specs.declared.reason.Reason.TheVariants.{NotFinite, NotRising}
+use Rattle.refusals.specs.declared.reason.Reason.TheVariants.{NotFinite, Crossed, WrongLayout, NotRising, UnknownClass, NegativeAmount}
+use Rattle.refusals.specs.Reason.{number_of}
 use Rattle.refusals.specs.declared.Refusal.{Refusal}
-use Rattle.refusals.specs.Refusal.{of_matrix}
-use Rattle.refusals.specs.Answer.{Answer, gives, refuses, refuse, passing, and_then, both}
+use Rattle.refusals.specs.Refusal.{of_matrix, of_cell}
+use Rattle.refusals.specs.Answer.{Answer, Judged, gives, refuses, done, refuse, unless, and_then, then, both}
 use Rattle.refusals.proofs.Answers.{not_both}
 use Rattle.binary32.specs.Number.{value_of, finite, finites}
 use Rattle.binary32.specs.Operations.{add, sub, answer_of, answer, sub_down, add_up}
@@ -22,7 +23,7 @@ use Rattle.binary32.specs.Order.{at_most}
 use Rattle.intervals.specs.Conversion.{fault_of, outward_of}
 use Rattle.sheets.specs.declared.layout.Record.{Record}
 use Rattle.sheets.specs.declared.chain.Cell.{Cell}
-use Rattle.sheets.specs.Amount.{below_zero, wear_fault, wear_amount, wear_refusal, cell_amount}
+use Rattle.sheets.specs.Amount.{below_zero, check_wear, wear_amount, cell_amount}
 use Rattle.sheets.specs.Cell.{worn_fault, widened_of}
 use Rattle.sheets.specs.Chain.{position_of, cell_from, worn_cell, judge_of}
 use Rattle.sheets.proofs.Judging.{judge_by, judge_ruled}
@@ -47,50 +48,50 @@ module _ (n i j k l : ℕ) (hj : j < n) (hl : l < n) where
   from (inl h) = omega (arith, digits_lt h hj)
   from (inr (e, h)) = let m : i * n ≡ k * n = ap (λ (x : ℕ). x * n) e in omega arith
 
--- ---- 8 is said of the order alone: 3, 4 and 5 are other numbers
+-- ---- 8 is said of the order alone: no bound and no amount is refused with it
 
--- a refusal's number is 5 or less
-abbrev Low : {A : Type 0} → Answer A → Type 0
-Low (gives v) = Unit {0}
-Low (refuses x) = x.number ≤ 5
-
-answer_low : (op : ℤ → ℤ → Option ℤ) (a b : ℕ) → Low (answer op a b)
-unfolding answer
-answer_low op a b = go (finites a b) (op (value_of a) (value_of b))
-  where
-    go : (t : Bool) (o : Option ℤ) → Low (cond t (answer_of o) (refuse NotFinite))
-    go true (some v) = tt
-    go true none = omega arith
-    go false o = omega arith
-
-both_low : {A B : Type 0} (a : Answer A) (b : Answer B) → Low a → Low b → Low (both a b)
-both_low (gives v) (gives w) h k = tt
-both_low (gives v) (refuses r) h k = k
-both_low (refuses r) b h k = h
-
-widened_low : (a b w : ℕ) → Low (widened_of a b w)
-unfolding widened_of worn_fault fault_of
-widened_low a b w = go (finite w) (finites a b) (at_most a b) (both_low (sub_down a w) (add_up b w) (answer_low (sub down) a w) (answer_low (add up) b w))
-  where
-    go : (r s t : Bool) → Low (outward_of a b w) → Low (passing (cond r (cond s (cond t 0 4) 3) 3) (outward_of a b w))
-    go true true true h = h
-    go true true false h = omega arith
-    go true false t h = omega arith
-    go false s t h = omega arith
-
--- nor is it said of an amount: 6, 10 and 14 are other numbers too
-abbrev No8 : {A : Type 0} → Answer A → Type 0
+abbrev No8 : {A : Type 0} → Judged A → Type 0
 No8 (gives v) = Unit {0}
-No8 (refuses x) = x.number ≡ 8 → ⊥
+No8 (refuses x) = number_of x ≡ 8 → ⊥
 
-amount_no8 : (kind : ℕ) (amounts : List ℕ) (r : Record) → No8 (cell_amount kind amounts r)
-unfolding wear_fault cell_amount
-amount_no8 kind amounts r = go (eqb kind 0) (ltb 255 r.wear) (ltb 7 r.wear) (below_zero r.wear)
+answer_no8 : (op : ℤ → ℤ → Option ℤ) (a b : ℕ) → No8 (answer op a b)
+unfolding answer
+answer_no8 op a b = go (finites a b) (op (value_of a) (value_of b))
   where
-    go : (s t u v : Bool) → let n : ℕ = cond s (cond t 6 (cond u 10 0)) (cond v 14 0) in No8 (cond (eqb n 0) (gives (wear_amount kind amounts r.wear)) (refuses (wear_refusal n r)))
+    go : (t : Bool) (o : Option ℤ) → No8 (cond t (answer_of o) (refuses NotFinite))
+    go true (some v) = tt
+    go true none = λ e. omega arith
+    go false o = λ e. omega arith
+
+both_no8 : {A B : Type 0} (a : Judged A) (b : Judged B) → No8 a → No8 b → No8 (both a b)
+both_no8 (gives v) (gives w) h k = tt
+both_no8 (gives v) (refuses r) h k = k
+both_no8 (refuses r) b h k = h
+
+widened_no8 : (a b w : ℕ) → No8 (widened_of a b w)
+unfolding widened_of worn_fault fault_of
+widened_no8 a b w = go (finite w) (finites a b) (at_most a b) (both_no8 (sub_down a w) (add_up b w) (answer_no8 (sub down) a w) (answer_no8 (add up) b w))
+  where
+    go : (r s t : Bool) → No8 (outward_of a b w)
+        → No8 (then (then (unless r NotFinite) (cond s (cond t done (refuses Crossed)) (refuses NotFinite))) (outward_of a b w))
+    go true true true h = h
+    go true true false h = λ e. omega arith
+    go true false t h = λ e. omega arith
+    go false s t h = λ e. omega arith
+
+abbrev NotBy8 : Answer ℕ → Type 0
+NotBy8 (gives v) = Unit {0}
+NotBy8 (refuses x) = number_of x.reason ≡ 8 → ⊥
+
+amount_no8 : (kind : ℕ) (amounts : List ℕ) (r : Record) → NotBy8 (cell_amount kind amounts r)
+unfolding check_wear cell_amount
+amount_no8 kind amounts r = go (eqb kind 0) (ltb 255 r.wear) (leb r.wear 7) (below_zero r.wear)
+  where
+    go : (s t u v : Bool)
+        → NotBy8 (then (cond s (cond t (refuse WrongLayout) (unless u (of_cell UnknownClass 0 r.row r.column))) (unless (not v) (of_cell NegativeAmount 0 r.row r.column))) (gives (wear_amount kind amounts r.wear)))
     go true true u v = λ e. omega arith
-    go true false true v = λ e. omega arith
-    go true false false v = tt
+    go true false true v = tt
+    go true false false v = λ e. omega arith
     go false t u true = λ e. omega arith
     go false t u false = tt
 
@@ -116,16 +117,16 @@ module _ (kind : ℕ) (amounts : List ℕ) (rows columns : ℕ) (q r : Record) (
       let f : position_of columns q < position_of columns r = from columns q.row q.column r.row r.column hq hc h in
       go (cell_amount kind amounts r) (amount_no8 kind amounts r) (judge_ruled rule rows columns (position_of columns q + 1) r hr hc (omega arith) ∙ e)
     where
-      no : (x : Refusal) → refuses x ≡ refuse {A = Cell} 8 → (x.number ≡ 8 → ⊥) → ⊥
-      no x k n = n (let z : x ≡ of_matrix NotRising 0 = cc in ap (λ (y : Refusal). y.number) z)
+      no : (x : Refusal) → refuses x ≡ refuse {A = Cell} NotRising → (number_of x.reason ≡ 8 → ⊥) → ⊥
+      no x k n = n (let z : x ≡ of_matrix NotRising 0 = cc in ap (λ (y : Refusal). number_of y.reason) z)
 
-      bounds : (x : Answer (ℕ × ℕ)) → Low x → cell_from columns r x ≡ refuse NotRising → ⊥
+      bounds : (x : Judged (ℕ × ℕ)) → No8 x → cell_from columns r x ≡ refuse NotRising → ⊥
       bounds (gives x) l k = not_both (sym k)
-      bounds (refuses x) l k = no _ k (λ n. omega arith)
+      bounds (refuses x) l k = no _ k l
 
-      go : (a : Answer ℕ) → No8 a → and_then a (worn_cell columns r) ≡ refuse NotRising → ⊥
+      go : (a : Answer ℕ) → NotBy8 a → and_then a (worn_cell columns r) ≡ refuse NotRising → ⊥
       go (refuses x) n k = no x k n
-      go (gives w) n k = bounds (widened_of r.lower r.upper w) (widened_low r.lower r.upper w) k
+      go (gives w) n k = bounds (widened_of r.lower r.upper w) (widened_no8 r.lower r.upper w) k
 
   pub unordered_is : (judge_of rule rows columns (position_of columns q + 1) r ≡ refuse NotRising) ↔ (Later → ⊥)
   unordered_is = (ordered, unordered)

@@ -8,7 +8,7 @@ use lib.Dec.{ltb}
 use lib.ListN.{length, get_or}
 use borrow.Author.Tests.{ltb-false}
 use Rattle.refusals.specs.declared.reason.Reason.TheVariants.{NoRoom}
-use Rattle.refusals.specs.Answer.{gives, refuse}
+use Rattle.refusals.specs.Answer.{gives, done, refuse}
 use Rattle.refusals.specs.Sizes.{check_fit}
 use Rattle.refusals.proofs.Answers.{not_both, then_tells, next_tells}
 use Rattle.refusals.proofs.SizeLaws.{small, Fitting, fit_tells}
@@ -22,7 +22,7 @@ use Rattle.sheets.proofs.Scanning.{scan_tells}
 pub record Granted (rows columns : ℕ) (lo up : List ℕ) (room n : ℕ) : Type 0 where
   pub sized : Fitting rows columns (length lo) (length up)
   pub few : rows * columns ≤ 1024
-  pub fine : (q : ℕ) → q < rows * columns → fault_of (get_or lo q 0) (get_or up q 0) ≡ 0
+  pub fine : (q : ℕ) → q < rows * columns → fault_of (get_or lo q 0) (get_or up q 0) ≡ done
   pub counted : count_to lo up (rows * columns) ≤ rows * columns
   pub bytes : n ≡ 16 * (count_to lo up (rows * columns) + 1)
   pub roomy : n ≤ room

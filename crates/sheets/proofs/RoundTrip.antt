@@ -5,7 +5,8 @@ use Prim.Native.Nat.{ℕ, ◌+◌, ◌*◌, ◌≤◌, ◌<◌}
 use native.Mathlib.Omega.{arith}
 use lib.ListN.{length, get_or, drop, replicate, length-replicate}
 use Rattle.std.specs.Prelude.{Some, None}
-use Rattle.refusals.specs.Answer.{gives, refuses}
+use Rattle.refusals.specs.Answer.{gives, refuses, done}
+use Rattle.refusals.proofs.Answers.{then_gives}
 use Rattle.intervals.specs.Conversion.{fault_of}
 use Rattle.sheets.specs.declared.chain.Cell.{Cell}
 use Rattle.sheets.specs.Cell.{HandedIn, canonical_of, handed_of}
@@ -24,7 +25,7 @@ use Rattle.sheets.proofs.WalkBack.{read_back, chain_back}
 use Rattle.sheets.proofs.MatrixBack.{Holds, put_back}
 
 -- a cell without a fault holds its bounds
-holds : (a b : ℕ) → fault_of a b ≡ 0 → Holds cell_lower (canonical_of a) (handed_of a b) × Holds cell_upper (canonical_of b) (handed_of a b)
+holds : (a b : ℕ) → fault_of a b ≡ done → Holds cell_lower (canonical_of a) (handed_of a b) × Holds cell_upper (canonical_of b) (handed_of a b)
 holds a b e = go (handed_of a b) (handed_tells a b)
   where
     go : (h : HandedIn) → Tells a b h → Holds cell_lower (canonical_of a) h × Holds cell_upper (canonical_of b) h
@@ -65,7 +66,7 @@ round_trip rows columns lo up room n g l u hl hu =
     }
 
 -- by a read with any load that is accepted
-pub trip_with : (load : List ℕ) → load_fault load ≡ 0 → (rows columns : ℕ) (lo up : List ℕ) (room n : ℕ) → Granted rows columns lo up room n
+pub trip_with : (load : List ℕ) → load_fault load ≡ done → (rows columns : ℕ) (lo up : List ℕ) (room n : ℕ) → Granted rows columns lo up room n
     → (l u : List ℕ) → rows * columns ≤ length l → rows * columns ≤ length u
     → (read_with load (sheet_of rows columns lo up) (length l) (length u) ≡ gives (sizes rows columns))
     × ((lowers_with load (sheet_of rows columns lo up) (gives (sizes rows columns)) l ≡ canonicals lo (rows * columns) 0 ++ drop (rows * columns) l)
@@ -73,7 +74,7 @@ pub trip_with : (load : List ℕ) → load_fault load ≡ 0 → (rows columns : 
 unfolding load_of slice_with
 trip_with load e rows columns lo up room n g l u hl hu =
     let amounts : List ℕ = patterns_of load in (
-      sym (with_loaded load amounts (load_fault load) refl _ _ _ e) ∙ answer_back amounts rows columns lo up g l u hl hu,
+      sym (with_loaded load (load_of load) refl _ _ _ amounts (sym (then_gives _ tt _ _ e refl))) ∙ answer_back amounts rows columns lo up g l u hl hu,
       (lowers_back amounts rows columns lo up g l, uppers_back amounts rows columns lo up g u),
     )
 

@@ -7,13 +7,12 @@ use Prim.Native.Nat.{ℕ, zero, suc, ◌+◌, ◌-◌, ◌/◌, ◌%◌, ◌<◌
 use native.Mathlib.Nat.{add-zero, add-suc, eq-or-lt_of_le}
 use native.Mathlib.Numerals.{add-one}
 use native.Mathlib.Omega.{arith}
-use lib.Dec.{eqb}
 use lib.ListN.{get_or}
-use borrow.Author.Tests.{eqb-true}
 use Rattle.std.specs.Prelude.{Option, Some, None, is_some}
 use Rattle.refusals.specs.declared.Refusal.{Refusal}
-use Rattle.refusals.specs.Refusal.{placed}
-use Rattle.refusals.specs.Answer.{gives, refuses, refuse}
+use Rattle.refusals.specs.declared.reason.Reason.{Reason}
+use Rattle.refusals.specs.Refusal.{of_cell}
+use Rattle.refusals.specs.Answer.{Judged, gives, refuses, done, then}
 use Rattle.refusals.proofs.Answers.{not_both, next_tells}
 use Rattle.intervals.specs.Conversion.{fault_of}
 use Rattle.sheets.specs.Cell.{HandedIn, canonical_of, both_zero, handed_of}
@@ -45,23 +44,23 @@ module _ (columns : ℕ) (lo up : List ℕ) where
   stays p zero r e = simp add-zero e
   stays p (suc y) r e = rw (add-suc, stays p y r e)
 
-  pub scan_faulty : (p m k : ℕ) (x : Refusal) → p < m → scan_to columns lo up p ≡ gives k → cell_at lo up p ≡ refuses x → scan_to columns lo up m ≡ refuses (placed (p / columns) (p % columns) x)
+  pub scan_faulty : (p m k : ℕ) (x : Reason) → p < m → scan_to columns lo up p ≡ gives k → cell_at lo up p ≡ refuses x → scan_to columns lo up m ≡ refuses (of_cell x 0 (p / columns) (p % columns))
   scan_faulty p m k x h e f =
       let y : p + 1 + (m - (p + 1)) ≡ m = omega arith in
       rw (← y) (stays (p + 1) (m - (p + 1)) _ (scan_more p k (refuses x) e f))
 
-  cell_fine : (p k m a b : ℕ) → unless_faulty columns p (handed_of a b) (gives m) ≡ gives k → (k ≡ m) × (fault_of a b ≡ 0)
+  cell_fine : (p k m a b : ℕ) → unless_faulty columns p (handed_of a b) (gives m) ≡ gives k → (k ≡ m) × (fault_of a b ≡ done)
   unfolding handed_of
-  cell_fine p k m a b e = go (eqb (fault_of a b) 0) (both_zero (canonical_of a) (canonical_of b)) refl e
+  cell_fine p k m a b e = go (fault_of a b) (both_zero (canonical_of a) (canonical_of b)) refl e
     where
-      go : (s t : Bool) → eqb (fault_of a b) 0 ≡ s → unless_faulty columns p (cond s (cond t (gives None) (gives (Some (canonical_of a, canonical_of b)))) (refuse (fault_of a b))) (gives m) ≡ gives k
-          → (k ≡ m) × (fault_of a b ≡ 0)
-      go true true i h = (cc, eqb-true _ _ i)
-      go true false i h = (cc, eqb-true _ _ i)
-      go false t i h = absurd (not_both h)
+      go : (s : Judged (Unit {0})) (t : Bool) → fault_of a b ≡ s → unless_faulty columns p (then s (cond t (gives None) (gives (Some (canonical_of a, canonical_of b))))) (gives m) ≡ gives k
+          → (k ≡ m) × (fault_of a b ≡ done)
+      go (gives u) true i h = (cc, i)
+      go (gives u) false i h = (cc, i)
+      go (refuses n) t i h = absurd (not_both h)
 
   -- k of the first p cells are not [0, 0], and none has a fault
-  pub scan_tells : (p k : ℕ) → scan_to columns lo up p ≡ gives k → (k ≡ count_to lo up p) × ((q : ℕ) → q < p → fault_of (get_or lo q 0) (get_or up q 0) ≡ 0)
+  pub scan_tells : (p k : ℕ) → scan_to columns lo up p ≡ gives k → (k ≡ count_to lo up p) × ((q : ℕ) → q < p → fault_of (get_or lo q 0) (get_or up q 0) ≡ done)
   unfolding scan_to count_to
   scan_tells zero k e = (cc, λ q h. absurd (omega arith))
   scan_tells (suc p) k e =

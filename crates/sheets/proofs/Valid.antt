@@ -14,7 +14,9 @@ use Rattle.algebra.proofs.Order.{≼_refl, ≼_trans}
 use Rattle.rounding.specs.Format.{binary32}
 use Rattle.rounding.specs.Pattern.{val}
 use Rattle.rounding.proofs.Pattern.{val_injective}
-use Rattle.refusals.proofs.Answers.{and_tells}
+use Rattle.refusals.specs.declared.reason.Reason.TheVariants.{WrongLayout, NotFinite}
+use Rattle.refusals.specs.Answer.{done, unless}
+use Rattle.refusals.proofs.Answers.{and_tells, then_tells, unless_tells}
 use Rattle.binary32.specs.Number.{signed_by, value_of, finite}
 use Rattle.binary32.specs.Order.{magnitude_of}
 use Rattle.binary32.proofs.Held.{and_both, is_finite}
@@ -76,15 +78,12 @@ module _ (amounts : List ℕ) where
 
 -- ---- a load
 
-fault_none : (b s t : Bool) → ◌≡◌ {A = ℕ} (cond b (cond s (cond t 0 13) 3) 6) 0 → (b ≡ true) × ((s ≡ true) × (t ≡ true))
-fault_none true true true e = (refl, (refl, refl))
-fault_none true true false e = absurd (omega arith)
-fault_none true false t e = absurd (omega arith)
-fault_none false s t e = absurd (omega arith)
-
-pub accepted_is : (d : List ℕ) → (load_fault d ≡ 0) ↔ ((length d ≡ 32) × Valid (patterns_of d))
+pub accepted_is : (d : List ℕ) → (load_fault d ≡ done) ↔ ((length d ≡ 32) × Valid (patterns_of d))
 unfolding load_fault amounts_fault
 accepted_is d = (
-  λ e. let f = fault_none (eqb (length d) 32) (all_finite (patterns_of d)) (ascending (patterns_of d)) e in (eqb-true _ _ f.0, tells (patterns_of d) f.1),
+  λ e.
+  let t = then_tells (unless (eqb (length d) 32) WrongLayout) _ tt e in
+  let u = then_tells (unless (all_finite (patterns_of d)) NotFinite) _ tt t.1 in
+  (eqb-true _ _ (unless_tells _ _ t.0.1), tells (patterns_of d) (unless_tells _ _ u.0.1, unless_tells _ _ u.1)),
   λ v. let t = tests (patterns_of d) v.1 in rw (eq-eqb (length d) 32 v.0, t.0, t.1),
 )

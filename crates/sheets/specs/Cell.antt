@@ -1,6 +1,7 @@
--- The two bounds of one cell. Definitions only (01, "The coupling sheet" and "When a call is turned down"; 02, P6).
+-- The two bounds of one cell. Definitions only.
 use Rattle.std.specs.Prelude.{Bool, false, cond, ℕ, eqb, Option, Some, None}
-use Rattle.refusals.specs.Answer.{Answer, gives, passing}
+use Rattle.refusals.specs.declared.reason.Reason.TheVariants.{NotFinite}
+use Rattle.refusals.specs.Answer.{Judged, gives, unless, then}
 use Rattle.binary32.specs.Number.{value_of, finite, pattern_of}
 use Rattle.intervals.specs.Conversion.{fault_of, outward_of}
 
@@ -12,18 +13,18 @@ canonical_of p = pattern_of (value_of p)
 unfoldable pub both_zero : ℕ → ℕ → Bool
 both_zero a b = cond (eqb a 0) (eqb b 0) false
 
--- what becomes of a cell to be written: no record, a record with these bounds, or its refusal
+-- what becomes of a cell to be written: no record, a record with these bounds, or the reason why not
 abbrev pub HandedIn : Type 0
-HandedIn = Answer (Option (ℕ × ℕ))
+HandedIn = Judged (Option (ℕ × ℕ))
 
--- a cell to be written: refused with 3, else with 4; else [0, 0], with zeros of either sign; else its bounds
+-- a cell to be written: its fault; else [0, 0], with zeros of either sign; else its bounds
 unfoldable pub handed_of : ℕ → ℕ → HandedIn
-handed_of a b = passing (fault_of a b) (cond (both_zero (canonical_of a) (canonical_of b)) (gives None) (gives (Some (canonical_of a, canonical_of b))))
+handed_of a b = then (fault_of a b) (cond (both_zero (canonical_of a) (canonical_of b)) (gives None) (gives (Some (canonical_of a, canonical_of b))))
 
--- the fault of a cell that is read with the amount w: 3, one of the three has exponent field 255; else 4, the lower bound is above the upper; else 0
-unfoldable pub worn_fault : ℕ → ℕ → ℕ → ℕ
-worn_fault a b w = cond (finite w) (fault_of a b) 3
+-- the fault of a cell that is read with the amount w: one of the three has exponent field 255; else, the lower bound is above the upper; else none
+unfoldable pub worn_fault : ℕ → ℕ → ℕ → Judged (Unit {0})
+worn_fault a b w = then (unless (finite w) NotFinite) (fault_of a b)
 
--- a cell that is read: refusal 3, then 4; then a - w rounded down and b + w rounded up, or refusal 5 where one of them overflows
-unfoldable pub widened_of : ℕ → ℕ → ℕ → Answer (ℕ × ℕ)
-widened_of a b w = passing (worn_fault a b w) (outward_of a b w)
+-- a cell that is read: its fault; else a - w rounded down and b + w rounded up, or TooLarge where one of them overflows
+unfoldable pub widened_of : ℕ → ℕ → ℕ → Judged (ℕ × ℕ)
+widened_of a b w = then (worn_fault a b w) (outward_of a b w)

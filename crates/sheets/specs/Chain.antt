@@ -1,9 +1,9 @@
 -- The chain of a sheet, followed record by record with all checks, over a rule that gives the wear amount of a record or its refusal.
--- Definitions only (01, "The coupling sheet" and "When a call is turned down"; 02, P6).
+-- Definitions only.
 use Rattle.std.specs.Prelude.{cond, List, [], ◌∷◌, ℕ, zero, suc, ◌+◌, ◌*◌, leb, ltb, eqb}
 use Rattle.refusals.specs.declared.reason.Reason.TheVariants.{Outside, NotRising}
-use Rattle.refusals.specs.Refusal.{placed}
-use Rattle.refusals.specs.Answer.{Answer, gives, refuses, done, refuse, and_then}
+use Rattle.refusals.specs.Refusal.{of_cell}
+use Rattle.refusals.specs.Answer.{Answer, Judged, gives, refuses, done, refuse, and_then}
 use Rattle.sheets.specs.declared.layout.Record.{Record}
 use Rattle.sheets.specs.declared.chain.Cell.{Cell}
 use Rattle.sheets.specs.Layout.{record_of, first_of, rows_of, columns_of, count_of, kind_of}
@@ -16,10 +16,10 @@ use Rattle.sheets.specs.Cell.{widened_of}
 abbrev pub position_of : ℕ → Record → ℕ
 position_of columns r = r.row * columns + r.column
 
--- the cell of a record with its widened bounds, or their refusal (3, 4 or 5) with row and column
-abbrev pub cell_from : ℕ → Record → Answer (ℕ × ℕ) → Answer Cell
+-- the cell of a record with its widened bounds, or their refusal with row and column
+abbrev pub cell_from : ℕ → Record → Judged (ℕ × ℕ) → Answer Cell
 cell_from columns r (gives x) = gives (record { next = r.next; position = position_of columns r; lower = x.0; upper = x.1 })
-cell_from columns r (refuses x) = refuses (placed r.row r.column x)
+cell_from columns r (refuses x) = refuses (of_cell x 0 r.row r.column)
 
 -- a record with its amount w, its bounds widened
 abbrev pub worn_cell : ℕ → Record → ℕ → Answer Cell

@@ -1,9 +1,9 @@
--- A mill's own wear amounts, which take the place of the fixed table for one read. Definitions only (02, P5).
+-- A mill's own wear amounts, which take the place of the fixed table for one read. Definitions only.
 use Rattle.std.specs.Prelude.{Bool, false, cond, List, [], ◌∷◌, ℕ, ◌+◌, eqb, length}
-use Rattle.refusals.specs.Answer.{Answer, gives, passing}
+use Rattle.refusals.specs.declared.reason.Reason.TheVariants.{NotFinite, WrongLayout, WrongLoad}
+use Rattle.refusals.specs.Answer.{Judged, gives, unless, then}
 use Rattle.binary32.specs.Number.{finite}
 use Rattle.binary32.specs.Order.{magnitude_of, at_most}
-use Rattle.sheets.specs.declared.load.Load.{Load}
 use Rattle.sheets.specs.AllFrom.{all_from}
 use Rattle.sheets.specs.Layout.{u32_at}
 use Rattle.sheets.specs.Wear.{amount_in}
@@ -24,18 +24,14 @@ rising amounts = all_from (λ c. at_most (amount_in amounts c) (amount_in amount
 unfoldable pub ascending : List ℕ → Bool
 ascending amounts = cond (eqb (magnitude_of (amount_in amounts 0)) 0) (rising amounts) false
 
--- the fault of eight amounts: 3, an exponent field is 255; else 13, the first is not zero or one is below its forerunner; else 0
-unfoldable pub amounts_fault : List ℕ → ℕ
-amounts_fault amounts = cond (all_finite amounts) (cond (ascending amounts) 0 13) 3
+-- the fault of eight amounts: an exponent field is 255; else, the first is not zero or one is below its forerunner; else none
+unfoldable pub amounts_fault : List ℕ → Judged (Unit {0})
+amounts_fault amounts = then (unless (all_finite amounts) NotFinite) (unless (ascending amounts) WrongLoad)
 
--- the fault of a load: 6, it has not 32 bytes; else that of its amounts
-unfoldable pub load_fault : List ℕ → ℕ
-load_fault d = cond (eqb (length d) 32) (amounts_fault (patterns_of d)) 6
+-- the fault of a load: it has not 32 bytes; else that of its amounts
+unfoldable pub load_fault : List ℕ → Judged (Unit {0})
+load_fault d = then (unless (eqb (length d) 32) WrongLayout) (amounts_fault (patterns_of d))
 
--- the eight amounts of a load, or the refusal
-unfoldable pub load_of : List ℕ → Answer (List ℕ)
-load_of d = passing (load_fault d) (gives (patterns_of d))
-
--- the answer that a `Load` of the code stands for
-abbrev pub loaded : Load → Answer (List ℕ)
-loaded l = passing l.fault (gives l.amounts)
+-- the eight amounts of a load, or its fault
+unfoldable pub load_of : List ℕ → Judged (List ℕ)
+load_of d = then (load_fault d) (gives (patterns_of d))

@@ -1,9 +1,9 @@
 -- The answer of a read, and the lent slices afterwards: one definition over eight wear amounts, with the fixed table for a plain read and with a
--- mill's own for one that names a load. Definitions only (01, "The coupling sheet" and "When a call is turned down"; 02, P5).
+-- mill's own for one that names a load. Definitions only.
 use Rattle.std.specs.Prelude.{List, [], ◌∷◌, ◌++◌, ℕ, ◌*◌, set, replicate, drop}
 use Rattle.refusals.specs.declared.reason.Reason.TheVariants.{WrongLayout}
 use Rattle.refusals.specs.Refusal.{of_matrix}
-use Rattle.refusals.specs.Answer.{Answer, gives, unless, then, and_then, unless_refused}
+use Rattle.refusals.specs.Answer.{Answer, gives, unplaced, unless, then, and_then, unless_refused}
 use Rattle.refusals.specs.Sizes.{check_fit}
 use Rattle.sheets.specs.declared.chain.Cell.{Cell}
 use Rattle.sheets.specs.declared.Sizes.{Sizes}
@@ -31,7 +31,7 @@ read_of = read_by fixed_amounts
 
 -- with the amounts of a load: its refusals 6, 3 and 13 come before the sheet is looked at
 unfoldable pub read_with : List ℕ → List ℕ → ℕ → ℕ → Answer Sizes
-read_with load s l u = and_then (load_of load) (λ amounts. read_by amounts s l u)
+read_with load s l u = and_then (unplaced (load_of load)) (λ amounts. read_by amounts s l u)
 
 -- ---- the lent slices afterwards
 

@@ -1,7 +1,7 @@
--- The answer of a write, and the buffer afterwards. Definitions only (01, "The coupling sheet" and "When a call is turned down").
+-- The answer of a write, and the buffer afterwards. Definitions only.
 use Rattle.std.specs.Prelude.{cond, List, [], ◌++◌, ℕ, zero, suc, ◌+◌, ◌*◌, ◌/◌, ◌%◌, ltb, length, drop}
 use Rattle.refusals.specs.declared.reason.Reason.TheVariants.{NoRoom}
-use Rattle.refusals.specs.Refusal.{placed}
+use Rattle.refusals.specs.Refusal.{of_cell}
 use Rattle.refusals.specs.Answer.{Answer, gives, refuses, refuse, and_then, then}
 use Rattle.refusals.specs.Sizes.{check_fit}
 use Rattle.sheets.specs.Cell.{HandedIn}
@@ -12,7 +12,7 @@ use Rattle.sheets.specs.Sheet.{cell_at, tally, sheet_of}
 -- refusal 3 or 4 for the cell at position p; or else the next answer
 abbrev pub unless_faulty : ℕ → ℕ → HandedIn → Answer ℕ → Answer ℕ
 unless_faulty columns p (gives c) next = next
-unless_faulty columns p (refuses x) next = refuses (placed (p / columns) (p % columns) x)
+unless_faulty columns p (refuses x) next = refuses (of_cell x 0 (p / columns) (p % columns))
 
 -- refusal 3 or 4 for the first faulty one of the first p cells; or else the number of their records
 unfoldable pub scan_to : ℕ → List ℕ → List ℕ → ℕ → Answer ℕ

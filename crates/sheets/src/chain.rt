@@ -6,7 +6,7 @@ ghost use Rattle.sheets.specs.Layout.{count_of};
 ghost use Rattle.sheets.specs.Amount.{cell_amount};
 ghost use Rattle.sheets.specs.Chain.{judge_of, walk_all};
 
-use crate::amount::{wear_amount, wear_fault};
+use crate::amount::{check_wear, wear_amount};
 use crate::layout::{Record, record_at};
 use crate::worn::check_worn;
 use refusals::Refusal;
@@ -47,16 +47,8 @@ fn judge(
     }
     let i = row as u8;
     let j = column as u8;
-    let fault = wear_fault(kind, r.wear);
-    if fault == 6 {
-        return Err(Refusal::of_matrix(Reason::WrongLayout, 0));
-    }
-    if fault != 0 {
-        return Err(Refusal::of_cell(fault, 0, i, j));
-    }
-    check_worn(r.lower, r.upper, wear_amount(kind, amounts, r.wear)).map_err(|x| Refusal::of_cell(
-        x.number, x.matrix, i, j,
-    ))
+    check_wear(kind, r)?;
+    check_worn(r.lower, r.upper, wear_amount(kind, amounts, r)).map_err(|reason| Refusal::of_cell(reason, 0, i, j))
 }
 
 // Checks the whole chain, whose first record has the index `first`. Index 0 ends the chain.

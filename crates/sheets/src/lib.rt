@@ -53,11 +53,7 @@ pub fn read_with(
     ensures below { lowers.new ≡ lowers_with amounts.now s.now result lowers.old }
     ensures above { uppers.new ≡ uppers_with amounts.now s.now result uppers.old }
 {
-    let load = load::read(amounts);
-    if load.fault != 0 {
-        return Err(Refusal::of_matrix(load.fault, 0));
-    }
-    let loaded = load.amounts;
+    let loaded = load::read(amounts)?;
     reading::read(&loaded, s, lowers, uppers)
 }
 

@@ -1,18 +1,12 @@
 // A mill's own wear amounts: eight patterns in 32 bytes, which take the place of the fixed table (wear.rt) for one read.
 ghost use Rattle.std.specs.Prelude.{◌≡◌, length};
-ghost use Rattle.sheets.specs.Load.{patterns_of, all_finite, rising, ascending, amounts_fault, load_of, loaded};
+ghost use Rattle.sheets.specs.Load.{patterns_of, all_finite, rising, ascending, amounts_fault, load_of};
 
 use crate::layout::u32_at;
 use binary32::finite::is_finite;
 use binary32::order::{at_most, magnitude};
+use refusals::reason::Reason;
 use std::array;
-
-// A load as read: its eight amounts and 0, or the number of its refusal, 6, 3 or 13, and amounts of no meaning.
-#[derive(Clone, Copy)]
-pub struct Load {
-    pub fault: u8,
-    pub amounts: [u32; 8],
-}
 
 // The eight patterns of a load.
 #[tactic(auto, unfolding(crate::specs::Load::patterns_of))]
@@ -45,31 +39,30 @@ fn ascend(amounts: &[u32; 8]) -> bool
     magnitude(amounts[0]) == 0 && rise(amounts)
 }
 
-// The fault of eight amounts: 3, one has exponent field 255; 13, the first is not zero or one is below its forerunner; 0, none.
+// The fault of eight amounts: NotFinite, one has exponent field 255; WrongLoad, the first is not zero or one is below its forerunner.
 #[tactic(auto, unfolding(crate::specs::Load::amounts_fault))]
-fn check(amounts: &[u32; 8]) -> u8
+fn check(amounts: &[u32; 8]) -> Result<(), Reason>
     ensures { result ≡ amounts_fault amounts.now }
 {
     if !are_finite(amounts) {
-        return 3;
+        return Err(Reason::NotFinite);
     }
-    if ascend(amounts) { 0 } else { 13 }
+    if ascend(amounts) {
+        Ok(())
+    } else {
+        Err(Reason::WrongLoad)
+    }
 }
 
-// Reads a load. A length other than 32 is refused with 6 before all else.
+// The eight amounts of a load. A length other than 32 is refused before all else.
 #[tactic(auto, unfolding(crate::specs::Load::load_fault, crate::specs::Load::load_of))]
-pub fn read(bytes: &[u8]) -> Load
-    ensures { loaded result ≡ load_of bytes.now }
+pub fn read(bytes: &[u8]) -> Result<[u32; 8], Reason>
+    ensures { result ≡ load_of bytes.now }
 {
     if bytes.len() != 32 {
-        return Load {
-            fault: 6,
-            amounts: [0; 8],
-        };
+        return Err(Reason::WrongLayout);
     }
     let amounts = patterns(bytes);
-    Load {
-        fault: check(&amounts),
-        amounts: amounts,
-    }
+    check(&amounts)?;
+    Ok(amounts)
 }

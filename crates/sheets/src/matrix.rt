@@ -2,7 +2,7 @@
 ghost use Rattle.std.specs.Prelude.{◌≡◌, ◌+◌, ◌*◌, ◌≤◌, ◌<◌, length};
 ghost use Rattle.refusals.specs.Answer.{done};
 ghost use Rattle.sheets.specs.Layout.{count_of};
-ghost use Rattle.sheets.specs.Amount.{wear_fault, wear_amount, cell_amount};
+ghost use Rattle.sheets.specs.Amount.{check_wear, wear_amount, cell_amount};
 ghost use Rattle.sheets.specs.Cell.{worn_fault};
 ghost use Rattle.sheets.specs.Chain.{worn_cell, walk_all};
 ghost use Rattle.sheets.specs.Reading.{put_in, cell_lower, cell_upper};
@@ -16,16 +16,16 @@ use refusals::Refusal;
 // The cell of a record that passed all checks, widened by its amount.
 #[tactic(auto, using(crate::proofs::Bounding::worn_tells), unfolding(crate::specs::Cell::widened_of))]
 fn passed(kind: usize, amounts: &[u32; 8], columns: usize, r: Record) -> Result<Cell, Refusal>
-    requires { (columns ≤ 32) × (r.row < 32) × (r.column < 32) × (wear_fault kind r.wear ≡ 0)
-        × (worn_fault r.lower r.upper (wear_amount kind amounts.now r.wear) ≡ 0) }
+    requires { (columns ≤ 32) × (r.row < 32) × (r.column < 32) × (check_wear kind r ≡ done)
+        × (worn_fault r.lower r.upper (wear_amount kind amounts.now r.wear) ≡ done) }
     ensures { result ≡ worn_cell columns r (wear_amount kind amounts.now r.wear) }
 {
     let row = r.row;
     let column = r.column;
     let i = row as u8;
     let j = column as u8;
-    let (lower, upper) = widen(r.lower, r.upper, wear_amount(kind, amounts, r.wear)).map_err(
-        |x| Refusal::of_cell(x.number, x.matrix, i, j),
+    let (lower, upper) = widen(r.lower, r.upper, wear_amount(kind, amounts, r)).map_err(
+        |reason| Refusal::of_cell(reason, 0, i, j),
     )?;
     Ok(Cell {
         next: r.next,

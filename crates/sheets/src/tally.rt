@@ -14,10 +14,10 @@ pub fn scan(columns: usize, cells: usize, lowers: &[u32], uppers: &[u32]) -> Res
     for p in 0..cells {
         let cell = match handed(lowers[p], uppers[p]) {
             Ok(cell) => cell,
-            Err(r) => {
+            Err(reason) => {
                 let row = (p / columns) as u8;
                 let column = (p % columns) as u8;
-                return Err(Refusal::of_cell(r.number, r.matrix, row, column));
+                return Err(Refusal::of_cell(reason, 0, row, column));
             }
         };
         if cell.is_some() {

@@ -7,27 +7,21 @@ use native.Mathlib.Omega.{arith}
 use lib.Arith.{digits_lt}
 use borrow.Author.Rules.{rules}
 use borrow.Author.Tests.{le-leb, lt-leb, lt-ltb}
-use Rattle.refusals.specs.Refusal.{placed}
-use Rattle.refusals.specs.Answer.{Answer, gives, refuses, done, and_then, then}
+use Rattle.refusals.specs.Answer.{Answer, Judged, gives, refuses, done, at_cell, and_then, then}
 use Rattle.refusals.proofs.SizeLaws.{small}
 use Rattle.sheets.specs.declared.layout.Record.{Record}
 use Rattle.sheets.specs.declared.chain.Cell.{Cell}
 use Rattle.sheets.specs.Amount.{cell_amount}
 use Rattle.sheets.specs.Cell.{widened_of}
 use Rattle.sheets.specs.Chain.{position_of, cell_from, worn_cell, judge_of}
-use Rattle.sheets.proofs.CellAmounts.{amount_given, amount_unnamed, amount_named}
+use Rattle.sheets.proofs.CellAmounts.{amount_given, amount_refused}
 use Rattle.sheets.proofs.Judging.{judge_by, judge_ruled}
 use Rattle.sheets.proofs.chain.judge.Goals as goal
 
 abbrev verdict : Answer Cell → Answer (Unit {0})
 verdict j = then j done
 
--- a verdict on the bounds of the cell in row i and column j
-abbrev placing : ℕ → ℕ → Answer (Unit {0}) → Answer (Unit {0})
-placing i j (gives v) = gives v
-placing i j (refuses x) = refuses (placed i j x)
-
-placing_is : (columns : ℕ) (r : Record) (a : Answer (ℕ × ℕ)) → placing r.row r.column (then a done) ≡ verdict (cell_from columns r a)
+placing_is : (columns : ℕ) (r : Record) (a : Judged (ℕ × ℕ)) → at_cell 0 r.row r.column (then a done) ≡ verdict (cell_from columns r a)
 placing_is columns r (gives x) = refl
 placing_is columns r (refuses x) = refl
 
@@ -58,30 +52,26 @@ module _ (kind : ℕ) (amounts : List ℕ) (rows columns least : ℕ) (r : Recor
   amounted : (x : Answer ℕ) → x ≡ cell_amount kind amounts r → verdict (and_then x (worn_cell columns r)) ≡ verdict (judge_of (cell_amount kind amounts) rows columns least r)
   amounted x e = ap (λ v. verdict (and_then v (worn_cell columns r))) e ∙ ap verdict (judge_ruled _ _ _ _ _ h k l)
 
-  -- with the amount w: by the answer z on 3, 4 and 5
-  worn : (w : ℕ) (z : Answer (Unit {0})) → gives w ≡ cell_amount kind amounts r → z ≡ then (widened_of r.lower r.upper w) done
-      → placing r.row r.column z ≡ verdict (judge_of (cell_amount kind amounts) rows columns least r)
-  worn w z e f = ap (placing r.row r.column) f ∙ placing_is columns r (widened_of r.lower r.upper w) ∙ amounted (gives w) e
+  -- with the amount w: by the answer z on the bounds
+  worn : (w : ℕ) (z : Judged (Unit {0})) → gives w ≡ cell_amount kind amounts r → z ≡ then (widened_of r.lower r.upper w) done
+      → at_cell 0 r.row r.column z ≡ verdict (judge_of (cell_amount kind amounts) rows columns least r)
+  worn w z e f = ap (at_cell 0 r.row r.column) f ∙ placing_is columns r (widened_of r.lower r.upper w) ∙ amounted (gives w) e
 
-pub returns-then-fault-eq6 : goal.returns-then-fault-eq6
-returns-then-fault-eq6 c =
+pub returns-in_err-check_wear : goal.returns-in_err-check_wear
+returns-in_err-check_wear c =
     let a = c.args in
-    ap refuses c.of_matrix-then-fault-eq6.ensures
-    ∙ amounted a.kind a.amounts.now a.rows a.columns a.least a.r c.if-row-rows.false c.if-column-columns.false c.if-position-least.false _ (amount_unnamed _ _ _ _ c.wear_fault-fault.ensures c.if-fault-eq6.true)
-
-pub returns-then-fault-ne0 : goal.returns-then-fault-ne0
-returns-then-fault-ne0 c =
-    let a = c.args in
-    ap refuses c.of_cell.ensures
-    ∙ amounted a.kind a.amounts.now a.rows a.columns a.least a.r c.if-row-rows.false c.if-column-columns.false c.if-position-least.false _ (amount_named _ _ _ _ c.wear_fault-fault.ensures c.if-fault-eq6.false c.if-fault-ne0.true)
+    let e : c.from_residual.result ≡ refuses c.in_err-check_wear.field-0.0 = search rules in
+    e
+    ∙ amounted a.kind a.amounts.now a.rows a.columns a.least a.r c.if-row-rows.false c.if-column-columns.false c.if-position-least.false _
+    (amount_refused _ _ _ _ (sym c.check_wear.ensures ∙ c.in_err-check_wear.was))
 
 pub wear_amount-requires : goal.wear_amount-requires
-wear_amount-requires c = sym c.wear_fault-fault.ensures ∙ c.if-fault-ne0.false
+wear_amount-requires c = sym c.check_wear.ensures ∙ c.in_ok-check_wear.was
 
 pub returns : goal.returns
 returns c =
     let a = c.args in
-    let e : c.map_err.result ≡ placing a.r.row a.r.column c.check_worn.result = search rules in
+    let e : c.map_err.result ≡ at_cell 0 a.r.row a.r.column c.check_worn.result = search rules in
     e
     ∙ worn a.kind a.amounts.now a.rows a.columns a.least a.r c.if-row-rows.false c.if-column-columns.false c.if-position-least.false _ _
-    (ap gives c.wear_amount.ensures ∙ amount_given _ _ _ (sym c.wear_fault-fault.ensures ∙ c.if-fault-ne0.false)) c.check_worn.ensures
+    (ap gives c.wear_amount.ensures ∙ amount_given _ _ _ (sym c.check_wear.ensures ∙ c.in_ok-check_wear.was)) c.check_worn.ensures

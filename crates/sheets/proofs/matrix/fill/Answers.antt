@@ -8,7 +8,7 @@ use Rattle.refusals.proofs.SizeLaws.{small}
 use Rattle.sheets.specs.declared.layout.Record.{Record}
 use Rattle.sheets.specs.declared.chain.Cell.{Cell}
 use Rattle.sheets.specs.Layout.{record_of}
-use Rattle.sheets.specs.Amount.{wear_fault, wear_amount, cell_amount}
+use Rattle.sheets.specs.Amount.{check_wear, wear_amount, cell_amount}
 use Rattle.sheets.specs.Cell.{worn_fault}
 use Rattle.sheets.specs.Chain.{worn_cell, visit_of, Walk, more, walk}
 use Rattle.sheets.specs.Reading.{cell_lower, cell_upper}
@@ -28,8 +28,8 @@ module _ (kind : ℕ) (amounts s : List ℕ) (rows columns t index least : ℕ) 
   passing = walk_passing _ _ _ _ t (t - 1) index least (omega arith) n v
 
   module _ (r : Record) (e : r ≡ record_of s index) where
-    -- its wear and its bounds have no fault
-    fine : (wear_fault kind r.wear ≡ 0) × (worn_fault r.lower r.upper (wear_amount kind amounts r.wear) ≡ 0)
+    -- its wear passes, and its bounds have no fault
+    fine : (check_wear kind r ≡ done) × (worn_fault r.lower r.upper (wear_amount kind amounts r.wear) ≡ done)
     fine =
         let p = passing.passed in
         let t = amount_tells _ _ _ _ p.ruled in
