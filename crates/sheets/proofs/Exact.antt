@@ -14,7 +14,8 @@ use Rattle.rounding.specs.Pattern.{val}
 use Rattle.rounding.specs.Rounding.{up, down}
 use Rattle.rounding.proofs.DirectedLaws.{up_exact, down_exact}
 use Rattle.rounding.proofs.Encoding.{encode_limit}
-use Rattle.refusals.specs.Answer.{gives, done, both}
+use Rattle.refusals.specs.declared.reason.Reason.TheVariants.{NotFinite, Crossed}
+use Rattle.refusals.specs.Answer.{gives, refuses, done, both}
 use Rattle.refusals.proofs.Answers.{then_gives}
 use Rattle.binary32.specs.Number.{finite, finites, value_of, pattern_of}
 use Rattle.binary32.specs.Operations.{add, sub, answer_of, sub_down, add_up}
@@ -83,7 +84,7 @@ module _ (a b : ℕ) (e : fault_of a b ≡ done) where
   canonical_fine =
       let f = fine_finite a b e in
       let g : finites (canonical_of a) (canonical_of b) ≡ finites a b = ap₂ (λ s t. cond s t false) (canonical_finite a f.0 ∙ sym f.0) (canonical_finite b f.1 ∙ sym f.1) in
-      ap₂ (λ s t. cond s (cond t 0 4) 3) g (ap₂ le_z (canonical_value a f.0) (canonical_value b f.1)) ∙ e
+      ap₂ (λ s t. cond s (cond t done (refuses Crossed)) (refuses NotFinite)) g (ap₂ le_z (canonical_value a f.0) (canonical_value b f.1)) ∙ e
 
 pub widened_none : (a b w : ℕ) → fault_of a b ≡ done → Zero w → widened_of (canonical_of a) (canonical_of b) w ≡ gives (canonical_of a, canonical_of b)
 unfolding widened_of

@@ -71,7 +71,7 @@ unfolding u32_at patterns_of all_from all_finite rising ascending amounts_fault 
 below = refl
 
 -- minus zero passes as the first amount and after a zero, and so does an amount that is equal to its forerunner
-zeros : load_fault (load 0x80000000 0x80000000 0x3F800000 0x7F7FFFFF 0x7F7FFFFF) ≡ 0
+zeros : load_fault (load 0x80000000 0x80000000 0x3F800000 0x7F7FFFFF 0x7F7FFFFF) ≡ done
 unfolding u32_at patterns_of all_from all_finite rising ascending amounts_fault load_fault value_of val
 zeros = refl
 
