@@ -14,6 +14,8 @@ use Rattle.refusals.proofs.Answers.{gives_injective, not_both}
 use Rattle.binary32.specs.Number.{signed_by, finite}
 use Rattle.binary32.specs.Order.{key_of, at_most}
 use Rattle.binary32.proofs.Orders.{key_order}
+use Rattle.sheets.specs.declared.amount.Kind.{Kind}
+use Rattle.sheets.specs.declared.amount.Kind.TheVariants.{Classes, Amounts}
 use Rattle.sheets.specs.declared.layout.Record.{Record}
 use Rattle.sheets.specs.Wear.{amount_in}
 use Rattle.sheets.specs.Amount.{below_zero, wear_fault, wear_amount, wear_refusal, cell_amount}
@@ -50,27 +52,33 @@ module _ (p : ℕ) where
 
 -- ---- the fault of a wear, and its amount
 
-module _ (kind wear : ℕ) where
-  pub wear_by : (s t u v : Bool) → eqb kind 0 ≡ s → ltb 255 wear ≡ t → ltb 7 wear ≡ u → below_zero wear ≡ v
-      → cond s (cond t 6 (cond u 10 0)) (cond v 14 0) ≡ wear_fault kind wear
+module _ (wear : ℕ) where
+  class_by : (t u : Bool) → ltb 255 wear ≡ t → ltb 7 wear ≡ u → cond t 6 (cond u 10 0) ≡ wear_fault Classes wear
   unfolding wear_fault
-  wear_by s t u v e f g h = rw (e, f, g, h)
+  class_by t u e f = rw (e, f)
 
-  pub class_tells : kind ≡ 0 → wear_fault kind wear ≡ 0 → wear ≤ 7
-  class_tells k e = go (ltb 255 wear) (ltb 7 wear) refl (wear_by true (ltb 255 wear) (ltb 7 wear) _ (eq-eqb kind 0 k) refl refl refl ∙ e)
+  class_fine : wear_fault Classes wear ≡ 0 → wear ≤ 7
+  class_fine e = go (ltb 255 wear) (ltb 7 wear) refl (class_by (ltb 255 wear) (ltb 7 wear) refl refl ∙ e)
     where
       go : (t u : Bool) → ltb 7 wear ≡ u → ◌≡◌ {A = ℕ} (cond t 6 (cond u 10 0)) 0 → wear ≤ 7
       go true u g h = absurd (omega arith)
       go false true g h = absurd (omega arith)
       go false false g h = ltb-false 7 wear g
 
-  pub amount_by : (amounts : List ℕ) (s : Bool) → eqb kind 0 ≡ s → cond s (amount_in amounts wear) wear ≡ wear_amount kind amounts wear
+  amount_fine : false ≡ below_zero wear → wear_fault Amounts wear ≡ 0
+  unfolding wear_fault
+  amount_fine e = rw (← e) refl
+
+  amount_same : (amounts : List ℕ) → wear ≡ wear_amount Amounts amounts wear
   unfolding wear_amount
-  amount_by amounts s e = rw e
+  amount_same amounts = refl
+
+pub class_tells : (kind : Kind) (wear : ℕ) → kind ≡ Classes → wear_fault kind wear ≡ 0 → wear ≤ 7
+class_tells kind wear k e = class_fine wear (ap (λ (x : Kind). wear_fault x wear) (sym k) ∙ e)
 
 -- ---- the amount of a record, or its refusal
 
-module _ (kind : ℕ) (amounts : List ℕ) (r : Record) where
+module _ (kind : Kind) (amounts : List ℕ) (r : Record) where
   pub amount_given : wear_fault kind r.wear ≡ 0 → gives (wear_amount kind amounts r.wear) ≡ cell_amount kind amounts r
   unfolding cell_amount
   amount_given e = rw (eq-eqb _ _ e)
@@ -97,7 +105,6 @@ module _ (kind : ℕ) (amounts : List ℕ) (r : Record) where
     amount_named h k = ap (λ t. refuses (cond t (of_matrix 6 0) (of_cell n 0 r.row r.column))) (sym (ne_eqb n 6 h)) ∙ refused k
 
 -- a record of the plain form: the amount zero in an amount sheet
-pub plain_amount : (amounts : List ℕ) (r : Record) → r.wear ≡ 0 → cell_amount 1 amounts r ≡ gives 0
+pub plain_amount : (amounts : List ℕ) (r : Record) → r.wear ≡ 0 → cell_amount Amounts amounts r ≡ gives 0
 plain_amount amounts r e =
-    sym (amount_given 1 amounts r (sym (wear_by 1 r.wear false _ _ false refl refl refl (sym (not_below r.wear (omega arith))))))
-    ∙ ap gives (sym (amount_by 1 r.wear amounts false refl) ∙ e)
+    sym (amount_given Amounts amounts r (amount_fine r.wear (not_below r.wear (omega arith)))) ∙ ap gives (sym (amount_same r.wear amounts) ∙ e)

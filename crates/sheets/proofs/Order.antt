@@ -19,6 +19,8 @@ use Rattle.binary32.specs.Number.{value_of, finite, finites}
 use Rattle.binary32.specs.Operations.{add, sub, answer_of, answer, sub_down, add_up}
 use Rattle.binary32.specs.Order.{at_most}
 use Rattle.intervals.specs.Conversion.{fault_of, outward_of}
+use Rattle.sheets.specs.declared.amount.Kind.{Kind}
+use Rattle.sheets.specs.declared.amount.Kind.TheVariants.{Classes, Amounts}
 use Rattle.sheets.specs.declared.layout.Record.{Record}
 use Rattle.sheets.specs.declared.chain.Cell.{Cell}
 use Rattle.sheets.specs.Amount.{below_zero, wear_fault, wear_amount, wear_refusal, cell_amount}
@@ -82,19 +84,22 @@ abbrev No8 : {A : Type 0} → Answer A → Type 0
 No8 (gives v) = Unit {0}
 No8 (refuses x) = x.number ≡ 8 → ⊥
 
-amount_no8 : (kind : ℕ) (amounts : List ℕ) (r : Record) → No8 (cell_amount kind amounts r)
+amount_no8 : (kind : Kind) (amounts : List ℕ) (r : Record) → No8 (cell_amount kind amounts r)
 unfolding wear_fault cell_amount
-amount_no8 kind amounts r = go (eqb kind 0) (ltb 255 r.wear) (ltb 7 r.wear) (below_zero r.wear)
+amount_no8 Classes amounts r = go (ltb 255 r.wear) (ltb 7 r.wear)
   where
-    go : (s t u v : Bool) → let n : ℕ = cond s (cond t 6 (cond u 10 0)) (cond v 14 0) in No8 (cond (eqb n 0) (gives (wear_amount kind amounts r.wear)) (refuses (wear_refusal n r)))
-    go true true u v = λ e. omega arith
-    go true false true v = λ e. omega arith
-    go true false false v = tt
-    go false t u true = λ e. omega arith
-    go false t u false = tt
+    go : (t u : Bool) → let n : ℕ = cond t 6 (cond u 10 0) in No8 (cond (eqb n 0) (gives (wear_amount Classes amounts r.wear)) (refuses (wear_refusal n r)))
+    go true u = λ e. omega arith
+    go false true = λ e. omega arith
+    go false false = tt
+amount_no8 Amounts amounts r = go (below_zero r.wear)
+  where
+    go : (t : Bool) → let n : ℕ = cond t 14 0 in No8 (cond (eqb n 0) (gives (wear_amount Amounts amounts r.wear)) (refuses (wear_refusal n r)))
+    go true = λ e. omega arith
+    go false = tt
 
 -- a record r after q, both in the matrix: 8 exactly where q does not come before r
-module _ (kind : ℕ) (amounts : List ℕ) (rows columns : ℕ) (q r : Record) (hq : q.column < columns) (hr : r.row < rows) (hc : r.column < columns) where
+module _ (kind : Kind) (amounts : List ℕ) (rows columns : ℕ) (q r : Record) (hq : q.column < columns) (hr : r.row < rows) (hc : r.column < columns) where
   abbrev rule : Record → Answer ℕ
   rule = cell_amount kind amounts
 

@@ -1,4 +1,4 @@
--- The reader from before, which knew class sheets alone: its rule for the head. Definitions only (01, "The coupling sheet"; 02, P6).
+-- The reader from before, which knew class sheets alone: its rule for the head. Definitions only.
 use Rattle.std.specs.Prelude.{Bool, false, cond, List, ℕ}
 use Rattle.refusals.specs.Refusal.{of_matrix}
 use Rattle.refusals.specs.Answer.{Answer, unless, then}

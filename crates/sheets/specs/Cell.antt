@@ -1,4 +1,4 @@
--- The two bounds of one cell. Definitions only (01, "The coupling sheet" and "When a call is turned down"; 02, P6).
+-- The two bounds of one cell. Definitions only.
 use Rattle.std.specs.Prelude.{Bool, false, cond, ℕ, eqb, Option, Some, None}
 use Rattle.refusals.specs.Answer.{Answer, gives, passing}
 use Rattle.binary32.specs.Number.{value_of, finite, pattern_of}

@@ -1,11 +1,12 @@
 -- The chain of a sheet, followed record by record with all checks, over a rule that gives the wear amount of a record or its refusal.
--- Definitions only (01, "The coupling sheet" and "When a call is turned down"; 02, P6).
+-- Definitions only.
 use Rattle.std.specs.Prelude.{cond, List, [], ◌∷◌, ℕ, zero, suc, ◌+◌, ◌*◌, leb, ltb, eqb}
 use Rattle.refusals.specs.Refusal.{placed}
 use Rattle.refusals.specs.Answer.{Answer, gives, refuses, done, refuse, and_then}
 use Rattle.sheets.specs.declared.layout.Record.{Record}
 use Rattle.sheets.specs.declared.chain.Cell.{Cell}
-use Rattle.sheets.specs.Layout.{record_of, first_of, rows_of, columns_of, count_of, kind_of}
+use Rattle.sheets.specs.Kind.{kind_of}
+use Rattle.sheets.specs.Layout.{record_of, first_of, rows_of, columns_of, count_of}
 use Rattle.sheets.specs.Amount.{cell_amount}
 use Rattle.sheets.specs.Cell.{widened_of}
 

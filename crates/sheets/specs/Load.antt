@@ -1,4 +1,4 @@
--- A mill's own wear amounts, which take the place of the fixed table for one read. Definitions only (02, P5).
+-- A mill's own wear amounts, which take the place of the fixed table for one read. Definitions only.
 use Rattle.std.specs.Prelude.{Bool, false, cond, List, [], ◌∷◌, ℕ, ◌+◌, eqb, length}
 use Rattle.refusals.specs.Answer.{Answer, gives, passing}
 use Rattle.binary32.specs.Number.{finite}

@@ -1,5 +1,5 @@
 -- The answer of a read, and the lent slices afterwards: one definition over eight wear amounts, with the fixed table for a plain read and with a
--- mill's own for one that names a load. Definitions only (01, "The coupling sheet" and "When a call is turned down"; 02, P5).
+-- mill's own for one that names a load. Definitions only.
 use Rattle.std.specs.Prelude.{List, [], ◌∷◌, ◌++◌, ℕ, ◌*◌, set, replicate, drop}
 use Rattle.refusals.specs.Refusal.{of_matrix}
 use Rattle.refusals.specs.Answer.{Answer, gives, unless, then, and_then, unless_refused}

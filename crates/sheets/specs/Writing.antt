@@ -1,4 +1,4 @@
--- The answer of a write, and the buffer afterwards. Definitions only (01, "The coupling sheet" and "When a call is turned down").
+-- The answer of a write, and the buffer afterwards. Definitions only.
 use Rattle.std.specs.Prelude.{cond, List, [], ◌++◌, ℕ, zero, suc, ◌+◌, ◌*◌, ◌/◌, ◌%◌, ltb, length, drop}
 use Rattle.refusals.specs.Refusal.{placed}
 use Rattle.refusals.specs.Answer.{Answer, gives, refuses, refuse, and_then, then}
