@@ -12,16 +12,18 @@ use Rattle.refusals.proofs.Answers.{then_tells, unless_tells}
 use Rattle.refusals.proofs.SizeLaws.{Fitting, fit_tells}
 use Rattle.intervals.specs.Slices.{cleared}
 use Rattle.intervals.proofs.Clearing.{cleared_front}
+use Rattle.sheets.specs.declared.amount.Kind.{Kind}
 use Rattle.sheets.specs.declared.Sizes.{Sizes}
 use Rattle.sheets.specs.declared.chain.Cell.{Cell}
-use Rattle.sheets.specs.Layout.{framed, rows_of, columns_of, first_of, kind_of}
+use Rattle.sheets.specs.Kind.{kind_of}
+use Rattle.sheets.specs.Layout.{framed, rows_of, columns_of, first_of}
 use Rattle.sheets.specs.Wear.{fixed_amounts}
 use Rattle.sheets.specs.Amount.{cell_amount}
 use Rattle.sheets.specs.Chain.{Walk, walk, chain_of}
 use Rattle.sheets.specs.Reading.{sizes, read_by, read_of, put_in, slice_by}
 use Rattle.sheets.proofs.Putting.{put_front}
 
-pub chain_is : (amounts s : List ℕ) (k r c i : ℕ) → k ≡ kind_of s → r ≡ rows_of s → c ≡ columns_of s → i ≡ first_of s
+pub chain_is : (amounts s : List ℕ) (k : Kind) (r c i : ℕ) → k ≡ kind_of s → r ≡ rows_of s → c ≡ columns_of s → i ≡ first_of s
     → walk (cell_amount k amounts) s r c (r * c + 1) i 0 ≡ chain_of amounts s
 unfolding chain_of
 chain_is amounts s k r c i d e f g = rw (d, e, f, g)
@@ -33,7 +35,7 @@ module _ (amounts : List ℕ) (s : List ℕ) (l u : ℕ) where
   read_fit r c z h p q e = rw (h, ← p, ← q, ← e)
 
   -- and by the answer w on the chain
-  pub read_followed : (k r c i : ℕ) (z w : Answer (Unit {0})) → framed s ≡ true → k ≡ kind_of s → r ≡ rows_of s → c ≡ columns_of s → z ≡ check_fit 0 r c l u
+  pub read_followed : (k : Kind) (r c i : ℕ) (z w : Answer (Unit {0})) → framed s ≡ true → k ≡ kind_of s → r ≡ rows_of s → c ≡ columns_of s → z ≡ check_fit 0 r c l u
       → i ≡ first_of s → w ≡ (walk (cell_amount k amounts) s r c (r * c + 1) i 0).verdict → then z (then w (gives (sizes r c))) ≡ read_by amounts s l u
   read_followed k r c i z w h o p q e n g =
       ap (λ (v : Answer (Unit {0})). then z (then v (gives (sizes r c)))) (g ∙ ap (λ (y : Walk). y.verdict) (chain_is amounts s k r c i o p q n)) ∙ read_fit r c z h p q e
@@ -61,14 +63,14 @@ pub done_tells : (s : List ℕ) (l u r c : ℕ) → read_of s l u ≡ gives (siz
 unfolding read_of
 done_tells s l u r c e = accepted_by fixed_amounts s l u r c e
 
-pub accepted_walk : (amounts s : List ℕ) (l u k r c i : ℕ) → Accepted amounts s l u r c → k ≡ kind_of s → i ≡ first_of s
+pub accepted_walk : (amounts s : List ℕ) (l u : ℕ) (k : Kind) (r c i : ℕ) → Accepted amounts s l u r c → k ≡ kind_of s → i ≡ first_of s
     → walk (cell_amount k amounts) s r c (r * c + 1) i 0 ≡ chain_of amounts s
 accepted_walk amounts s l u k r c i a m n = chain_is amounts s k r c i m (sym a.rows) (sym a.columns) n
 
 -- ---- what is left
 
 -- the slice d, cleared, then filled with the chain's cells
-pub slice_done : (amounts : List ℕ) (b : Cell → ℕ) (s d d₁ d₂ : List ℕ) (l u k r c i : ℕ) → Accepted amounts s l u r c → k ≡ kind_of s → i ≡ first_of s → r * c ≤ length d
+pub slice_done : (amounts : List ℕ) (b : Cell → ℕ) (s d d₁ d₂ : List ℕ) (l u : ℕ) (k : Kind) (r c i : ℕ) → Accepted amounts s l u r c → k ≡ kind_of s → i ≡ first_of s → r * c ≤ length d
     → d₁ ≡ cleared (r * c) d → d₂ ≡ put_in b d₁ (walk (cell_amount k amounts) s r c (r * c + 1) i 0).cells → d₂ ≡ slice_by amounts b s (gives (sizes r c)) d
 slice_done amounts b s d d₁ d₂ l u k r c i a m n h p q =
     q ∙ rw (a.rows, a.columns, ← accepted_walk amounts s l u k r c i a m n, p, cleared_front (r * c) d h)

@@ -3,37 +3,47 @@ use mathlib.Core.Path.{◌≡◌, refl, sym, ap, ◌∙◌}
 use mathlib.Core.Bool.{Bool, true, false, cond}
 use mathlib.Core.List.{List}
 use Prim.Native.Nat.{ℕ, ◌*◌, ◌≤◌}
+use native.Mathlib.Omega.{arith}
 use lib.Dec.{eqb}
+use lib.ListN.{get_or}
 use Rattle.refusals.specs.declared.reason.Reason.TheVariants.{WrongLayout}
 use Rattle.refusals.specs.Refusal.{of_matrix}
 use Rattle.refusals.specs.Answer.{Answer, refuse, unless, then}
+use Rattle.sheets.specs.declared.amount.Kind.{Kind}
+use Rattle.sheets.specs.declared.amount.Kind.TheVariants.{Classes, Amounts}
 use Rattle.sheets.specs.declared.Sizes.{Sizes}
 use Rattle.sheets.specs.AllFrom.{all_from}
-use Rattle.sheets.specs.Layout.{blank, kind_of, whole, framed}
+use Rattle.sheets.specs.Kind.{byte_of, kind_of}
+use Rattle.sheets.specs.Layout.{blank, whole, framed}
 use Rattle.sheets.specs.Sheet.{sheet_of}
 use Rattle.sheets.specs.Before.{framed_before, read_before}
 use Rattle.sheets.proofs.RecordBack.{kind_back}
 
 module _ (s : List ℕ) where
   -- byte 6, then the nine behind it
-  head_by : (k : ℕ) → kind_of s ≡ k → cond (whole s) (cond (eqb k 0) (blank s 7 9) false) false ≡ framed_before s
+  head_by : (t : Bool) → eqb (get_or s 6 0) 0 ≡ t → cond (whole s) (cond t (blank s 7 9) false) false ≡ framed_before s
   unfolding all_from blank framed_before
-  head_by k e = rw e
+  head_by t e = rw e
 
-  amount_head : kind_of s ≡ 1 → framed_before s ≡ false
-  amount_head e = sym (head_by 1 e) ∙ go (whole s)
+  amount_head : kind_of s ≡ Amounts → framed_before s ≡ false
+  amount_head e = sym (head_by false (other (eqb (get_or s 6 0) 0) e)) ∙ go (whole s)
     where
+      other : (t : Bool) → cond t Classes Amounts ≡ Amounts → t ≡ false
+      other true h = let z : ◌≡◌ {A = ℕ} 0 1 = cc in absurd (omega arith)
+      other false h = refl
+
       go : (t : Bool) → cond t false false ≡ false
       go true = refl
       go false = refl
 
-  pub before_refuses : kind_of s ≡ 1 → (next : Answer Sizes) → read_before s next ≡ refuse WrongLayout
+  pub before_refuses : kind_of s ≡ Amounts → (next : Answer Sizes) → read_before s next ≡ refuse WrongLayout
   unfolding read_before
   before_refuses e next = ap (λ t. then (unless t (of_matrix WrongLayout 0)) next) (amount_head e)
 
-  pub before_same : kind_of s ≡ 0 → framed_before s ≡ framed s
+  pub before_same : kind_of s ≡ Classes → framed_before s ≡ framed s
   unfolding framed
-  before_same e = sym (head_by 0 e) ∙ rw e
+  before_same e =
+      sym (head_by _ refl) ∙ ap (λ (k : Kind). cond (whole s) (cond (eqb (get_or s 6 0) (byte_of k)) (blank s 7 9) false) false) (sym e)
 
 -- what was written
 pub before_written : (rows columns : ℕ) (lo up : List ℕ) → rows * columns ≤ 1024 → (next : Answer Sizes) → read_before (sheet_of rows columns lo up) next ≡ refuse WrongLayout

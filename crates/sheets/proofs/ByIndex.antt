@@ -14,7 +14,8 @@ use Rattle.refusals.proofs.Answers.{both_tell}
 use Rattle.binary32.specs.Operations.{sub_down, add_up}
 use Rattle.sheets.specs.declared.layout.Record.{Record}
 use Rattle.sheets.specs.declared.chain.Cell.{Cell}
-use Rattle.sheets.specs.Layout.{record_of, count_of, rows_of, columns_of, first_of, kind_of}
+use Rattle.sheets.specs.Kind.{kind_of}
+use Rattle.sheets.specs.Layout.{record_of, count_of, rows_of, columns_of, first_of}
 use Rattle.sheets.specs.Amount.{cell_amount}
 use Rattle.sheets.specs.Chain.{judge_of, walk, chain_of}
 use Rattle.sheets.specs.Reading.{cell_lower, cell_upper, put_in, matrix_by}

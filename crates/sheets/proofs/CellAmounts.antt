@@ -16,6 +16,8 @@ use Rattle.refusals.proofs.Answers.{gives_injective, not_both, then_gives, then_
 use Rattle.binary32.specs.Number.{signed_by, finite}
 use Rattle.binary32.specs.Order.{key_of, at_most}
 use Rattle.binary32.proofs.Orders.{key_order}
+use Rattle.sheets.specs.declared.amount.Kind.{Kind}
+use Rattle.sheets.specs.declared.amount.Kind.TheVariants.{Classes, Amounts}
 use Rattle.sheets.specs.declared.layout.Record.{Record}
 use Rattle.sheets.specs.Wear.{amount_in}
 use Rattle.sheets.specs.Amount.{below_zero, check_wear, wear_amount, cell_amount}
@@ -52,22 +54,21 @@ module _ (p : ℕ) where
 
 -- ---- the check of a wear, and its amount
 
-module _ (kind : ℕ) (amounts : List ℕ) (r : Record) where
-  -- a class that passes is one of the eight
-  pub class_tells : kind ≡ 0 → check_wear kind r ≡ done → r.wear ≤ 7
-  unfolding check_wear
-  class_tells k e = go (ltb 255 r.wear) (rw (eq-eqb kind 0 k) at e)
-    where
-      go : (t : Bool) → ◌≡◌ {A = Answer (Unit {0})} (cond t (refuse WrongLayout) (unless (leb r.wear 7) (of_cell UnknownClass 0 r.row r.column))) done → r.wear ≤ 7
-      go true h = absurd (not_both h)
-      go false h = leb-true r.wear 7 (unless_tells _ _ h)
+class_fine : (r : Record) → check_wear Classes r ≡ done → r.wear ≤ 7
+unfolding check_wear
+class_fine r e = go (ltb 255 r.wear) e
+  where
+    go : (t : Bool) → ◌≡◌ {A = Answer (Unit {0})} (cond t (refuse WrongLayout) (unless (leb r.wear 7) (of_cell UnknownClass 0 r.row r.column))) done → r.wear ≤ 7
+    go true h = absurd (not_both h)
+    go false h = leb-true r.wear 7 (unless_tells _ _ h)
 
-  pub amount_by : (s : Bool) → eqb kind 0 ≡ s → cond s (amount_in amounts r.wear) r.wear ≡ wear_amount kind amounts r.wear
-  unfolding wear_amount
-  amount_by s e = rw e
+-- a class that passes is one of the eight
+pub class_tells : (kind : Kind) (r : Record) → kind ≡ Classes → check_wear kind r ≡ done → r.wear ≤ 7
+class_tells kind r k e = class_fine r (ap (λ (x : Kind). check_wear x r) (sym k) ∙ e)
 
-  -- ---- the amount of a record, or its refusal
+-- ---- the amount of a record, or its refusal
 
+module _ (kind : Kind) (amounts : List ℕ) (r : Record) where
   pub amount_given : check_wear kind r ≡ done → gives (wear_amount kind amounts r.wear) ≡ cell_amount kind amounts r
   unfolding cell_amount
   amount_given e = then_gives _ tt _ _ e refl
@@ -81,8 +82,8 @@ module _ (kind : ℕ) (amounts : List ℕ) (r : Record) where
   amount_tells w e = let t = then_tells (check_wear kind r) _ w e in (t.0.1, gives_injective t.1)
 
 -- a record of the plain form: the amount zero in an amount sheet
-pub plain_amount : (amounts : List ℕ) (r : Record) → r.wear ≡ 0 → cell_amount 1 amounts r ≡ gives 0
-unfolding check_wear
+pub plain_amount : (amounts : List ℕ) (r : Record) → r.wear ≡ 0 → cell_amount Amounts amounts r ≡ gives 0
+unfolding check_wear wear_amount
 plain_amount amounts r e =
-    sym (amount_given 1 amounts r (ap (λ (t : Bool). unless (not t) (of_cell NegativeAmount 0 r.row r.column)) (sym (not_below r.wear (omega arith)))))
-    ∙ ap gives (sym (amount_by 1 amounts r false refl) ∙ e)
+    sym (amount_given Amounts amounts r (ap (λ (t : Bool). unless (not t) (of_cell NegativeAmount 0 r.row r.column)) (sym (not_below r.wear (omega arith)))))
+    ∙ ap gives e

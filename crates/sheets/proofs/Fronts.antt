@@ -1,11 +1,10 @@
 -- Laws of a buffer that is written from the front, piece by piece. Assumes nothing.
 use mathlib.Core.Path.{◌≡◌, sym, ◌∙◌}
-use mathlib.Core.List.{List, ◌++◌, append_assoc}
+use mathlib.Core.List.{List, ◌++◌}
 use Prim.Native.Nat.{ℕ, ◌+◌, ◌≤◌}
 use native.Mathlib.Omega.{arith}
-use borrow.Rule.Slice.PartMut.{put_mid}
 use lib.ListN.{length, take, drop, length-append, length-drop, take-append-drop}
-use lib.Seq.{take_at, drop_at, drop-drop, length-take-le, take_all}
+use lib.Seq.{paste, take_at, drop_at, drop-drop, length-take-le, take_all}
 use Rattle.sheets.specs.Sheet.{over}
 
 -- `out` begins with the m bytes f, and goes on as `d` does
@@ -35,7 +34,7 @@ front_more m f d out b h w =
 pub front_is : (m : ℕ) (f d out : List ℕ) → Front m f d out → out ≡ f ++ drop m d
 front_is m f d out w = sym (take-append-drop m out) ∙ rw (w.front, w.rest)
 
--- the bytes b copied into the part of `out` that has their length
-pub put_part : (m k : ℕ) (b out : List ℕ) → k ≡ length b → put_mid m k out b ≡ over m b out
+-- the loop that puts sixteen bytes in, at its end
+pub put_ends : (d out b b' : List ℕ) (at j : ℕ) → out ≡ paste d at b j → j ≡ 16 → b ≡ b' → length b' ≡ 16 → out ≡ over at b' d
 unfolding over
-put_part m k b out e = rw (e, drop-drop (length b) m out) (sym (append_assoc (take m out) b (drop (m + length b) out)))
+put_ends d out b b' at j e f g h = e ∙ rw (f, g, h, take_all 16 b' (omega arith))

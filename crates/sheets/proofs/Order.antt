@@ -21,6 +21,8 @@ use Rattle.binary32.specs.Number.{value_of, finite, finites}
 use Rattle.binary32.specs.Operations.{add, sub, answer_of, answer, sub_down, add_up}
 use Rattle.binary32.specs.Order.{at_most}
 use Rattle.intervals.specs.Conversion.{fault_of, outward_of}
+use Rattle.sheets.specs.declared.amount.Kind.{Kind}
+use Rattle.sheets.specs.declared.amount.Kind.TheVariants.{Classes, Amounts}
 use Rattle.sheets.specs.declared.layout.Record.{Record}
 use Rattle.sheets.specs.declared.chain.Cell.{Cell}
 use Rattle.sheets.specs.Amount.{below_zero, check_wear, wear_amount, cell_amount}
@@ -83,20 +85,22 @@ abbrev NotBy8 : Answer ℕ → Type 0
 NotBy8 (gives v) = Unit {0}
 NotBy8 (refuses x) = number_of x.reason ≡ 8 → ⊥
 
-amount_no8 : (kind : ℕ) (amounts : List ℕ) (r : Record) → NotBy8 (cell_amount kind amounts r)
+amount_no8 : (kind : Kind) (amounts : List ℕ) (r : Record) → NotBy8 (cell_amount kind amounts r)
 unfolding check_wear cell_amount
-amount_no8 kind amounts r = go (eqb kind 0) (ltb 255 r.wear) (leb r.wear 7) (below_zero r.wear)
+amount_no8 Classes amounts r = go (ltb 255 r.wear) (leb r.wear 7)
   where
-    go : (s t u v : Bool)
-        → NotBy8 (then (cond s (cond t (refuse WrongLayout) (unless u (of_cell UnknownClass 0 r.row r.column))) (unless (not v) (of_cell NegativeAmount 0 r.row r.column))) (gives (wear_amount kind amounts r.wear)))
-    go true true u v = λ e. omega arith
-    go true false true v = tt
-    go true false false v = λ e. omega arith
-    go false t u true = λ e. omega arith
-    go false t u false = tt
+    go : (t u : Bool) → NotBy8 (then (cond t (refuse WrongLayout) (unless u (of_cell UnknownClass 0 r.row r.column))) (gives (wear_amount Classes amounts r.wear)))
+    go true u = λ e. omega arith
+    go false true = tt
+    go false false = λ e. omega arith
+amount_no8 Amounts amounts r = go (below_zero r.wear)
+  where
+    go : (t : Bool) → NotBy8 (then (unless (not t) (of_cell NegativeAmount 0 r.row r.column)) (gives (wear_amount Amounts amounts r.wear)))
+    go true = λ e. omega arith
+    go false = tt
 
 -- a record r after q, both in the matrix: 8 exactly where q does not come before r
-module _ (kind : ℕ) (amounts : List ℕ) (rows columns : ℕ) (q r : Record) (hq : q.column < columns) (hr : r.row < rows) (hc : r.column < columns) where
+module _ (kind : Kind) (amounts : List ℕ) (rows columns : ℕ) (q r : Record) (hq : q.column < columns) (hr : r.row < rows) (hc : r.column < columns) where
   abbrev rule : Record → Answer ℕ
   rule = cell_amount kind amounts
 

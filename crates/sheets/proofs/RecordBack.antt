@@ -5,15 +5,17 @@ use mathlib.Core.List.{List, [], ◌++◌, append_assoc, append-nil}
 use Prim.Native.Nat.{ℕ, zero, suc, ◌+◌, ◌-◌, ◌*◌, ◌/◌, ◌%◌, ◌≤◌, ◌<◌}
 use native.Mathlib.Nat.{add-zero, add-suc}
 use native.Mathlib.Omega.{arith}
-use lib.Dec.{ltb}
+use lib.Dec.{eqb, ltb}
 use lib.ListN.{length, get_or, length-append}
 use lib.Seq.{get_or-append-add}
 use borrow.Author.Tests.{eq-eqb, ltb-true}
 use Rattle.std.specs.Prelude.{Some}
 use Rattle.refusals.specs.Answer.{gives}
+use Rattle.sheets.specs.declared.amount.Kind.TheVariants.{Classes, Amounts}
 use Rattle.sheets.specs.declared.layout.Record.{Record}
 use Rattle.sheets.specs.AllFrom.{all_from}
-use Rattle.sheets.specs.Layout.{u16_at, u32_at, blank, record_of, count_of, first_of, rows_of, columns_of, kind_of}
+use Rattle.sheets.specs.Kind.{byte_of, kind_of}
+use Rattle.sheets.specs.Layout.{u16_at, u32_at, blank, record_of, count_of, first_of, rows_of, columns_of}
 use Rattle.sheets.specs.Cell.{HandedIn}
 use Rattle.sheets.specs.Sheet.{record_bytes, head_bytes, cell_at, count_to, next_of, cell_bytes, records_to, sheet_of}
 use Rattle.sheets.proofs.CellBytes.{record_length}
@@ -124,9 +126,15 @@ module _ (rows columns : ℕ) (lo up : List ℕ) (few : rows * columns ≤ 1024)
   unfolding sheet_of record_bytes u16_at
   count_back = let t : count_to lo up (rows * columns) ≤ rows * columns = count_le lo up (rows * columns) in omega arith
 
-  pub kind_back : kind_of (sheet_of rows columns lo up) ≡ 1
+  byte_back : get_or (sheet_of rows columns lo up) 6 0 ≡ byte_of Amounts
   unfolding sheet_of record_bytes
-  kind_back = let t : count_to lo up (rows * columns) ≤ rows * columns = count_le lo up (rows * columns) in omega arith
+  byte_back = let t : count_to lo up (rows * columns) ≤ rows * columns = count_le lo up (rows * columns) in omega arith
+
+  pub kind_back : kind_of (sheet_of rows columns lo up) ≡ Amounts
+  kind_back = ap (λ (n : ℕ). cond (eqb n (byte_of Classes)) Classes Amounts) byte_back
+
+  pub kind_told : eqb (get_or (sheet_of rows columns lo up) 6 0) (byte_of (kind_of (sheet_of rows columns lo up))) ≡ true
+  kind_told = ap (λ (n : ℕ). eqb n (byte_of (cond (eqb n (byte_of Classes)) Classes Amounts))) byte_back
 
   pub first_back : first_of (sheet_of rows columns lo up) ≡ next_of (count_to lo up (rows * columns)) 0
   unfolding sheet_of record_bytes u16_at

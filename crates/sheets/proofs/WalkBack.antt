@@ -12,6 +12,7 @@ use Rattle.std.specs.Prelude.{Some, None}
 use Rattle.refusals.specs.Answer.{Answer, gives, done, then, refuses}
 use Rattle.refusals.specs.Sizes.{check_size, check_lengths, check_fit}
 use Rattle.refusals.proofs.SizeLaws.{Fitting}
+use Rattle.sheets.specs.declared.amount.Kind.TheVariants.{Amounts}
 use Rattle.sheets.specs.declared.layout.Record.{Record}
 use Rattle.sheets.specs.declared.chain.Cell.{Cell}
 use Rattle.sheets.specs.Layout.{framed, count_of}
@@ -29,7 +30,7 @@ use Rattle.sheets.proofs.CellBytes.{next_more, next_end}
 use Rattle.sheets.proofs.Counting.{count_room, count_le}
 use Rattle.sheets.proofs.Outs.{sheet_length}
 use Rattle.sheets.proofs.CellBack.{cell_back}
-use Rattle.sheets.proofs.RecordBack.{fields_of, head_blank, record_at_position, count_back, kind_back, first_back, rows_back, columns_back}
+use Rattle.sheets.proofs.RecordBack.{fields_of, head_blank, record_at_position, count_back, kind_back, kind_told, first_back, rows_back, columns_back}
 
 -- the y cells from position p on that are not [0, 0]
 abbrev pub cons_by : ℕ → ℕ → HandedIn → List Cell → List Cell
@@ -50,7 +51,7 @@ count_at lo up p b e = rw (add-one p, e)
 
 module _ (amounts : List ℕ) (rows columns : ℕ) (lo up : List ℕ) (z : Fitting rows columns (length lo) (length up)) (few : rows * columns ≤ 1024) where
   abbrev rule : Record → Answer ℕ
-  rule = cell_amount 1 amounts
+  rule = cell_amount Amounts amounts
 
   -- one cell of the walk, by what the writer made of it; ih: the walk from the next position on
   walk_step : (y p l t : ℕ) (b : HandedIn) → cell_at lo up p ≡ b → p < rows * columns → l ≤ p → rows * columns < t + l
@@ -100,8 +101,8 @@ module _ (amounts : List ℕ) (rows columns : ℕ) (lo up : List ℕ) (z : Fitti
       let t : count_to lo up (rows * columns) ≤ rows * columns = count_le lo up (rows * columns) in
       let n : length s ≡ 16 * (count_to lo up (rows * columns) + 1) = sheet_length rows columns lo up in
       let c : count_of s ≡ count_to lo up (rows * columns) + 1 = count_back rows columns lo up few in
-      sym (framed_by s true true true true true true (count_of s) 1 (eq-eqb (length s % 16) 0 (omega arith)) (le-leb 16 (length s) (omega arith)) (le-leb (length s) 16400 (omega arith)) refl
-      (eq-eqb (16 * count_of s) (length s) (omega arith)) (sym (kind_back rows columns lo up few)) refl (sym (head_blank rows columns lo up (omega arith))))
+      sym (framed_by s true true true true true true (count_of s) (eq-eqb (length s % 16) 0 (omega arith)) (le-leb 16 (length s) (omega arith)) (le-leb (length s) 16400 (omega arith)) refl
+      (eq-eqb (16 * count_of s) (length s) (omega arith)) (kind_told rows columns lo up few) (sym (head_blank rows columns lo up (omega arith))))
 
   -- the whole chain
   pub chain_back : chain_of amounts (sheet_of rows columns lo up) ≡ passed (cells_from (count_to lo up (rows * columns)) lo up (rows * columns) 0)

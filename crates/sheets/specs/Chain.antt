@@ -6,7 +6,8 @@ use Rattle.refusals.specs.Refusal.{of_cell}
 use Rattle.refusals.specs.Answer.{Answer, Judged, gives, refuses, done, refuse, and_then}
 use Rattle.sheets.specs.declared.layout.Record.{Record}
 use Rattle.sheets.specs.declared.chain.Cell.{Cell}
-use Rattle.sheets.specs.Layout.{record_of, first_of, rows_of, columns_of, count_of, kind_of}
+use Rattle.sheets.specs.Kind.{kind_of}
+use Rattle.sheets.specs.Layout.{record_of, first_of, rows_of, columns_of, count_of}
 use Rattle.sheets.specs.Amount.{cell_amount}
 use Rattle.sheets.specs.Cell.{widened_of}
 

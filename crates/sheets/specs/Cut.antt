@@ -1,4 +1,4 @@
--- Sheets back to back: where the first one ends. Definitions only (01, "The printed product"; 02, P1).
+-- Sheets back to back: where the first one ends. Definitions only.
 use Rattle.std.specs.Prelude.{cond, List, ℕ, ◌*◌, min, ltb, length}
 use Rattle.sheets.specs.Layout.{count_of}
 

@@ -1,7 +1,8 @@
--- A coupling sheet as a list of bytes. Definitions only (01, "The coupling sheet"; 02, P6).
+-- A coupling sheet as a list of bytes. Definitions only.
 use Rattle.std.specs.Prelude.{Bool, false, cond, List, ℕ, ◌+◌, ◌*◌, ◌%◌, leb, eqb, length, get_or}
 use Rattle.sheets.specs.declared.layout.Record.{Record}
 use Rattle.sheets.specs.AllFrom.{all_from}
+use Rattle.sheets.specs.Kind.{byte_of, kind_of}
 
 -- the little-endian numbers of two and of four bytes at byte p
 unfoldable pub u16_at : List ℕ → ℕ → ℕ
@@ -25,7 +26,7 @@ record_of s i = record {
   wear = u32_at s (16 * i + 12);
 }
 
--- the head: index of the first cell, rows, columns, number of records, kind
+-- the head: index of the first cell, rows, columns, number of records; its kind is in Kind
 abbrev pub first_of : List ℕ → ℕ
 first_of s = u16_at s 0
 
@@ -38,14 +39,10 @@ columns_of s = get_or s 3 0
 abbrev pub count_of : List ℕ → ℕ
 count_of s = u16_at s 4
 
--- 0 for a class sheet, whose cells hold a wear class; 1 for an amount sheet, whose cells hold the amount itself
-abbrev pub kind_of : List ℕ → ℕ
-kind_of s = get_or s 6 0
-
 -- whether the length is a multiple of 16 from 16 to 16,400 and fits the record count
 unfoldable pub whole : List ℕ → Bool
 whole s = cond (eqb (length s % 16) 0) (cond (leb 16 (length s)) (cond (leb (length s) 16400) (eqb (16 * count_of s) (length s)) false) false) false
 
--- whether length and head pass refusal 6: the sheet is whole, of one of the two kinds, and the rest of the head is zero
+-- whether length and head pass refusal 6: the sheet is whole, byte 6 is that of a kind, and the rest of the head is zero
 unfoldable pub framed : List ℕ → Bool
-framed s = cond (whole s) (cond (leb (kind_of s) 1) (blank s 7 9) false) false
+framed s = cond (whole s) (cond (eqb (get_or s 6 0) (byte_of (kind_of s))) (blank s 7 9) false) false

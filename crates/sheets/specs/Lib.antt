@@ -1,4 +1,5 @@
 pub mod AllFrom
+pub mod Kind
 pub mod Layout
 pub mod Wear
 pub mod Amount

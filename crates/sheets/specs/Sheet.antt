@@ -1,6 +1,8 @@
--- The bytes of the sheet that is written for a matrix. Definitions only (01, "The coupling sheet"; 02, P6).
+-- The bytes of the sheet that is written for a matrix. Definitions only.
 use Rattle.std.specs.Prelude.{cond, List, [], ◌∷◌, ◌++◌, ℕ, zero, suc, ◌+◌, ◌*◌, ◌/◌, ◌%◌, ltb, length, get_or, take, drop, Some, None}
 use Rattle.refusals.specs.Answer.{gives, refuses}
+use Rattle.sheets.specs.declared.amount.Kind.TheVariants.{Amounts}
+use Rattle.sheets.specs.Kind.{byte_of}
 use Rattle.sheets.specs.Cell.{HandedIn, handed_of}
 
 -- ---- bytes
@@ -13,9 +15,9 @@ record_bytes n r c l u =
     ∷ u % 256 ∷ u / 256 % 256 ∷ u / 65536 % 256 ∷ u / 16777216 % 256
     ∷ 0 ∷ 0 ∷ 0 ∷ 0 ∷ []
 
--- the head, in the same form: index of the first cell, rows, columns, number of records in bytes 4 and 5, the kind 1 in byte 6, then zeros
+-- the head, in the same form: index of the first cell, rows, columns, number of records in bytes 4 and 5, the byte of its kind in byte 6, then zeros
 abbrev pub head_bytes : ℕ → ℕ → ℕ → ℕ → List ℕ
-head_bytes first rows columns count = record_bytes first rows columns (count + 65536 * 1) 0
+head_bytes first rows columns count = record_bytes first rows columns (count + 65536 * byte_of Amounts) 0
 
 -- `out` with `bytes` written from index m on
 unfoldable pub over : ℕ → List ℕ → List ℕ → List ℕ

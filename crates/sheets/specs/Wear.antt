@@ -1,4 +1,4 @@
--- The amount of each wear class, by which the bounds of a cell are moved outward. Definitions only (01, "The coupling sheet").
+-- The amount of each wear class, by which the bounds of a cell are moved outward. Definitions only.
 use Rattle.std.specs.Prelude.{cond, List, [], ◌∷◌, ℕ, ◌+◌, ◌^◌, eqb, pos, get_or}
 use Rattle.binary32.specs.Number.{pattern_of}
 

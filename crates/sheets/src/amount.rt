@@ -1,6 +1,7 @@
-// The wear amount of one cell, by the kind of its sheet: 0 for a class sheet, 1 for an amount sheet.
+// The wear amount of one cell, by the kind of its sheet.
 ghost use Rattle.std.specs.Prelude.{◌≡◌, ◌<◌};
 ghost use Rattle.refusals.specs.Answer.{done};
+ghost use Rattle.sheets.specs.Kind.{byte_of};
 ghost use Rattle.sheets.specs.Amount.{below_zero, check_wear, wear_amount};
 
 use binary32::Binary32;
@@ -8,6 +9,25 @@ use binary32::finite::is_finite;
 use crate::layout::Record;
 use refusals::Refusal;
 use refusals::reason::Reason;
+
+// The kind of a sheet: what the last four bytes of a cell hold, a wear class or the wear amount itself.
+#[derive(Clone, Copy, Debug, PartialEq, Eq)]
+pub enum Kind {
+    Classes,
+    Amounts,
+}
+
+impl Kind {
+    // Its byte in the head of a sheet.
+    pub fn byte(self) -> u8
+        ensures { result ≡ byte_of self }
+    {
+        match self {
+            Kind::Classes => 0,
+            Kind::Amounts => 1,
+        }
+    }
+}
 
 // Whether p is a number below zero.
 #[tactic(auto, using(crate::proofs::CellAmounts::not_below, crate::proofs::CellAmounts::below))]
@@ -23,36 +43,39 @@ fn is_below_zero(p: u32) -> bool
 // The check of a record's wear. In a class sheet: 6, one of bytes 13 to 15 is not zero; 10, the class is above 7. In an amount sheet: 14, the amount is
 // below zero.
 #[tactic(auto, unfolding(crate::specs::Amount::check_wear))]
-pub fn check_wear(kind: usize, r: Record) -> Result<(), Refusal>
+pub fn check_wear(kind: Kind, r: Record) -> Result<(), Refusal>
     requires { (r.row < 256) × (r.column < 256) }
     ensures { result ≡ check_wear kind r }
 {
     let row = r.row as u8;
     let column = r.column as u8;
-    if kind != 0 {
-        if is_below_zero(r.wear) {
-            return Err(Refusal::of_cell(Reason::NegativeAmount, 0, row, column));
+    match kind {
+        Kind::Classes => {
+            if r.wear <= 7 {
+                return Ok(());
+            }
+            if r.wear > 255 {
+                return Err(Refusal::of_matrix(Reason::WrongLayout, 0));
+            }
+            Err(Refusal::of_cell(Reason::UnknownClass, 0, row, column))
         }
-        return Ok(());
+        Kind::Amounts => {
+            if is_below_zero(r.wear) {
+                return Err(Refusal::of_cell(Reason::NegativeAmount, 0, row, column));
+            }
+            Ok(())
+        }
     }
-    if r.wear <= 7 {
-        return Ok(());
-    }
-    if r.wear > 255 {
-        return Err(Refusal::of_matrix(Reason::WrongLayout, 0));
-    }
-    Err(Refusal::of_cell(Reason::UnknownClass, 0, row, column))
 }
 
 // The amount of a record whose wear passes: that of its class, or itself.
 #[tactic(auto, using(crate::proofs::CellAmounts::class_tells), unfolding(crate::specs::Amount::wear_amount))]
-pub fn wear_amount(kind: usize, amounts: &[u32; 8], r: Record) -> u32
+pub fn wear_amount(kind: Kind, amounts: &[u32; 8], r: Record) -> u32
     requires { check_wear kind r ≡ done }
     ensures { result ≡ wear_amount kind amounts.now r.wear }
 {
-    if kind != 0 {
-        return r.wear;
+    match kind {
+        Kind::Classes => amounts[r.wear as usize],
+        Kind::Amounts => r.wear,
     }
-    let class = r.wear as usize;
-    amounts[class]
 }

@@ -6,7 +6,7 @@ ghost use Rattle.sheets.specs.Layout.{count_of};
 ghost use Rattle.sheets.specs.Amount.{cell_amount};
 ghost use Rattle.sheets.specs.Chain.{judge_of, walk_all};
 
-use crate::amount::{check_wear, wear_amount};
+use crate::amount::{Kind, check_wear, wear_amount};
 use crate::layout::{Record, record_at};
 use crate::worn::check_worn;
 use refusals::Refusal;
@@ -23,7 +23,7 @@ pub struct Cell {
 
 // Checks one record of the chain. Its position must be `least` or more, one past that of the cell before it.
 fn judge(
-    kind: usize,
+    kind: Kind,
     amounts: &[u32; 8],
     rows: usize,
     columns: usize,
@@ -53,7 +53,7 @@ fn judge(
 
 // Checks the whole chain, whose first record has the index `first`. Index 0 ends the chain.
 pub fn follow(
-    kind: usize,
+    kind: Kind,
     amounts: &[u32; 8],
     s: &[u8],
     rows: usize,
@@ -65,6 +65,7 @@ pub fn follow(
 {
     let mut index = first;
     let mut least = 0;
+    // A chain: no sequence to go over.
     while index != 0 {
         if index >= s.len() / 16 {
             return Err(Refusal::of_matrix(Reason::Outside, 0));

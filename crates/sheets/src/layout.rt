@@ -1,6 +1,9 @@
 // The layout of a coupling sheet: records of 16 bytes, of which record 0 is the head, with little-endian numbers.
 ghost use Rattle.std.specs.Prelude.{◌≡◌, ◌+◌, ◌*◌, ◌≤◌, ◌<◌, length, get_or};
+ghost use Rattle.sheets.specs.Kind.{kind_of};
 ghost use Rattle.sheets.specs.Layout.{u16_at, u32_at, blank, record_of, framed};
+
+use crate::amount::Kind;
 
 // A record read as a cell. `wear`, its last four bytes, is a wear class or a wear amount, by the kind of the sheet.
 #[derive(Clone, Copy)]
@@ -65,12 +68,23 @@ pub fn record_at(s: &[u8], i: usize) -> Record
     }
 }
 
+// The kind of a sheet, by byte 6 of its head.
+pub fn kind(s: &[u8]) -> Kind
+    requires { 6 < length s.now }
+    ensures { result ≡ kind_of s.now }
+{
+    match s[6] {
+        0 => Kind::Classes,
+        _ => Kind::Amounts,
+    }
+}
+
 // Whether length and head pass the check for refusal 6.
 #[tactic(auto, unfolding(crate::specs::Layout::framed, crate::specs::Layout::whole))]
 pub fn is_framed(s: &[u8]) -> bool
     ensures { result ≡ framed s.now }
 {
     let n = s.len();
-    n % 16 == 0 && n >= 16 && n <= 16400 && 16 * u16_at(s, 4) == n && byte(s, 6) <= 1
+    n % 16 == 0 && n >= 16 && n <= 16400 && 16 * u16_at(s, 4) == n && s[6] == kind(s).byte()
         && is_blank(s, 7, 9)
 }

@@ -93,15 +93,7 @@ pub fn put(
 {
     let n = check_write(rows, columns, lowers, uppers, out.len())?;
     let total = n / 16 - 1;
-    records::put_record(
-        out,
-        0,
-        records::next_of(total, 0),
-        rows,
-        columns,
-        (total + 1) as u32 + records::KIND,
-        0,
-    );
+    records::put_head(out, records::next_of(total, 0), rows, columns, total + 1);
     records::put_cells(out, columns, rows * columns, total, lowers, uppers);
     Ok(n)
 }

@@ -7,7 +7,7 @@ ghost use Rattle.sheets.specs.Cell.{worn_fault};
 ghost use Rattle.sheets.specs.Chain.{worn_cell, walk_all};
 ghost use Rattle.sheets.specs.Reading.{put_in, cell_lower, cell_upper};
 
-use crate::amount::wear_amount;
+use crate::amount::{Kind, wear_amount};
 use crate::cell::widen;
 use crate::chain::Cell;
 use crate::layout::{Record, record_at};
@@ -15,7 +15,7 @@ use refusals::Refusal;
 
 // The cell of a record that passed all checks, widened by its amount.
 #[tactic(auto, using(crate::proofs::Bounding::worn_tells), unfolding(crate::specs::Cell::widened_of))]
-fn passed(kind: usize, amounts: &[u32; 8], columns: usize, r: Record) -> Result<Cell, Refusal>
+fn passed(kind: Kind, amounts: &[u32; 8], columns: usize, r: Record) -> Result<Cell, Refusal>
     requires { (columns ≤ 32) × (r.row < 32) × (r.column < 32) × (check_wear kind r ≡ done)
         × (worn_fault r.lower r.upper (wear_amount kind amounts.now r.wear) ≡ done) }
     ensures { result ≡ worn_cell columns r (wear_amount kind amounts.now r.wear) }
@@ -37,7 +37,7 @@ fn passed(kind: usize, amounts: &[u32; 8], columns: usize, r: Record) -> Result<
 
 // Puts the cells of the chain at their positions. The loop ends because positions rise; `least` serves only that proof.
 pub fn fill(
-    kind: usize,
+    kind: Kind,
     amounts: &[u32; 8],
     s: &[u8],
     rows: usize,
@@ -56,6 +56,7 @@ pub fn fill(
 {
     let mut index = first;
     let mut least = 0;
+    // A chain: no sequence to go over.
     while index != 0 {
         match passed(kind, amounts, columns, record_at(s, index)) {
             Ok(c) => {

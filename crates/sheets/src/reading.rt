@@ -20,7 +20,7 @@ fn check(amounts: &[u32; 8], s: &[u8], lowers: usize, uppers: usize) -> Result<S
     }
     let rows = layout::byte(s, 2);
     let columns = layout::byte(s, 3);
-    let kind = layout::byte(s, 6);
+    let kind = layout::kind(s);
     check_fit(0, rows, columns, lowers, uppers)?;
     follow(kind, amounts, s, rows, columns, layout::u16_at(s, 0))?;
     Ok(Sizes { rows, columns })
@@ -43,7 +43,7 @@ pub fn read(
     clear(rows * columns, lowers);
     clear(rows * columns, uppers);
     fill(
-        layout::byte(s, 6),
+        layout::kind(s),
         amounts,
         s,
         rows,

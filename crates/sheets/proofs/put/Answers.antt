@@ -13,16 +13,10 @@ overflow_sub-total c = omega (arith, (bytes_tell _ _ _ _ _ _ (sym c.check_write.
 pub overflow_add-total : goal.overflow_add-total
 overflow_add-total c = let g = bytes_tell _ _ _ _ _ _ (sym c.check_write.ensures ∙ c.in_ok-n.was) in omega (arith, g.bytes, g.few, g.counted)
 
-pub overflow_cast-total : goal.overflow_cast-total
-overflow_cast-total c = let g = bytes_tell _ _ _ _ _ _ (sym c.check_write.ensures ∙ c.in_ok-n.was) in omega (arith, g.bytes, g.few, g.counted)
-
-pub overflow_add-total-2 : goal.overflow_add-total-2
-overflow_add-total-2 c = let g = bytes_tell _ _ _ _ _ _ (sym c.check_write.ensures ∙ c.in_ok-n.was) in omega (arith, g.bytes, g.few, g.counted)
-
-pub put_record-requires : goal.put_record-requires
-put_record-requires c =
+pub put_head-requires : goal.put_head-requires
+put_head-requires c =
     let g = bytes_tell _ _ _ _ _ _ (sym c.check_write.ensures ∙ c.in_ok-n.was) in
-    (omega (arith, g.bytes, g.roomy), omega (arith, g.sized.rows), omega (arith, g.sized.columns))
+    (omega (arith, g.bytes, g.roomy), omega (arith, g.sized.rows), omega (arith, g.sized.columns), omega (arith, g.bytes, g.few, g.counted))
 
 pub overflow_mul-rows : goal.overflow_mul-rows
 overflow_mul-rows c = omega (arith, (bytes_tell _ _ _ _ _ _ (sym c.check_write.ensures ∙ c.in_ok-n.was)).few)
@@ -37,5 +31,5 @@ put_cells-requires c =
 pub returns : goal.returns
 returns c =
     let g = bytes_tell _ _ _ _ _ _ (sym c.check_write.ensures ∙ c.in_ok-n.was) in
-    let d = put_done _ _ _ _ _ _ g _ _ _ _ refl c.next_of.ensures c.put_record.ensures c.put_cells.ensures in
+    let d = put_done _ _ _ _ _ _ g _ _ _ _ refl c.next_of.ensures c.put_head.ensures c.put_cells.ensures in
     record { answer = sym c.in_ok-n.was ∙ c.check_write.ensures; left = d; trip = trip_done _ _ _ _ _ _ _ g d }

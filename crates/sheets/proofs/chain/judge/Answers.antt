@@ -9,6 +9,7 @@ use borrow.Author.Rules.{rules}
 use borrow.Author.Tests.{le-leb, lt-leb, lt-ltb}
 use Rattle.refusals.specs.Answer.{Answer, Judged, gives, refuses, done, at_cell, and_then, then}
 use Rattle.refusals.proofs.SizeLaws.{small}
+use Rattle.sheets.specs.declared.amount.Kind.{Kind}
 use Rattle.sheets.specs.declared.layout.Record.{Record}
 use Rattle.sheets.specs.declared.chain.Cell.{Cell}
 use Rattle.sheets.specs.Amount.{cell_amount}
@@ -47,7 +48,7 @@ returns-then-position-least c =
     ap refuses c.of_matrix-then-position-least.ensures
     ∙ ap verdict (judge_by _ _ _ _ _ false false true (lt-leb _ _ c.if-row-rows.false) (lt-leb _ _ c.if-column-columns.false) (lt-ltb _ _ c.if-position-least.true))
 
-module _ (kind : ℕ) (amounts : List ℕ) (rows columns least : ℕ) (r : Record) (h : r.row < rows) (k : r.column < columns) (l : least ≤ position_of columns r) where
+module _ (kind : Kind) (amounts : List ℕ) (rows columns least : ℕ) (r : Record) (h : r.row < rows) (k : r.column < columns) (l : least ≤ position_of columns r) where
   -- 7 and 8 have passed: by the amount x
   amounted : (x : Answer ℕ) → x ≡ cell_amount kind amounts r → verdict (and_then x (worn_cell columns r)) ≡ verdict (judge_of (cell_amount kind amounts) rows columns least r)
   amounted x e = ap (λ v. verdict (and_then v (worn_cell columns r))) e ∙ ap verdict (judge_ruled _ _ _ _ _ h k l)

@@ -10,5 +10,5 @@ use Rattle.sheets.proofs.load.rise.Goals as goal
 
 pub returns : goal.returns
 returns c =
-    let a = c.args.amounts.now in
-    all_from_yields_List (λ i. at_most (amount_in a i) (amount_in a (i + 1))) _ _ _ c.all.ensures.ran (YieldsList-from_range 0 7 7 refl refl) (λ x b q k. search (rules, tests)) ∙ rising_ranged a
+    all_from_yields_List (λ i. at_most (amount_in c.args.amounts.now i) (amount_in c.args.amounts.now (i + 1))) _ _ _ c.all.ensures.ran (YieldsList-from_range 0 7 7 refl refl) (λ x b q k. search (rules, tests))
+    ∙ rising_ranged c.args.amounts.now

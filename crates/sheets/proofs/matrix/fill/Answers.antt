@@ -5,6 +5,7 @@ use native.Mathlib.Omega.{arith}
 use lib.ListN.{length-set}
 use Rattle.refusals.specs.Answer.{Answer, gives, refuses, done}
 use Rattle.refusals.proofs.SizeLaws.{small}
+use Rattle.sheets.specs.declared.amount.Kind.{Kind}
 use Rattle.sheets.specs.declared.layout.Record.{Record}
 use Rattle.sheets.specs.declared.chain.Cell.{Cell}
 use Rattle.sheets.specs.Layout.{record_of}
@@ -21,7 +22,7 @@ pub loop-index-init : goal.loop-index-init
 loop-index-init c =
     (c.args.rows * c.args.columns + 1, omega arith, omega arith, refl, refl, c.requires.5, refl, refl)
 
-module _ (kind : ℕ) (amounts s : List ℕ) (rows columns t index least : ℕ) (b : (rows * columns < t + least) × (least ≤ rows * columns)) (n : index ≡ 0 → ⊥)
+module _ (kind : Kind) (amounts s : List ℕ) (rows columns t index least : ℕ) (b : (rows * columns < t + least) × (least ≤ rows * columns)) (n : index ≡ 0 → ⊥)
     (v : (walk (cell_amount kind amounts) s rows columns t index least).verdict ≡ done) where
   -- the record at the index passes
   passing : Passing (cell_amount kind amounts) s rows columns index least
