@@ -9,7 +9,7 @@ use borrow.Author.Tests.{le-leb, lt-leb}
 use Rattle.refusals.specs.declared.reason.Reason.TheVariants.{ShortSlice}
 use Rattle.refusals.specs.Refusal.{of_matrix, code_of}
 use Rattle.refusals.specs.Answer.{Answer, gives, refuses, refuse, coded}
-use Rattle.refusals.proofs.Answers.{gives_injective, next_tells, passing_tells}
+use Rattle.refusals.proofs.Answers.{gives_injective, next_tells, then_tells, placed_tells}
 use Rattle.sheets.specs.Wear.{fixed_amounts}
 use Rattle.sheets.specs.Load.{patterns_of, load_fault, load_of}
 use Rattle.running.specs.declared.cell.Gauged.{Gauged}
@@ -98,7 +98,7 @@ pub take_goes_on : (d : List ℕ) (a b : Gauged) → GoesOn (λ h. take h a b) d
 unfolding take_in carried take_of
 take_goes_on d a b =
     goes_on (λ h. take h a b) d (take_of (value_in d) a b)
-    (λ v e. subst (λ (w : Running). length w.amounts ≡ 8) (gives_injective (next_tells (sums_of (value_in d) a b) _ v e).2) refl)
+    (λ v e. subst (λ (w : Running). length w.amounts ≡ 8) (gives_injective (next_tells (sums_of (value_in d) a b) _ v (placed_tells _ _ _ _ v e)).2) refl)
     (λ h e. ap (λ w. or_same (take_of w a b) w) (sym e))
 
 -- the amounts of a load
@@ -107,7 +107,7 @@ unfolding amounts_in carried exchange_of load_of patterns_of
 amounts_go_on d load =
     goes_on (λ h. exchange h load) d (exchange_of (value_in d) load)
     (λ v e.
-    let t = next_tells (load_of load) _ v e in
-    let l = gives_injective (passing_tells (load_fault load) (gives (patterns_of load)) t.0 t.1).1 in
+    let t = next_tells (load_of load) _ v (placed_tells _ _ _ _ v e) in
+    let l = gives_injective (then_tells (load_fault load) (gives (patterns_of load)) t.0 t.1).1 in
     subst (λ (w : Running). length w.amounts ≡ 8) (gives_injective t.2) (subst (λ (l : List ℕ). length l ≡ 8) l refl))
     (λ h e. ap (λ w. or_same (exchange_of w load) w) (sym e))

@@ -7,15 +7,15 @@ ghost use Rattle.coupling.specs.Operations.{pattern_for};
 
 use binary32::Binary32;
 use binary32::direction::{Down, Near, Up};
-use refusals::Refusal;
+use refusals::reason::Reason;
 
-// The pattern of the result, or the refusal's number added to the pattern of infinity: no result has exponent field 255.
-fn pattern_for(answer: Result<u32, Refusal>) -> u32
+// The pattern of the result, or the number of the reason added to the pattern of infinity: no result has exponent field 255.
+fn pattern_for(answer: Result<u32, Reason>) -> u32
     ensures { result ≡ pattern_for answer }
 {
     match answer {
         Ok(p) => p,
-        Err(r) => Binary32::INFINITY + r.number as u32,
+        Err(reason) => Binary32::INFINITY + u32::from(reason.number()),
     }
 }
 

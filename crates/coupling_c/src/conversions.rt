@@ -1,14 +1,14 @@
 // The two conversions of an interval, for callers in C. Each takes two patterns, writes two and returns 0; or it refuses, returns
 // 1,000,000 × number of the refusal and writes nothing.
 ghost use Rattle.std.specs.Prelude.{◌≡◌};
-ghost use Rattle.refusals.specs.Answer.{coded};
+ghost use Rattle.refusals.specs.Answer.{coded, unplaced};
 ghost use Rattle.intervals.specs.Conversion.{midrad_of, bounds_of};
 ghost use Rattle.coupling.specs.Conversions.{first_after, second_after, OptimalWords};
 
 // Bounds to midpoint and radius. No pair of binary32 numbers that encloses the range has a smaller radius.
 #[unsafe(no_mangle)]
 pub extern "C" fn coupling_to_midrad(lower: u32, upper: u32, mid: &mut u32, rad: &mut u32) -> u32
-    ensures answer { result ≡ coded (λ _. 0) (midrad_of lower upper) }
+    ensures answer { result ≡ coded (λ _. 0) (unplaced (midrad_of lower upper)) }
     ensures first { mid.new ≡ first_after (midrad_of lower upper) mid.old }
     ensures second { rad.new ≡ second_after (midrad_of lower upper) rad.old }
     ensures optimal { OptimalWords lower upper (midrad_of lower upper) mid.new rad.new }
@@ -19,7 +19,7 @@ pub extern "C" fn coupling_to_midrad(lower: u32, upper: u32, mid: &mut u32, rad:
 // Midpoint and radius to bounds.
 #[unsafe(no_mangle)]
 pub extern "C" fn coupling_to_bounds(mid: u32, rad: u32, lower: &mut u32, upper: &mut u32) -> u32
-    ensures answer { result ≡ coded (λ _. 0) (bounds_of mid rad) }
+    ensures answer { result ≡ coded (λ _. 0) (unplaced (bounds_of mid rad)) }
     ensures first { lower.new ≡ first_after (bounds_of mid rad) lower.old }
     ensures second { upper.new ≡ second_after (bounds_of mid rad) upper.old }
 {

@@ -5,7 +5,7 @@ use Prim.Native.Nat.{ℕ, zero, suc, ◌+◌, ◌*◌, ◌≤◌, ◌<◌}
 use native.Mathlib.Omega.{arith}
 use lib.ListN.{length, get_or, take, replicate, length-replicate, get_or-append}
 use Rattle.enclosure.specs.Methods.{Range}
-use Rattle.refusals.specs.Answer.{gives}
+use Rattle.refusals.specs.Answer.{gives, done}
 use Rattle.binary32.specs.Number.{value_of}
 use Rattle.intervals.specs.Conversion.{fault_of}
 use Rattle.sheets.specs.declared.chain.Cell.{Cell}
@@ -64,7 +64,7 @@ module _ (F : Factor) (room n : ℕ) (e : write_of F.rows F.columns F.lowers F.u
   trip : ReadsBack F.rows F.columns F.lowers F.uppers s array array
   trip = t array array few few
 
-  finite_at : (q : ℕ) → q < cells → fault_of (get_or F.lowers q 0) (get_or F.uppers q 0) ≡ 0
+  finite_at : (q : ℕ) → q < cells → fault_of (get_or F.lowers q 0) (get_or F.uppers q 0) ≡ done
   finite_at = (bytes_tell F.rows F.columns F.lowers F.uppers room n e).fine
 
   -- one of the two bounds at q
