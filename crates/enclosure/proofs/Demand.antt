@@ -1,4 +1,4 @@
--- Demand 3: every method encloses and method 5 bounds the error of its centre, over any arithmetic and for every format, and in binary32 method 4
+-- Enclosure and width: every method encloses and method 5 bounds the error of its centre, over any arithmetic and for every format, and in binary32 method 4
 -- is as narrow as demanded. Assumes nothing.
 use mathlib.Core.Path.{◌≡◌, sym, ◌∙◌, subst}
 use mathlib.Core.List.{[], ◌∷◌}

@@ -39,6 +39,6 @@ pub mod EndsWidth
 pub mod FourRadius
 pub mod FourSteps
 pub mod FourWidth
--- demand 3
+-- enclosure and width
 pub mod Demand
 pub mod Examples

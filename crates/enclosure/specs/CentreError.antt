@@ -1,4 +1,4 @@
--- Method 5's bound on the error of its centre C: how far C may lie from the exact sum. Definitions only (02, P3).
+-- Method 5's bound on the error of its centre C: how far C may lie from the exact sum. Definitions only.
 use Rattle.std.specs.Prelude.{◌≡◌, ℕ, ℤ, pos, ◌+ℤ◌, ◌*ℤ◌, ◌-ℤ◌}
 use Rattle.std.proofs.Math.Option.{some}
 use Rattle.algebra.specs.Order.{◌≼◌}

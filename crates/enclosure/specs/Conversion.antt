@@ -1,4 +1,4 @@
--- From bounds to midpoint and radius. Definitions only (02, P2).
+-- From bounds to midpoint and radius. Definitions only.
 use Rattle.std.proofs.Math.Option.{get_or}
 use Rattle.std.specs.Prelude.{ℤ, pos, ◌+ℤ◌, ◌-ℤ◌}
 use Rattle.algebra.specs.Extremes.{maxℤ}

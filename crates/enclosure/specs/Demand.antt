@@ -1,5 +1,5 @@
--- Demand 3 on one entry, over whole numbers: it encloses the exact results, by method 4 it is not too wide, and by method 5 the error of its centre is
--- bounded. Definitions only (01, "Four products"; 02, P3).
+-- The promise on one entry, over whole numbers: it encloses the exact results, by method 4 it is not too wide, and by method 5 the error of its centre is
+-- bounded. Definitions only.
 -- The entry has k pairs of cells: a l of the row and b l of the column, for l from 0 to k - 1; e is the entry that a method returned.
 -- Bounds are in units, of which Q make 1 (2^149 for binary32), and products of two bounds in 1 / Q of a unit (2^-298).
 use Rattle.std.specs.Prelude.{◌≡◌, ℕ, ◌+◌, ◌*◌, ◌^◌, ◌<◌, ℤ, pos, ◌+ℤ◌, ◌*ℤ◌, ◌-ℤ◌}
@@ -56,7 +56,7 @@ S k a b = Σℕ k (λ l. largest (a l) * largest (b l))
 unfoldable pub T : (k : ℕ) (a b : ℕ → Cell) → ℕ
 T k a b = Σℕ k (λ l. largest (a l) + largest (b l))
 
--- The bound of demand 3 for binary32: the width of the entry is at most 3 × H + (k + 4) × S / 2^20 + T / 2^147 + k / 2^146.
+-- The bound for binary32: the width of the entry is at most 3 × H + (k + 4) × S / 2^20 + T / 2^147 + k / 2^146.
 -- Here upper - lower and T are in units of 2^-149; exact_upper - exact_lower, which is 2 × H, and S are in 2^-298. So the bound is
 --   (upper - lower) / 2^149  ≤  3 × (exact_upper - exact_lower) / 2^299 + (k + 4) × S / 2^318 + T / 2^296 + k / 2^146,
 -- and both sides are multiplied by 2^319 to be whole: the left factor is 2^170 = 2^21 × 2^149, the right ones are 2^20, 2, 2^23 and 2^173.
@@ -65,7 +65,7 @@ WidthFour k a b e =
     pos (2 ^ 21) *ℤ (e.upper -ℤ e.lower) *ℤ pos (2 ^ 149)
     ≼ pos (3 * 2 ^ 20) *ℤ (exact_upper k a b -ℤ exact_lower k a b) +ℤ pos (2 * (k + 4) * S k a b + 2 ^ 23 * T k a b + k * 2 ^ 173)
 
--- ---- demand 3 as a whole, on an entry e that method m returned in binary32
+-- ---- the promise as a whole, on an entry e that method m returned in binary32
 pub record Kept (m : Method) (k : ℕ) (a b : ℕ → Cell) (e : Range) : Type 0 where
   pub encloses : Encloses (units binary32) k a b e
   pub width : m ≡ four → WidthFour k a b e

@@ -1,5 +1,4 @@
--- Fractions, and the test that a fraction lies in an interval. Definitions only (01: "A fraction is any whole number, negative and zero too, over a
--- whole number above zero. It is picked from a cell when it is neither below the cell's lower bound nor above its upper one").
+-- Fractions, any whole number, negative and zero too, over a whole number above zero, and the test that a fraction lies in an interval. Definitions only.
 use Rattle.std.specs.Prelude.{ℕ, zero, suc, ◌*◌, ◌<◌, ℤ, pos, ◌+ℤ◌, ◌*ℤ◌}
 use Rattle.std.proofs.Common.{mul-pos, lit<}
 use Rattle.algebra.specs.Order.{◌≼◌}

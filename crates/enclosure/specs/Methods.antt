@@ -1,4 +1,4 @@
--- One entry of a product by each of the five methods: every step is rounded, in the order given here. Definitions only (01, "Four products"; 02, P3).
+-- One entry of a product by each of the five methods: every step is rounded, in the order given here. Definitions only.
 -- The entry has k pairs of cells, a l and b l for l from 0 to k - 1. It is none where one of its steps overflows.
 use Rattle.std.proofs.Math.Option.{Option, some, bind}
 use Rattle.std.specs.Prelude.{ℕ, suc, ◌+◌, ◌*◌, ℤ, pos, negsuc, neg_ℤ, ◌+ℤ◌, ◌*ℤ◌, ◌-ℤ◌}

@@ -1,4 +1,4 @@
--- Pairs <m, r> of numbers of a format that enclose a range [a, b], and which of them is optimal. Definitions only (02, P2).
+-- Pairs <m, r> of numbers of a format that enclose a range [a, b], and which of them is optimal. Definitions only.
 use Rattle.std.specs.Prelude.{ℤ, ◌+ℤ◌, ◌-ℤ◌}
 use Rattle.algebra.specs.Order.{◌≼◌}
 use Rattle.rounding.specs.Format.{Format, Num}

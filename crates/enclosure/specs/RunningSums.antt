@@ -1,4 +1,4 @@
--- Method 1's two sums as they run along a row and a column: where they start, and the step that adds a pair of cells. Definitions only (02, P4).
+-- Method 1's two sums as they run along a row and a column: where they start, and the step that adds a pair of cells. Definitions only.
 use Rattle.std.proofs.Math.Option.{Option, some, bind}
 use Rattle.std.specs.Prelude.{pos, ◌+ℤ◌}
 use Rattle.enclosure.specs.Arithmetic.{Arithmetic}

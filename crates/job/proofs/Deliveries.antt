@@ -1,4 +1,4 @@
--- Demand 3 holds of the sheet that a job has written. Assumes nothing.
+-- The sheet that a job has written encloses. Assumes nothing.
 use mathlib.Core.Path.{◌≡◌, sym, subst}
 use mathlib.Core.List.{List}
 use Prim.Native.Nat.{ℕ, ◌≤◌, ◌<◌}

@@ -1,4 +1,4 @@
--- Demand 3 through a product of sheets: each step keeps it, and so the picks' exact product stays inside. Assumes nothing.
+-- Enclosure through a product of sheets: each step keeps it, and so the picks' exact product stays inside. Assumes nothing.
 use mathlib.Core.Path.{◌≡◌, sym, ap, subst, ◌∙◌}
 use mathlib.Core.List.{List, [], ◌∷◌, ◌++◌, append-nil}
 use Prim.Native.Nat.{ℕ, ◌+◌, ◌<◌}

@@ -1,4 +1,4 @@
--- The writing of a product by a job: its answer, the buffer afterwards, and that the sheet reads back. Definitions only (01, "When a call is turned down").
+-- The writing of a product by a job: its answer, the buffer afterwards, and that the sheet reads back. Definitions only.
 use Rattle.std.specs.Prelude.{List, ℕ}
 use Rattle.refusals.specs.Answer.{Answer, gives, refuses, and_then, naming}
 use Rattle.sheets.specs.Writing.{write_of, out_after}

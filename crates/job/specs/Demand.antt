@@ -1,4 +1,4 @@
--- Demand 3 for the sheet job: the cells of the written sheet enclose every product of fractions picked from the two sheets. Definitions only.
+-- The promise of the sheet job: the cells of the written sheet enclose every product of fractions picked from the two sheets. Definitions only.
 use Rattle.std.specs.Prelude.{◌≡◌, List, ℕ, ◌+◌, ◌*◌, ◌<◌, get_or, take}
 use Rattle.enclosure.specs.Cell.{Cell}
 use Rattle.enclosure.specs.Demand.{Kept}
@@ -24,7 +24,7 @@ range_in X i j = record { lower = value_of (get_or X.lowers (i * X.columns + j) 
 abbrev pub ProductKeeps : ℕ → (X Y Z : Factor) → Type 0
 ProductKeeps method X Y Z = (i j : ℕ) → i < X.rows → j < Y.columns → Kept (chosen method) X.columns (cell_in X i) (λ l. cell_in Y l j) (range_in Z i j)
 
--- ---- the sheet job: a and b are valid sheets that can be multiplied, s is a sheet of the product's size, and its cells meet demand 3
+-- ---- the sheet job: a and b are valid sheets that can be multiplied, s is a sheet of the product's size, and its cells enclose
 pub record Delivered (method : ℕ) (a b s : List ℕ) : Type 0 where
   pub first : sheet_read a ≡ gives (sizes (rows_of a) (columns_of a))
   pub second : sheet_read b ≡ gives (sizes (rows_of b) (columns_of b))

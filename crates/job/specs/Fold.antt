@@ -1,4 +1,4 @@
--- The product of sheets from the left: each product of two is the next left factor. Definitions only (01, the sheet job; 02, P1).
+-- The product of sheets from the left: each product of two is the next left factor. Definitions only.
 use Rattle.std.specs.Prelude.{List, [], ◌∷◌, ℕ, ◌+◌, eqb}
 use Rattle.refusals.specs.declared.reason.Reason.TheVariants.{WrongSize, WrongCount}
 use Rattle.refusals.specs.Refusal.{of_matrix}

@@ -1,4 +1,4 @@
--- The product of two sheets and the sheet job: what they answer, and the arrays that are lent for the product. Definitions only (01, "When a call is turned down").
+-- The product of two sheets and the sheet job: what they answer, and the arrays that are lent for the product. Definitions only.
 use Rattle.std.specs.Prelude.{List, [], ◌∷◌, ◌++◌, ℕ, ◌*◌, drop}
 use Rattle.refusals.specs.Answer.{Answer, gives, refuses, then}
 use Rattle.matrices.specs.Checks.{check_method}

@@ -1,4 +1,4 @@
--- A train of couplings: one buffer of 1 to 8 sheets back to back, multiplied from the left. Definitions only (02, P1).
+-- A train of couplings: one buffer of 1 to 8 sheets back to back, multiplied from the left. Definitions only.
 use Rattle.std.specs.Prelude.{cond, false, List, [], ◌∷◌, ℕ, zero, suc, leb, length, take, drop}
 use Rattle.refusals.specs.declared.reason.Reason.TheVariants.{WrongCount}
 use Rattle.refusals.specs.Refusal.{of_matrix}

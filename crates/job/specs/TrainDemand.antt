@@ -1,5 +1,5 @@
--- Demand 3 for a train: the cells of the written sheet enclose every product of matrices of fractions picked from the sheets, and each single
--- multiplication keeps the bound on the width. Definitions only (02, P1).
+-- The promise of a train: the cells of the written sheet enclose every product of matrices of fractions picked from the sheets, and each single
+-- multiplication keeps the bound on the width. Definitions only.
 use Rattle.std.specs.Prelude.{◌≡◌, List, [], ◌∷◌, ℕ, ◌+◌, ◌<◌, take}
 use Rattle.rounding.specs.Format.{binary32, units}
 use Rattle.enclosure.specs.Demand.{Picked, sum_of_products}
@@ -43,7 +43,7 @@ unfoldable pub exact_product : List (List ℕ) → (ℕ → Fractions) → Fract
 exact_product [] picks = picks 1
 exact_product (s ∷ ss) picks = exact_from 2 (picks 1) ss picks
 
--- ---- each single multiplication: s is a valid sheet, it fits the left factor X, and their product meets demand 3, the width by method 4 too
+-- ---- each single multiplication: s is a valid sheet, it fits the left factor X, and their product encloses, and by method 4 is not too wide
 pub record StepKeeps (method : ℕ) (X : Factor) (s : List ℕ) : Type 0 where
   pub reads : sheet_read s ≡ gives (sizes (rows_of s) (columns_of s))
   pub fits : X.columns ≡ rows_of s

@@ -1,4 +1,4 @@
--- A product that is done keeps demand 3: each of its cells is the pattern of an entry that was accepted, and so encloses.
+-- A product that is done keeps its promise: each of its cells is the pattern of an entry that was accepted, and so encloses.
 use mathlib.Core.Path.{◌≡◌, refl, sym, ap, ◌∙◌, subst}
 use mathlib.Core.Bool.{Bool, true, false, cond}
 use mathlib.Core.List.{List}
@@ -124,7 +124,7 @@ module _ (g : Given) where
   unfolding result_after
   result_done e bound d = let t = done_tells e in rw (t.0, le-ltb (stop g) (cells g) (omega (arith, t.1)))
 
-  -- which meets demand 3
+  -- which encloses
   pub entries_keep : product_of g ≡ done → (lo up : List ℕ) (i j : ℕ) → i < g.a_rows → j < g.b_columns
       → Kept (chosen g.method) g.a_columns (row_of g i) (column_of g j) (range_at g (front (cells g) (λ c. lower_of (entries g c)) lo) (front (cells g) (λ c. upper_of (entries g c)) up) i j)
   entries_keep e lo up = let t = done_tells e in keeps_at g (checked_tells g t.0) lo up t.1

@@ -9,6 +9,6 @@ pub mod EntryNumbers
 -- the checks
 pub mod CheckLaws
 pub mod CheckTells
--- demand 3, and the examples of 01
+-- enclosure and width, and the worked examples
 pub mod Keeping
 pub mod Examples

@@ -1,4 +1,4 @@
--- Demand 3 for a product: each entry encloses every sum of products of picked fractions, and method 4's are no wider than allowed. Definitions only.
+-- The promise of a product: each entry encloses every sum of products of picked fractions, and method 4's are no wider than allowed. Definitions only.
 use Rattle.std.specs.Prelude.{◌≡◌, List, ℕ, ◌+◌, ◌*◌, ◌<◌, get_or}
 use Rattle.enclosure.specs.Cell.{Cell}
 use Rattle.enclosure.specs.Demand.{Kept}
@@ -20,7 +20,7 @@ column_of g j l = cell_at g.B (l * g.b_columns + j)
 abbrev pub range_at : Given → (lo up : List ℕ) → ℕ → ℕ → Range
 range_at g lo up i j = record { lower = value_of (get_or lo (i * g.b_columns + j) 0); upper = value_of (get_or up (i * g.b_columns + j) 0) }
 
--- a product that is not refused meets demand 3 in every entry
+-- a product that is not refused keeps the promise in every entry
 unfoldable pub Keeps : Given → (lo up : List ℕ) → Type 0
 Keeps g lo up = product_of g ≡ done → (i j : ℕ) → i < g.a_rows → j < g.b_columns → Kept (chosen g.method) g.a_columns (row_of g i) (column_of g j) (range_at g lo up i j)
 
