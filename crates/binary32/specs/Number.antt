@@ -1,4 +1,4 @@
--- The value of a binary32 pattern in units of 2^-149, and the pattern of a value. Definitions only (01, "Numbers").
+-- The value of a binary32 pattern in units of 2^-149, and the pattern of a value. Definitions only.
 use Rattle.std.specs.Prelude.{Bool, true, false, cond, ℕ, suc, ◌+◌, ◌-◌, ◌*◌, ◌%◌, ◌^◌, ◌<◌, leb, ltb, ℤ, pos, negsuc, neg_ℤ}
 use Rattle.std.proofs.Math.Option.{Option, none, some}
 use Rattle.rounding.specs.Format.{binary32}

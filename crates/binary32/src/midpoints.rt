@@ -8,7 +8,7 @@ ghost use Rattle.binary32.specs.Steps.{Small, exact};
 
 use crate::Binary32;
 use crate::direction::{Near, Up};
-use crate::exact::{Exact, total};
+use crate::exact::total;
 use crate::funnel::{cut, pattern};
 use crate::parts::Parts;
 
@@ -38,8 +38,8 @@ pub fn near_up(a: u32, b: u32) -> NearUp
     ensures ups { result.up ≡ hold_up (with₂ (midpoint up) a b) }
 {
     match total(a, b, Binary32::SMALLEST_EXPONENT - 1) {
-        Exact::Value(x) => round(x),
-        Exact::Unknown => NearUp {
+        Some(x) => round(x),
+        None => NearUp {
             near: Binary32::INFINITY,
             up: Binary32::INFINITY,
         },

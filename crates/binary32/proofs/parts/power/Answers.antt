@@ -10,8 +10,5 @@ use Rattle.binary32.proofs.parts.power.Goals as goal
 below : (n : ℕ) → n ≤ 62 → 2 ^ n < 2 ^ 63
 below n h = pow-lt {i = n} {j = 63} (omega arith)
 
-pub overflow_cast-result-2 : goal.overflow_cast-result-2
-overflow_cast-result-2 c = rw (shifted c.args.n c.requires) (record { sfits = omega (arith, below c.args.n c.requires) })
-
 pub returns : goal.returns
 returns c = rw (shifted c.args.n c.requires) (to_z_pos w64 (2 ^ c.args.n) (omega (arith, below c.args.n c.requires)))
