@@ -1,5 +1,5 @@
 -- A signed shift and what it loses, in the machine's range; up and nearest from the two, one more where a test says so. Assumes nothing.
-use mathlib.Core.Path.{◌≡◌, refl, sym, ap, ap₂, ◌∙◌, subst}
+use mathlib.Core.Path.{◌≡◌, refl, ap, ap₂, ◌∙◌}
 use mathlib.Core.Bool.{Bool, true, false}
 use mathlib.Core.List.{[], ◌∷◌}
 use Prim.Native.Nat.{ℕ, zero, suc, ◌+◌, ◌*◌, ◌/◌, ◌%◌, ◌^◌, ◌≤◌, ◌<◌}
@@ -12,7 +12,7 @@ use lib.Signed.{shr_z, mag}
 use lib.Ieee.Nearest.{closest}
 use mir.Syntax.{w64}
 use mir.Val.{SFits, of_z, to_z, bool_byte}
-use mir.ValLaws.{to_z-of_z}
+use mir.ValLaws.{to_z-of_z, to_z_pos}
 use borrow.Author.Tests.{lt-ltb}
 use Rattle.algebra.proofs.Absolute.{nat_abs_add}
 use Rattle.algebra.proofs.Linear.{reading, eq, lin_eq}
@@ -42,9 +42,6 @@ module _ (w c r : ℤ) (m : ℕ) (h : nat_abs w < 2 ^ 61) (l : m ≤ 2 ^ 62) (p 
 
   back_fits : SFits w64 (shr_z w m *ℤ pos m)
   back_fits = fits_nat_abs (shr_z w m *ℤ pos m) (omega (arith, shr_back w m p))
-
-  pub product_fits : SFits w64 (to_z w64 (of_z w64 c) *ℤ to_z w64 (of_z w64 r))
-  product_fits = subst (SFits w64) (sym product_read) back_fits
 
   pub machine_rest : to_z w64 (of_z w64 w) -ℤ to_z w64 (of_z w64 (to_z w64 (of_z w64 c) *ℤ to_z w64 (of_z w64 r))) ≡ pos (rem w m)
   machine_rest = rw (to_z-of_z w64 w fw, product_read, to_z-of_z w64 (shr_z w m *ℤ pos m) back_fits) (rest_is w m p)
@@ -85,3 +82,9 @@ nears_is w c u m m' r a h em ec er ea eu =
 -- the machine's 2 ^ n
 pub shifted : (n : ℕ) → n ≤ 62 → 1 * 2 ^ n % 2 ^ 64 ≡ 2 ^ n
 shifted n h = ap (λ (t : ℕ). t % 2 ^ 64) (one-mul (2 ^ n)) ∙ mod-eq_of_lt (pow-lt {i = n} {j = 64} (omega arith))
+
+pub power_read : (n : ℕ) → n ≤ 62 → to_z w64 (1 * 2 ^ n % 2 ^ 64) ≡ pos (2 ^ n)
+power_read n h = rw (shifted n h) (to_z_pos w64 (2 ^ n) (omega (arith, below n h)))
+  where
+    below : (n : ℕ) → n ≤ 62 → 2 ^ n < 2 ^ 63
+    below n h = pow-lt {i = n} {j = 63} (omega arith)

@@ -13,6 +13,7 @@ pub struct Parts {
 }
 
 // 2^n
+#[tactic(auto, using(crate::proofs::Rests::power_read))]
 pub fn power(n: u32) -> i64
     requires { n ≤ 62 }
     ensures { result ≡ pos (2 ^ n) }
