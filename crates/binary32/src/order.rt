@@ -41,6 +41,8 @@ pub fn at_most(a: u32, b: u32) -> bool
     key(a) <= key(b)
 }
 
+// `least` and `greatest` stay two functions of one line each: a common one would take the two results of the test as parameters.
+
 // The pattern with the lesser value; a where the values are equal.
 #[tactic(auto, unfolding(crate::specs::Order::least_of))]
 pub fn least(a: u32, b: u32) -> u32
