@@ -11,7 +11,7 @@ use Rattle.refusals.specs.declared.reason.Reason.TheVariants.{NotFinite, TooLarg
 use Rattle.refusals.specs.Answer.{Judged, gives, refuses}
 use Rattle.binary32.specs.declared.parts.Parts.{Parts}
 use Rattle.binary32.specs.declared.funnel.Ways.{Ways}
-use Rattle.binary32.specs.declared.exact.Exact.TheVariants.{Value, Unknown}
+use Rattle.std.specs.Prelude.{Some, None}
 use Rattle.binary32.specs.Number.{value_of, finite, finites, held, hold}
 use Rattle.binary32.specs.Operations.{Way, on₂, with₂, answer_of, answer, checked_of}
 use Rattle.binary32.specs.Steps.{of, Decoded, Same, Rounds}
@@ -20,7 +20,7 @@ use Rattle.binary32.proofs.Held.{Fits, is_finite, pattern_finite, finites_first,
 
 -- ---- an operation on two partial results: F in units of 1 / D, where both are numbers
 pub rounds_some : (D : ℕ) (F : ℤ → ℤ → ℤ) (m n : Option ℤ) (x y : Parts) {r : Parts} → m ≡ some (of x) → n ≡ some (of y) → Same D (F (of x) (of y)) r
-    → Rounds (λ way. on₂ (λ u v. way binary32 D (F u v)) m n) (Value r)
+    → Rounds (λ way. on₂ (λ u v. way binary32 D (F u v)) m n) (Some r)
 unfolding bind
 rounds_some D F m n x y em en s = record { downs = s.downs ∙ each down; ups = s.ups ∙ each up; nears = s.nears ∙ each near; safe = s.small }
   where
@@ -34,7 +34,7 @@ on_none op m n (inl e) = sym (ap (λ t. on₂ op t n) e)
 on_none op none n (inr e) = refl
 on_none op (some u) n (inr e) = sym (ap (λ t. on₂ op (some u) t) e)
 
-pub rounds_none : (op : Way → ℤ → ℤ → Option ℤ) (m n : Option ℤ) → (m ≡ none) ⊎ (n ≡ none) → Rounds (λ way. on₂ (op way) m n) Unknown
+pub rounds_none : (op : Way → ℤ → ℤ → Option ℤ) (m n : Option ℤ) → (m ≡ none) ⊎ (n ≡ none) → Rounds (λ way. on₂ (op way) m n) None
 rounds_none op m n h = record { downs = on_none (op down) m n h; ups = on_none (op up) m n h; nears = on_none (op near) m n h; safe = tt }
 
 -- of two patterns
@@ -49,7 +49,7 @@ held_either a b e = go (finite a) refl
     go true f = inr (held_none b (sym (ap (λ t. cond t (finite b) false) f) ∙ e))
 
 pub rounds_finite : (D : ℕ) (F : ℤ → ℤ → ℤ) (a b : ℕ) {x y r : Parts} → finites a b ≡ true → Decoded a x → Decoded b y → Same D (F (of x) (of y)) r
-    → Rounds (λ way. with₂ (λ u v. way binary32 D (F u v)) a b) (Value r)
+    → Rounds (λ way. with₂ (λ u v. way binary32 D (F u v)) a b) (Some r)
 unfolding with₂
 rounds_finite D F a b {x} {y} t d e s =
     rounds_some D F (held a) (held b) x y (held_decoded a (finites_first a b t) d) (held_decoded b (finites_second a b t) e) s

@@ -24,7 +24,12 @@ use Rattle.rounding.proofs.Jam.{jam_lo, jam_hi, jam_nr}
 use Rattle.rounding.proofs.Nearest.{near_odd}
 use Rattle.rounding.proofs.Shift.{ex_shr}
 use Rattle.rounding.proofs.Sign.{nat_abs_neg}
-use Rattle.binary32.specs.Steps.{sgn}
+
+-- the sign of a number: -1, 0 or 1
+abbrev pub sgn : ℤ → ℤ
+sgn (pos zero) = pos 0
+sgn (pos (suc n)) = pos 1
+sgn (negsuc n) = negsuc 0
 
 -- ---- two values with the same roundings
 pub record Agree (D : ℕ) (X Y : ℤ) : Type 0 where

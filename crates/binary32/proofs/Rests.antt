@@ -1,5 +1,6 @@
 -- A signed shift and what it loses, in the machine's range; up and nearest from the two, one more where a test says so. Assumes nothing.
-use mathlib.Core.Path.{◌≡◌, refl, sym, ap, ap₂, ◌∙◌, subst}
+use mathlib.Core.Path.{◌≡◌, refl, ap, ap₂, ◌∙◌}
+use mathlib.Core.Bool.{Bool, true, false}
 use mathlib.Core.List.{[], ◌∷◌}
 use Prim.Native.Nat.{ℕ, zero, suc, ◌+◌, ◌*◌, ◌/◌, ◌%◌, ◌^◌, ◌≤◌, ◌<◌}
 use native.Mathlib.Omega.{arith}
@@ -10,16 +11,17 @@ use lib.IntN.{ℤ, pos, negsuc, nat_abs, ◌+ℤ◌, ◌-ℤ◌, ◌*ℤ◌}
 use lib.Signed.{shr_z, mag}
 use lib.Ieee.Nearest.{closest}
 use mir.Syntax.{w64}
-use mir.Val.{SFits, of_z, to_z}
-use mir.ValLaws.{to_z-of_z}
+use mir.Val.{SFits, of_z, to_z, bool_byte}
+use mir.ValLaws.{to_z-of_z, to_z_pos}
 use borrow.Author.Tests.{lt-ltb}
+use Rattle.algebra.proofs.Absolute.{nat_abs_add}
 use Rattle.algebra.proofs.Linear.{reading, eq, lin_eq}
 use Rattle.algebra.proofs.Machine.{fits_nat_abs}
 use Rattle.rounding.specs.Rounding.{sticky, signed}
 use Rattle.rounding.specs.Quotient.{rem, bit, ceil_s}
 use Rattle.rounding.proofs.Floor.{rem_is, up_floor, near_floor}
 use Rattle.rounding.proofs.Sign.{nat_abs_neg}
-use Rattle.binary32.proofs.Ints.{read}
+use Rattle.binary32.proofs.Ints.{read, read_small}
 
 pub shr_less : (w : ℤ) (m : ℕ) → nat_abs (shr_z w m) ≤ nat_abs w
 shr_less (pos n) m = div-le_self n m
@@ -41,9 +43,6 @@ module _ (w c r : ℤ) (m : ℕ) (h : nat_abs w < 2 ^ 61) (l : m ≤ 2 ^ 62) (p 
   back_fits : SFits w64 (shr_z w m *ℤ pos m)
   back_fits = fits_nat_abs (shr_z w m *ℤ pos m) (omega (arith, shr_back w m p))
 
-  pub product_fits : SFits w64 (to_z w64 (of_z w64 c) *ℤ to_z w64 (of_z w64 r))
-  product_fits = subst (SFits w64) (sym product_read) back_fits
-
   pub machine_rest : to_z w64 (of_z w64 w) -ℤ to_z w64 (of_z w64 (to_z w64 (of_z w64 c) *ℤ to_z w64 (of_z w64 r))) ≡ pos (rem w m)
   machine_rest = rw (to_z-of_z w64 w fw, product_read, to_z-of_z w64 (shr_z w m *ℤ pos m) back_fits) (rest_is w m p)
 
@@ -51,6 +50,25 @@ module _ (w c r : ℤ) (m : ℕ) (h : nat_abs w < 2 ^ 61) (l : m ≤ 2 ^ 62) (p 
 sticky_bit : (r : ℕ) → bit (ltb 0 r) ≡ sticky r
 sticky_bit zero = refl
 sticky_bit (suc r) = ap bit (lt-ltb 0 (suc r) (omega arith))
+
+same_bit : (t : Bool) → bool_byte t ≡ bit t
+same_bit true = refl
+same_bit false = refl
+
+-- what the machine's shift gives, and one more
+module _ (w : ℤ) (m : ℕ) (h : nat_abs w < 2 ^ 61) (f : SFits w64 w) where
+  pub floor_read : to_z w64 (of_z w64 (shr_z (to_z w64 (of_z w64 w)) m)) ≡ shr_z w m
+  floor_read = rw (to_z-of_z w64 w f) (read_small (shr_z w m) (omega (arith, shr_less w m)))
+
+  pub more_read : (b : ℤ) (t : Bool) → b ≡ pos (bool_byte t)
+      → to_z w64 (of_z w64 (to_z w64 (of_z w64 (shr_z (to_z w64 (of_z w64 w)) m)) +ℤ to_z w64 (of_z w64 b))) ≡ shr_z w m +ℤ pos (bit t)
+  more_read b t e =
+      rw (floor_read, e, same_bit t, read_small (pos (bit t)) (omega (arith, small t)))
+      (read_small (shr_z w m +ℤ pos (bit t)) (omega (arith, small t, shr_less w m, nat_abs_add (shr_z w m) (pos (bit t)))))
+    where
+      small : (t : Bool) → bit t < 2
+      small true = omega arith
+      small false = omega arith
 
 pub ups_is : (w c u : ℤ) (m r : ℕ) → 0 < m → c ≡ shr_z w m → r ≡ rem w m → u ≡ c +ℤ pos (bit (ltb 0 r)) → u ≡ ceil_s w m
 ups_is w c u m r h ec er eu = eu ∙ ap₂ (λ x y. x +ℤ pos y) ec (ap (λ x. bit (ltb 0 x)) er ∙ sticky_bit (rem w m)) ∙ up_floor w m h
@@ -64,3 +82,9 @@ nears_is w c u m m' r a h em ec er ea eu =
 -- the machine's 2 ^ n
 pub shifted : (n : ℕ) → n ≤ 62 → 1 * 2 ^ n % 2 ^ 64 ≡ 2 ^ n
 shifted n h = ap (λ (t : ℕ). t % 2 ^ 64) (one-mul (2 ^ n)) ∙ mod-eq_of_lt (pow-lt {i = n} {j = 64} (omega arith))
+
+pub power_read : (n : ℕ) → n ≤ 62 → to_z w64 (1 * 2 ^ n % 2 ^ 64) ≡ pos (2 ^ n)
+power_read n h = rw (shifted n h) (to_z_pos w64 (2 ^ n) (omega (arith, below n h)))
+  where
+    below : (n : ℕ) → n ≤ 62 → 2 ^ n < 2 ^ 63
+    below n h = pow-lt {i = n} {j = 63} (omega arith)

@@ -1,4 +1,4 @@
--- Sums of two numbers taken apart: what `joined` and `plus` give has the roundings of the exact sum; `first`, `second` and `sign` beside it.
+-- Sums of two numbers taken apart: what `joined` and `plus` give has the roundings of the exact sum; the order of the summands beside it.
 use mathlib.Core.Path.{◌≡◌, refl, sym, ap, ap₂, ◌∙◌, subst}
 use mathlib.Core.Bool.{Bool, true, false, not}
 use mathlib.Core.List.{[], ◌∷◌}
@@ -10,6 +10,7 @@ use lib.Dec.{T, ltb, ltb→lt, nltb→le}
 use lib.IntN.{ℤ, pos, negsuc, nat_abs, ◌+ℤ◌, ◌*ℤ◌}
 use mir.Syntax.{w64}
 use mir.Val.{of_z, to_z}
+use Rattle.std.specs.Int.{int_signum}
 use Rattle.algebra.proofs.Absolute.{nat_abs_add, nat_abs_mul}
 use Rattle.algebra.proofs.Reading.{by_ring}
 use Rattle.algebra.proofs.Linear.{reading}
@@ -19,9 +20,9 @@ use Rattle.rounding.specs.Rounding.{up, down, near}
 use Rattle.rounding.proofs.DirectedLaws.{up_scale, down_scale}
 use Rattle.rounding.proofs.NearestLaws.{near_scale}
 use Rattle.binary32.specs.declared.parts.Parts.{Parts}
-use Rattle.binary32.specs.Steps.{of, Small, sgn, exact, Same, Summands, Larger, choose, earlier, later}
+use Rattle.binary32.specs.Steps.{of, Small, exact, Same, Summands, Larger, choose, earlier, later}
 use Rattle.binary32.proofs.Ints.{read_small}
-use Rattle.binary32.proofs.Far.{Agree, sum_far}
+use Rattle.binary32.proofs.Far.{sgn, Agree, sum_far}
 
 -- ---- the scale 2 ^ lift in the exponent, or in the denominator
 module _ (K lift i : ℕ) (z : ℤ) (h : lift ≤ K) where
@@ -81,8 +82,13 @@ pub shifted_sum_read : (x y z : ℤ) (n : ℕ) → nat_abs x ≤ 2 ^ 24 → nat_
     → z ≡ to_z w64 (of_z w64 x) *ℤ pos (2 ^ n) +ℤ to_z w64 (of_z w64 y) → z ≡ x *ℤ pos (2 ^ n) +ℤ y
 shifted_sum_read x y z n hx hy e = e ∙ ap₂ (λ u v. u *ℤ pos (2 ^ n) +ℤ v) (read_small x (omega arith)) (read_small y (omega arith))
 
-pub sgn_read : (y z : ℤ) → nat_abs y ≤ 2 ^ 24 → z ≡ sgn (to_z w64 (of_z w64 y)) → z ≡ sgn y
-sgn_read y z h e = e ∙ ap sgn (read_small y (omega arith))
+signum_is : (y : ℤ) → int_signum y ≡ sgn y
+signum_is (pos zero) = refl
+signum_is (pos (suc n)) = ap pos (omega arith)
+signum_is (negsuc n) = refl
+
+pub sgn_read : (y z : ℤ) → nat_abs y ≤ 2 ^ 24 → z ≡ int_signum (to_z w64 (of_z w64 y)) → z ≡ sgn y
+sgn_read y z h e = e ∙ ap int_signum (read_small y (omega arith)) ∙ signum_is y
 
 module _ {x y : Parts} {lift : ℕ} (h : Larger x y lift) (z : ℤ) where
   -- not far apart: the sum itself
@@ -130,11 +136,9 @@ module _ {x y : Parts} {lift : ℕ} (s : Summands x y lift) where
   larger true l g = let o : x.exp < y.exp = l tt in record { first = s.second; second = s.first; lifts = s.lifts; order = omega arith }
   larger false l g = record { first = s.first; second = s.second; lifts = s.lifts; order = g tt }
 
-  pub ordered : (u v : Parts) → u ≡ earlier x y → v ≡ later x y → Larger u v lift
+  pub in_order : (p : Parts × Parts) → p ≡ (earlier x y, later x y) → Larger p.0 p.1 lift
   unfolding earlier later
-  ordered u v eu ev =
-      subst (λ p. Larger p v lift) (sym eu)
-      (subst (λ p. Larger (earlier x y) p lift) (sym ev) (larger (ltb x.exp y.exp) (ltb→lt x.exp y.exp) (nltb→le x.exp y.exp)))
+  in_order p e = subst (λ (q : Parts × Parts). Larger q.0 q.1 lift) (sym e) (larger (ltb x.exp y.exp) (ltb→lt x.exp y.exp) (nltb→le x.exp y.exp))
 
 turned : (x y : Parts) (t : Bool) → of (choose t x y) +ℤ of (choose t y x) ≡ of x +ℤ of y
 turned x y true = turn (of y) (of x)
@@ -143,6 +147,6 @@ turned x y true = turn (of y) (of x)
     turn u v = by_ring (u ∷ v ∷ []) (search reading depth 20) tt
 turned x y false = refl
 
-pub sum_ordered : (D : ℕ) (x y u v r : Parts) → u ≡ earlier x y → v ≡ later x y → Same D (of u +ℤ of v) r → Same D (of x +ℤ of y) r
+pub sum_ordered : (D : ℕ) (x y r : Parts) (p : Parts × Parts) → p ≡ (earlier x y, later x y) → Same D (of p.0 +ℤ of p.1) r → Same D (of x +ℤ of y) r
 unfolding earlier later
-sum_ordered D x y u v r eu ev s = subst (λ X. Same D X r) (ap₂ (λ a b. of a +ℤ of b) eu ev ∙ turned x y (ltb x.exp y.exp)) s
+sum_ordered D x y r p e s = subst (λ X. Same D X r) (ap (λ (q : Parts × Parts). of q.0 +ℤ of q.1) e ∙ turned x y (ltb x.exp y.exp)) s

@@ -1,5 +1,5 @@
 -- The results of the inner steps of an operation. Definitions only, for contracts of functions that no other crate can call.
-use Rattle.std.specs.Prelude.{◌≡◌, Bool, true, false, cond, ℕ, zero, suc, ◌+◌, ◌-◌, ◌*◌, ◌^◌, ◌≤◌, ◌<◌, ltb, ℤ, pos, negsuc, nat_abs, ◌+ℤ◌, ◌*ℤ◌}
+use Rattle.std.specs.Prelude.{◌≡◌, Bool, true, false, cond, ℕ, ◌+◌, ◌-◌, ◌*◌, ◌^◌, ◌≤◌, ◌<◌, ltb, ℤ, pos, negsuc, nat_abs, ◌+ℤ◌, ◌*ℤ◌, Option as Maybe, Some, None}
 use Rattle.std.proofs.Math.Option.{Option, none}
 use Rattle.std.specs.Int.Signed.{shr_z}
 use Rattle.std.specs.Float.Ieee.Nearest.{closest}
@@ -8,8 +8,6 @@ use Rattle.rounding.specs.Rounding.{up, down, near, signed}
 use Rattle.rounding.specs.Quotient.{ceil_s}
 use Rattle.binary32.specs.declared.parts.Parts.{Parts}
 use Rattle.binary32.specs.declared.funnel.Ways.{Ways}
-use Rattle.binary32.specs.declared.exact.Exact.{Exact}
-use Rattle.binary32.specs.declared.exact.Exact.TheVariants.{Value, Unknown}
 use Rattle.binary32.specs.Number.{value_of, hold_down, hold_up, hold_near, infinity, largest, least, minus_infinity}
 use Rattle.binary32.specs.Operations.{Way}
 
@@ -106,29 +104,23 @@ pub record Larger (x y : Parts) (lift : ℕ) : Type 0 where
   pub order : y.exp ≤ x.exp
 
 -- the value, rounded by `way`; none where an operand has exponent field 255
-abbrev pub exactly : Way → Exact → Option ℤ
-exactly way (Value x) = exact way x
-exactly way Unknown = none
+abbrev pub exactly : Way → Maybe Parts → Option ℤ
+exactly way (Some x) = exact way x
+exactly way None = none
 
 -- the value is small enough for `cut`
-abbrev pub Safe : Exact → Type 0
-Safe (Value x) = Small x.sig x.exp
-Safe Unknown = Unit {0}
+abbrev pub Safe : Maybe Parts → Type 0
+Safe (Some x) = Small x.sig x.exp
+Safe None = Unit {0}
 
 -- r has the roundings m down, m up and m near, and is small enough for `cut`
-pub record Rounds (m : Way → Option ℤ) (r : Exact) : Type 0 where
+pub record Rounds (m : Way → Option ℤ) (r : Maybe Parts) : Type 0 where
   pub downs : exactly down r ≡ m down
   pub ups : exactly up r ≡ m up
   pub nears : exactly near r ≡ m near
   pub safe : Safe r
 
 -- ---- sums
-
--- the sign of a number: -1, 0 or 1
-abbrev pub sgn : ℤ → ℤ
-sgn (pos zero) = pos 0
-sgn (pos (suc n)) = pos 1
-sgn (negsuc n) = negsuc 0
 
 -- of two summands, `earlier` has the larger exponent and `later` is the other one
 abbrev pub choose : Bool → Parts → Parts → Parts

@@ -37,8 +37,8 @@ pub trait Direction {
 }
 
 // The greatest number not above the exact value.
-#[derive(Clone, Copy)]
-pub struct Down {}
+#[derive(Clone, Copy, Debug, PartialEq, Eq)]
+pub struct Down;
 
 impl Direction for Down {
     ghost way = { down };
@@ -65,8 +65,8 @@ impl Direction for Down {
 }
 
 // The least number not below the exact value.
-#[derive(Clone, Copy)]
-pub struct Up {}
+#[derive(Clone, Copy, Debug, PartialEq, Eq)]
+pub struct Up;
 
 impl Direction for Up {
     ghost way = { up };
@@ -93,8 +93,8 @@ impl Direction for Up {
 }
 
 // The number closest to the exact value, ties to the even fraction.
-#[derive(Clone, Copy)]
-pub struct Near {}
+#[derive(Clone, Copy, Debug, PartialEq, Eq)]
+pub struct Near;
 
 impl Direction for Near {
     ghost way = { near };

@@ -6,16 +6,15 @@
 //     0 < r < 2^n / 2              c       c + 1    c
 //     r = 2^n / 2                  c       c + 1    c or c + 1, the even one
 //     2^n / 2 < r                  c       c + 1    c + 1
-ghost use Rattle.std.specs.Prelude.{◌≡◌, ◌^◌, ◌≤◌, ◌<◌, pos, nat_abs, ◌+ℤ◌, ◌*ℤ◌};
+ghost use Rattle.std.specs.Prelude.{◌≡◌, ◌^◌, ◌≤◌, ◌<◌, pos, nat_abs, ◌*ℤ◌};
 ghost use Rattle.std.specs.Int.Signed.{shr_z};
-ghost use Rattle.rounding.specs.Quotient.{bit, rem};
+ghost use Rattle.rounding.specs.Quotient.{rem};
 ghost use Rattle.binary32.specs.Number.{hold};
 ghost use Rattle.binary32.specs.Steps.{packed, Split, IsCut, Small, Safe, exactly};
 
 use crate::Binary32;
 use crate::direction::Direction;
-use crate::exact::Exact;
-use crate::parts::power;
+use crate::parts::{Parts, power};
 
 // The significands of the three roundings. Each result is its significand × 2^shift units.
 #[derive(Clone, Copy)]
@@ -26,22 +25,6 @@ pub struct Ways {
     pub shift: u32,
 }
 
-// c, or c + 1 where `more` is set.
-fn next(c: i64, more: bool) -> i64
-    requires { nat_abs c < 2 ^ 62 }
-    ensures { result ≡ c +ℤ pos (bit more) }
-{
-    if more { c + 1 } else { c }
-}
-
-// w / 2^n rounded down: the shift keeps the sign, and a negative w that loses bits is rounded away from zero.
-fn floor(w: i64, n: u32) -> i64
-    requires { (nat_abs w < 2 ^ 61) × (n ≤ 62) }
-    ensures { result ≡ shr_z w (2 ^ n) }
-{
-    w >> n
-}
-
 // The remainder w - c × 2^n.
 fn rest(w: i64, c: i64, n: u32) -> u64
     requires { (nat_abs w < 2 ^ 61) × (n ≤ 62) × (c ≡ shr_z w (2 ^ n)) }
@@ -50,16 +33,16 @@ fn rest(w: i64, c: i64, n: u32) -> u64
     (w - c * power(n)) as u64
 }
 
-// w / 2^n, rounded in all three directions, with the shift that was passed in.
+// w / 2^n, rounded in all three directions, with the shift that was passed in. `>>` keeps the sign and rounds down.
 pub fn split(w: i64, n: u32, shift: u32) -> Ways
     requires { (nat_abs w < 2 ^ 61) × (n ≤ 62) }
     ensures { Split w (2 ^ n) shift result }
 {
-    let c = floor(w, n);
+    let c = w >> n;
     let r = rest(w, c, n);
     let odd = c.unsigned_abs() % 2;
-    let up = next(c, 0 < r);
-    let near = next(c, (1u64 << n) < 2 * r + odd);
+    let up = c + i64::from(0 < r);
+    let near = c + i64::from((1u64 << n) < 2 * r + odd);
     Ways {
         down: c,
         up,
@@ -127,12 +110,12 @@ pub fn pattern<D: Direction>(c: Ways) -> u32
 }
 
 // An exact value, rounded in this direction; D::NONE where an operand has exponent field 255 or there is no finite result.
-pub fn round<D: Direction>(x: Exact) -> u32
+pub fn round<D: Direction>(x: Option<Parts>) -> u32
     requires { Safe x }
     ensures { result ≡ hold D.NONE (exactly D.way x) }
 {
     match x {
-        Exact::Value(x) => pattern::<D>(cut(x.sig, x.exp)),
-        Exact::Unknown => D::NONE,
+        Some(x) => pattern::<D>(cut(x.sig, x.exp)),
+        None => D::NONE,
     }
 }

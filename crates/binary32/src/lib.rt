@@ -18,10 +18,8 @@ use direction::Direction;
 use refusals::reason::Reason;
 
 // The format: its precision, its unit, 2^-149, and the patterns of its extreme values.
-#[derive(Clone, Copy)]
-pub struct Binary32 {
-    pub bits: u32,
-}
+#[derive(Clone, Copy, Debug, PartialEq, Eq)]
+pub struct Binary32;
 
 impl Binary32 {
     // Bits of a significand.

@@ -8,18 +8,18 @@ ghost use Rattle.binary32.specs.Steps.{Small, exact};
 
 use crate::Binary32;
 use crate::direction::{Near, Up};
-use crate::exact::{Exact, total};
+use crate::exact::total;
 use crate::funnel::{cut, pattern};
 use crate::parts::Parts;
 
 // A value rounded to nearest and rounded up; infinity where there is no finite result.
-#[derive(Clone, Copy)]
+#[derive(Clone, Copy, Debug, PartialEq, Eq)]
 pub struct NearUp {
     pub near: u32,
     pub up: u32,
 }
 
-// x, rounded to nearest and rounded up.
+// x, rounded to nearest and rounded up. One cut serves both: two calls of `funnel::round` were tried and take 24 instructions more, a fifth.
 fn round(x: Parts) -> NearUp
     requires { Small x.sig x.exp }
     ensures nears { result.near ≡ hold_near (exact near x) }
@@ -38,8 +38,8 @@ pub fn near_up(a: u32, b: u32) -> NearUp
     ensures ups { result.up ≡ hold_up (with₂ (midpoint up) a b) }
 {
     match total(a, b, Binary32::SMALLEST_EXPONENT - 1) {
-        Exact::Value(x) => round(x),
-        Exact::Unknown => NearUp {
+        Some(x) => round(x),
+        None => NearUp {
             near: Binary32::INFINITY,
             up: Binary32::INFINITY,
         },

@@ -4,6 +4,7 @@ ghost use Rattle.binary32.specs.Number.{negated};
 ghost use Rattle.binary32.specs.Order.{magnitude_of, key_of, at_most, least_of, greatest_of};
 
 use crate::Binary32;
+use crate::parts::with_sign;
 
 // The pattern with its sign bit changed.
 #[tactic(auto, unfolding(crate::specs::Number::negated))]
@@ -29,8 +30,7 @@ pub fn magnitude(p: u32) -> u32
 fn key(p: u32) -> i64
     ensures { result ≡ key_of p }
 {
-    let m = i64::from(magnitude(p));
-    if p < Binary32::SIGN { m } else { -m }
+    with_sign(Binary32::SIGN <= p, magnitude(p))
 }
 
 // Whether the value of a is at most that of b.
@@ -40,6 +40,8 @@ pub fn at_most(a: u32, b: u32) -> bool
 {
     key(a) <= key(b)
 }
+
+// `least` and `greatest` stay two functions of one line each: a common one would take the two results of the test as parameters.
 
 // The pattern with the lesser value; a where the values are equal.
 #[tactic(auto, unfolding(crate::specs::Order::least_of))]

@@ -1,5 +1,5 @@
 // A pattern split into significand and exponent, and small functions on integers. Used by exact.rt and funnel.rt.
-ghost use Rattle.std.specs.Prelude.{◌≡◌, ◌^◌, ◌≤◌, ◌<◌, pos};
+ghost use Rattle.std.specs.Prelude.{◌≡◌, ◌^◌, ◌≤◌, pos};
 ghost use Rattle.binary32.specs.Number.{Finite, signed_by};
 ghost use Rattle.binary32.specs.Steps.{Decoded};
 
@@ -13,19 +13,19 @@ pub struct Parts {
 }
 
 // 2^n
+#[tactic(auto, using(crate::proofs::Rests::power_read))]
 pub fn power(n: u32) -> i64
     requires { n ≤ 62 }
     ensures { result ≡ pos (2 ^ n) }
 {
-    (1u64 << n) as i64
+    1 << n
 }
 
 // m, or -m where `neg` is set.
-pub fn with_sign(neg: bool, m: u64) -> i64
-    requires { m < 2 ^ 62 }
+pub fn with_sign(neg: bool, m: u32) -> i64
     ensures { result ≡ signed_by neg m }
 {
-    let s = m as i64;
+    let s = i64::from(m);
     if neg { -s } else { s }
 }
 
@@ -37,14 +37,15 @@ pub fn decode(p: u32) -> Parts
     let t = p % Binary32::SIGN;
     let e = t / Binary32::HIDDEN;
     let f = t % Binary32::HIDDEN;
+    let neg = Binary32::SIGN <= p;
     if e == 0 {
         return Parts {
-            sig: with_sign(Binary32::SIGN <= p, u64::from(f)),
+            sig: with_sign(neg, f),
             exp: 0,
         };
     }
     Parts {
-        sig: with_sign(Binary32::SIGN <= p, u64::from(f + Binary32::HIDDEN)),
+        sig: with_sign(neg, f + Binary32::HIDDEN),
         exp: e - 1,
     }
 }

@@ -6,17 +6,14 @@ ghost use Rattle.intervals.specs.Slices.{cleared};
 pub fn shorter(a: usize, b: usize) -> usize
     ensures { result ≡ min a b }
 {
-    if a <= b { a } else { b }
+    a.min(b)
 }
 
 // Sets the first count patterns to 0, or all where there are fewer.
+#[tactic(auto, unfolding(crate::specs::Slices::cleared))]
 pub fn clear(count: usize, out: &mut [u32])
     ensures { out.new ≡ cleared count out.old }
 {
-    let end = shorter(count, out.len());
-    let mut i = 0;
-    while i < end {
-        out[i] = 0;
-        i += 1;
-    }
+    let end = count.min(out.len());
+    out[..end].fill(0);
 }

@@ -1,33 +1,16 @@
 -- The order of two summands: the one with the larger exponent first.
-use mathlib.Core.Path.{◌≡◌, refl, sym, ap, ap₂, ◌∙◌, subst}
+use mathlib.Core.Path.{◌≡◌, refl, sym, ap₂, ◌∙◌, subst}
 use mathlib.Core.Bool.{Bool, true, false, not}
 use mathlib.Core.List.{[], ◌∷◌}
 use Prim.Native.Nat.{◌≤◌, ◌<◌}
 use native.Mathlib.Omega.{arith}
 use lib.Dec.{T, ltb, ltb→lt, nltb→le}
 use lib.IntN.{ℤ, ◌+ℤ◌}
-use borrow.Author.Tests.{lt-ltb, le-ltb}
 use Rattle.algebra.proofs.Reading.{by_ring}
 use Rattle.algebra.proofs.Linear.{reading}
 use Rattle.unpacked.specs.declared.Number.{Number}
 use Rattle.unpacked.specs.Number.{worth}
 use Rattle.unpacked.specs.Cuts.{Summands, choose, earlier, later}
-
-pub first_y : (x y : Number) → x.exp < y.exp → y ≡ earlier x y
-unfolding earlier
-first_y x y h = ap (λ t. choose t x y) (sym (lt-ltb x.exp y.exp h))
-
-pub first_x : (x y : Number) → y.exp ≤ x.exp → x ≡ earlier x y
-unfolding earlier
-first_x x y h = ap (λ t. choose t x y) (sym (le-ltb x.exp y.exp h))
-
-pub second_x : (x y : Number) → x.exp < y.exp → x ≡ later x y
-unfolding later
-second_x x y h = ap (λ t. choose t y x) (sym (lt-ltb x.exp y.exp h))
-
-pub second_y : (x y : Number) → y.exp ≤ x.exp → y ≡ later x y
-unfolding later
-second_y x y h = ap (λ t. choose t y x) (sym (le-ltb x.exp y.exp h))
 
 -- the summands in order
 pub record Ordered (x y : Number) : Type 0 where

@@ -1,18 +1,11 @@
 -- A number between two bounds, as the code tests it: the two tests in one.
-use mathlib.Core.Path.{◌≡◌, sym, ap, subst}
+use mathlib.Core.Path.{◌≡◌, sym, subst}
 use mathlib.Core.Bool.{Bool, true, false, not, cond}
 use mathlib.Core.Logic.{◌⊎◌, inl, inr}
 use Prim.Native.Nat.{ℕ, ◌≤◌, ◌<◌}
 use lib.Dec.{T, ltb, ltb→lt, nltb→le}
-use borrow.Author.Tests.{lt-ltb, le-ltb}
 
 module _ (e a b : ℕ) where
-  pub range_below : e < a → false ≡ cond (ltb e a) false (ltb e b)
-  range_below h = sym (ap (λ t. cond t false (ltb e b)) (lt-ltb e a h))
-
-  pub range_from : a ≤ e → ltb e b ≡ cond (ltb e a) false (ltb e b)
-  range_from h = sym (ap (λ t. cond t false (ltb e b)) (le-ltb e a h))
-
   pub range_yes : cond (ltb e a) false (ltb e b) ≡ true → (a ≤ e) × (e < b)
   range_yes h = go (ltb e a) (ltb e b) (nltb→le e a) (ltb→lt e b) h
     where

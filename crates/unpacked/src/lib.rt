@@ -17,33 +17,36 @@ pub const LARGEST_EXPONENT: u32 = BIAS + 253;
 // The exponent of none. A sum with none has an exponent near it, a product with none a larger one than any product of two numbers.
 pub const NONE_EXPONENT: u32 = 2000;
 
+// The least significand above zero in normal form: 2^23.
+const LEAST_SIGNIFICAND: i64 = 0x80_0000;
+
 // The significand of none, which makes it a negative value in normal form.
-pub const NONE_SIGNIFICAND: i64 = -0x80_0000;
+pub const NONE_SIGNIFICAND: i64 = -LEAST_SIGNIFICAND;
 
 // A number, sig × 2^(exp - BIAS) units, with |sig| from 2^23 to 2^24, or zero; or none, which stands for an overflow or a pattern with exponent field 255.
 // None is a negative value far below all numbers, so that a sum with it is far below all numbers too.
-#[derive(Clone, Copy)]
+#[derive(Clone, Copy, Debug, PartialEq, Eq)]
 pub struct Number {
     pub sig: i64,
     pub exp: u32,
 }
 
 // The sum of two numbers before it is rounded: w × 2^(exp - 436) units. 436 is BIAS + 36, since w has 36 guard bits.
-#[derive(Clone, Copy)]
+#[derive(Clone, Copy, Debug, PartialEq, Eq)]
 pub struct Aligned {
     pub w: i64,
     pub exp: u32,
 }
 
 // The exact product of two numbers: sig × 2^(exp - 950) units, with |sig| from 2^47 to 2^48, or zero.
-#[derive(Clone, Copy)]
+#[derive(Clone, Copy, Debug, PartialEq, Eq)]
 pub struct Product {
     pub sig: i64,
     pub exp: u32,
 }
 
 // An exact product and its rank: an integer made of exponent and significand, such that ranks are ordered as the products are.
-#[derive(Clone, Copy)]
+#[derive(Clone, Copy, Debug, PartialEq, Eq)]
 pub struct Corner {
     pub product: Product,
     pub rank: i64,
@@ -67,13 +70,13 @@ pub fn none() -> Number
     }
 }
 
-// -2^-125, which is -2^23 × 2^1 units: what method 3 adds to a radius, negated. 401 is BIAS + 1.
+// -2^-125, which is -2^23 × 2^1 units: what method 3 adds to a radius, negated.
 pub fn minus_tiny() -> Number
     ensures { result ≡ minus_tiny }
 {
     Number {
-        sig: -0x80_0000,
-        exp: 401,
+        sig: -LEAST_SIGNIFICAND,
+        exp: BIAS + 1,
     }
 }
 

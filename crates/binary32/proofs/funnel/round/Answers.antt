@@ -8,8 +8,8 @@ use Rattle.binary32.proofs.funnel.round.Goals as goal
 pub pattern-requires : goal.pattern-requires
 pattern-requires g c = (g.met.D.Direction.laws.few _ _ c.cut.ensures, c.cut.ensures.low)
 
-pub returns-in-Value : goal.returns-in-Value
-returns-in-Value g c =
+pub returns-in-Some : goal.returns-in-Some
+returns-in-Some g c =
     let d = g.D.Direction in
-    let small : Small c.in-Value.x.sig c.in-Value.x.exp = rw c.in-Value.is at c.requires in
-    rw c.in-Value.is (c.pattern.ensures ∙ g.met.D.Direction.laws.cuts _ _ c.cut.ensures ∙ gives d.way (hold d.NONE) c.in-Value.x small)
+    let small : Small c.in-Some.x.sig c.in-Some.x.exp = rw c.in-Some.is at c.requires in
+    rw c.in-Some.is (c.pattern.ensures ∙ g.met.D.Direction.laws.cuts _ _ c.cut.ensures ∙ gives d.way (hold d.NONE) c.in-Some.x small)
