@@ -53,14 +53,23 @@ pub fn wear_fault(kind: Kind, wear: u32) -> u8
     }
 }
 
-// The amount of a wear without fault: that of its class, or itself.
-#[tactic(auto, using(crate::proofs::CellAmounts::class_tells), unfolding(crate::specs::Amount::wear_amount))]
-pub fn wear_amount(kind: Kind, amounts: &[u32; 8], wear: u32) -> u32
-    requires { wear_fault kind wear ≡ 0 }
-    ensures { result ≡ wear_amount kind amounts.now wear }
-{
-    match kind {
-        Kind::Classes => amounts[wear as usize],
-        Kind::Amounts => wear,
+// What a read holds the wear of a cell against: the kind of the sheet, and the amounts of the eight wear classes.
+#[derive(Clone, Copy)]
+pub struct Rule<'a> {
+    pub kind: Kind,
+    pub amounts: &'a [u32; 8],
+}
+
+impl<'a> Rule<'a> {
+    // The amount of a wear without fault: that of its class, or itself.
+    #[tactic(auto, using(crate::proofs::CellAmounts::class_tells), unfolding(crate::specs::Amount::wear_amount))]
+    pub fn amount(self, wear: u32) -> u32
+        requires { wear_fault self.kind wear ≡ 0 }
+        ensures { result ≡ wear_amount self.entry.kind self.entry.amounts.now wear }
+    {
+        match self.kind {
+            Kind::Classes => self.amounts[wear as usize],
+            Kind::Amounts => wear,
+        }
     }
 }

@@ -14,7 +14,7 @@ use Rattle.sheets.proofs.Walking.{walk_end, walk_turn, visit_past, turn_refused,
 use Rattle.sheets.proofs.chain.follow.Goals as goal
 
 pub loop-index-init : goal.loop-index-init
-loop-index-init c = (c.args.rows * c.args.columns + 1, omega arith, omega arith, refl)
+loop-index-init c = (c.args.sizes.rows * c.args.sizes.columns + 1, omega arith, omega arith, refl)
 
 pub returns-then-index-s : goal.returns-then-index-s
 returns-then-index-s c =
@@ -37,7 +37,7 @@ overflow_mul-least c =
     let a = c.args in
     let h = c.loop-index in
     let j =
-    turned (cell_amount a.kind a.amounts.now) a.s.now a.rows a.columns h.invariant.0 h.index h.least _ _ (omega arith, omega arith, omega arith, omega arith) (omega arith) (omega arith) c.record_at-r.ensures
+    turned (cell_amount a.rule.kind a.rule.amounts.now) a.s.now a.sizes.rows a.sizes.columns h.invariant.0 h.index h.least _ _ (omega arith, omega arith, omega arith, omega arith) (omega arith) (omega arith) c.record_at-r.ensures
     c.judge.ensures c.in_ok-judge.was in
     omega arith
 
@@ -46,7 +46,7 @@ overflow_add-least c =
     let a = c.args in
     let h = c.loop-index in
     let j =
-    turned (cell_amount a.kind a.amounts.now) a.s.now a.rows a.columns h.invariant.0 h.index h.least _ _ (omega arith, omega arith, omega arith, omega arith) (omega arith) (omega arith) c.record_at-r.ensures
+    turned (cell_amount a.rule.kind a.rule.amounts.now) a.s.now a.sizes.rows a.sizes.columns h.invariant.0 h.index h.least _ _ (omega arith, omega arith, omega arith, omega arith) (omega arith) (omega arith) c.record_at-r.ensures
     c.judge.ensures c.in_ok-judge.was in
     omega arith
 
@@ -55,7 +55,7 @@ overflow_add-least-in-loop-index c =
     let a = c.args in
     let h = c.loop-index in
     let j =
-    turned (cell_amount a.kind a.amounts.now) a.s.now a.rows a.columns h.invariant.0 h.index h.least _ _ (omega arith, omega arith, omega arith, omega arith) (omega arith) (omega arith) c.record_at-r.ensures
+    turned (cell_amount a.rule.kind a.rule.amounts.now) a.s.now a.sizes.rows a.sizes.columns h.invariant.0 h.index h.least _ _ (omega arith, omega arith, omega arith, omega arith) (omega arith) (omega arith) c.record_at-r.ensures
     c.judge.ensures c.in_ok-judge.was in
     omega arith
 
@@ -64,7 +64,7 @@ loop-index-smaller c =
     let a = c.args in
     let h = c.loop-index in
     let j =
-    turned (cell_amount a.kind a.amounts.now) a.s.now a.rows a.columns h.invariant.0 h.index h.least _ _ (omega arith, omega arith, omega arith, omega arith) (omega arith) (omega arith) c.record_at-r.ensures
+    turned (cell_amount a.rule.kind a.rule.amounts.now) a.s.now a.sizes.rows a.sizes.columns h.invariant.0 h.index h.least _ _ (omega arith, omega arith, omega arith, omega arith) (omega arith) (omega arith) c.record_at-r.ensures
     c.judge.ensures c.in_ok-judge.was in
     omega arith
 
@@ -73,7 +73,7 @@ loop-index-preserved c =
     let a = c.args in
     let h = c.loop-index in
     let j =
-    turned (cell_amount a.kind a.amounts.now) a.s.now a.rows a.columns h.invariant.0 h.index h.least _ _ (omega arith, omega arith, omega arith, omega arith) (omega arith) (omega arith) c.record_at-r.ensures
+    turned (cell_amount a.rule.kind a.rule.amounts.now) a.s.now a.sizes.rows a.sizes.columns h.invariant.0 h.index h.least _ _ (omega arith, omega arith, omega arith, omega arith) (omega arith) (omega arith) c.record_at-r.ensures
     c.judge.ensures c.in_ok-judge.was in
     (h.invariant.0 - 1, omega arith, omega arith, h.invariant.3 ∙ j.3)
 

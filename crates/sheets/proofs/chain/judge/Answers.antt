@@ -42,12 +42,12 @@ returns-then-column-columns c =
 pub overflow_mul-position : goal.overflow_mul-position
 overflow_mul-position c =
     let a = c.args in
-    omega (arith, digits_lt c.if-row-rows.false c.if-column-columns.false, small a.rows a.columns (omega arith) (omega arith))
+    omega (arith, digits_lt c.if-row-rows.false c.if-column-columns.false, small a.sizes.rows a.sizes.columns (omega arith) (omega arith))
 
 pub overflow_add-position : goal.overflow_add-position
 overflow_add-position c =
     let a = c.args in
-    omega (arith, digits_lt c.if-row-rows.false c.if-column-columns.false, small a.rows a.columns (omega arith) (omega arith))
+    omega (arith, digits_lt c.if-row-rows.false c.if-column-columns.false, small a.sizes.rows a.sizes.columns (omega arith) (omega arith))
 
 pub returns-then-position-least : goal.returns-then-position-least
 returns-then-position-least c =
@@ -68,21 +68,21 @@ pub returns-then-fault-eq6 : goal.returns-then-fault-eq6
 returns-then-fault-eq6 c =
     let a = c.args in
     ap refuses c.of_matrix-then-fault-eq6.ensures
-    ∙ amounted a.kind a.amounts.now a.rows a.columns a.least a.r c.if-row-rows.false c.if-column-columns.false c.if-position-least.false _ (amount_unnamed _ _ _ _ c.wear_fault-fault.ensures c.if-fault-eq6.true)
+    ∙ amounted a.rule.kind a.rule.amounts.now a.sizes.rows a.sizes.columns a.least a.r c.if-row-rows.false c.if-column-columns.false c.if-position-least.false _ (amount_unnamed _ _ _ _ c.wear_fault-fault.ensures c.if-fault-eq6.true)
 
 pub returns-then-fault-ne0 : goal.returns-then-fault-ne0
 returns-then-fault-ne0 c =
     let a = c.args in
     ap refuses c.of_cell.ensures
-    ∙ amounted a.kind a.amounts.now a.rows a.columns a.least a.r c.if-row-rows.false c.if-column-columns.false c.if-position-least.false _ (amount_named _ _ _ _ c.wear_fault-fault.ensures c.if-fault-eq6.false c.if-fault-ne0.true)
+    ∙ amounted a.rule.kind a.rule.amounts.now a.sizes.rows a.sizes.columns a.least a.r c.if-row-rows.false c.if-column-columns.false c.if-position-least.false _ (amount_named _ _ _ _ c.wear_fault-fault.ensures c.if-fault-eq6.false c.if-fault-ne0.true)
 
-pub wear_amount-requires : goal.wear_amount-requires
-wear_amount-requires c = sym c.wear_fault-fault.ensures ∙ c.if-fault-ne0.false
+pub amount-requires : goal.amount-requires
+amount-requires c = sym c.wear_fault-fault.ensures ∙ c.if-fault-ne0.false
 
 pub returns : goal.returns
 returns c =
     let a = c.args in
     let e : c.map_err.result ≡ placing a.r.row a.r.column c.check_worn.result = search rules in
     e
-    ∙ worn a.kind a.amounts.now a.rows a.columns a.least a.r c.if-row-rows.false c.if-column-columns.false c.if-position-least.false _ _
-    (ap gives c.wear_amount.ensures ∙ amount_given _ _ _ (sym c.wear_fault-fault.ensures ∙ c.if-fault-ne0.false)) c.check_worn.ensures
+    ∙ worn a.rule.kind a.rule.amounts.now a.sizes.rows a.sizes.columns a.least a.r c.if-row-rows.false c.if-column-columns.false c.if-position-least.false _ _
+    (ap gives c.amount.ensures ∙ amount_given _ _ _ (sym c.wear_fault-fault.ensures ∙ c.if-fault-ne0.false)) c.check_worn.ensures
