@@ -30,10 +30,7 @@ impl Kind {
 fn is_below_zero(p: u32) -> bool
     ensures { result ≡ below_zero p }
 {
-    if p <= Binary32::SIGN {
-        return false;
-    }
-    is_finite(p)
+    p > Binary32::SIGN && is_finite(p)
 }
 
 // The fault of a cell's wear, or 0: in a class sheet 6, one of bytes 13 to 15 is not zero, and 10, the class is above 7; in an amount sheet 14, the

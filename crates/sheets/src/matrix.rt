@@ -57,17 +57,13 @@ pub fn fill(
     let mut least = 0;
     // A chain: no sequence to go over.
     while index != 0 {
-        match passed(rule, sizes.columns, record_at(s, index)) {
-            Ok(c) => {
-                let position = c.position;
-                lowers[position] = c.lower;
-                uppers[position] = c.upper;
-                index = c.next;
-                least = position + 1;
-            }
-            Err(_) => {
-                return;
-            }
-        }
+        let Ok(c) = passed(rule, sizes.columns, record_at(s, index)) else {
+            return;
+        };
+        let position = c.position;
+        lowers[position] = c.lower;
+        uppers[position] = c.upper;
+        index = c.next;
+        least = position + 1;
     }
 }

@@ -16,6 +16,7 @@ use Rattle.sheets.specs.Reading.{cell_lower, cell_upper}
 use Rattle.sheets.proofs.CellAmounts.{amount_given, amount_tells}
 use Rattle.sheets.proofs.Walking.{Passing, walk_passing, visit_passing, visit_position, walk_end, walk_turn}
 use Rattle.sheets.proofs.Putting.{put_none, put_more}
+use Rattle.sheets.proofs.matrix.fill.Goals.{In-Ok}
 use Rattle.sheets.proofs.matrix.fill.Goals as goal
 
 pub loop-index-init : goal.loop-index-init
@@ -64,7 +65,7 @@ passed-requires c =
     let e = c.record_at.ensures in
     (omega arith, rw e (omega (arith, p.row)), rw e (omega (arith, p.column)), f.0, f.1)
 
-turn : (c : goal.In-Ok) →
+turn : (c : In-Ok) →
     let a = c.args in
     let h = c.loop-index in
     let x = c.in-Ok.c in
@@ -108,11 +109,11 @@ loop-index-preserved c =
       put_more cell_upper _ _ _ _ j.3 ∙ h.invariant.7,
     )
 
-pub returns-in-Err : goal.returns-in-Err
-returns-in-Err c =
+pub returns-in_default : goal.returns-in_default
+returns-in_default c =
     let a = c.args in
     let h = c.loop-index in
-    let w = walk_turn _ _ _ _ h.invariant.0 (h.invariant.0 - 1) _ _ (omega arith) (omega arith) (refuses _) (visited a.rule.kind a.rule.amounts.now a.s.now a.sizes.rows a.sizes.columns h.invariant.0 h.index h.least (omega arith, omega arith) (omega arith) h.invariant.5 _ c.record_at.ensures _ _ c.passed.ensures c.in-Err.is) in
+    let w = walk_turn _ _ _ _ h.invariant.0 (h.invariant.0 - 1) _ _ (omega arith) (omega arith) (refuses _) (visited a.rule.kind a.rule.amounts.now a.s.now a.sizes.rows a.sizes.columns h.invariant.0 h.index h.least (omega arith, omega arith) (omega arith) h.invariant.5 _ c.record_at.ensures _ _ c.passed.ensures c.in_default.is) in
     (sym (put_none cell_lower _ _ _ w) ∙ h.invariant.6, sym (put_none cell_upper _ _ _ w) ∙ h.invariant.7)
 
 pub returns : goal.returns
