@@ -39,16 +39,6 @@ pub returns-then-column-columns : goal.returns-then-column-columns
 returns-then-column-columns c =
     ap refuses c.of_matrix-then-column-columns.ensures ∙ ap verdict (judge_by _ _ _ _ _ false true _ (lt-leb _ _ c.if-row-rows.false) (le-leb _ _ c.if-column-columns.true) refl)
 
-pub overflow_mul-position : goal.overflow_mul-position
-overflow_mul-position c =
-    let a = c.args in
-    omega (arith, digits_lt c.if-row-rows.false c.if-column-columns.false, small a.sizes.rows a.sizes.columns (omega arith) (omega arith))
-
-pub overflow_add-position : goal.overflow_add-position
-overflow_add-position c =
-    let a = c.args in
-    omega (arith, digits_lt c.if-row-rows.false c.if-column-columns.false, small a.sizes.rows a.sizes.columns (omega arith) (omega arith))
-
 pub returns-then-position-least : goal.returns-then-position-least
 returns-then-position-least c =
     ap refuses c.of_matrix-then-position-least.ensures
@@ -75,9 +65,6 @@ returns-then-fault-ne0 c =
     let a = c.args in
     ap refuses c.of_cell.ensures
     ∙ amounted a.rule.kind a.rule.amounts.now a.sizes.rows a.sizes.columns a.least a.r c.if-row-rows.false c.if-column-columns.false c.if-position-least.false _ (amount_named _ _ _ _ c.wear_fault-fault.ensures c.if-fault-eq6.false c.if-fault-ne0.true)
-
-pub amount-requires : goal.amount-requires
-amount-requires c = sym c.wear_fault-fault.ensures ∙ c.if-fault-ne0.false
 
 pub returns : goal.returns
 returns c =

@@ -19,10 +19,6 @@ use Rattle.sheets.proofs.Putting.{put_none, put_more}
 use Rattle.sheets.proofs.matrix.fill.Goals.{In-Ok}
 use Rattle.sheets.proofs.matrix.fill.Goals as goal
 
-pub loop-index-init : goal.loop-index-init
-loop-index-init c =
-    (c.args.sizes.rows * c.args.sizes.columns + 1, omega arith, omega arith, refl, refl, c.requires.5, refl, refl)
-
 module _ (kind : Kind) (amounts s : List ℕ) (rows columns t index least : ℕ) (b : (rows * columns < t + least) × (least ≤ rows * columns)) (n : index ≡ 0 → ⊥)
     (v : (walk (cell_amount kind amounts) s rows columns t index least).verdict ≡ done) where
   -- the record at the index passes

@@ -6,9 +6,6 @@ use lib.ListN.{length}
 use Rattle.sheets.proofs.Fronts.{put_ends}
 use Rattle.sheets.proofs.records.put_record.Goals as goal
 
-pub loop-j-init : goal.loop-j-init
-loop-j-init c = paste-zero c.args.out.now c.args.at c.bytes-bytes.result
-
 pub loop-j-preserved : goal.loop-j-preserved
 loop-j-preserved c =
     let h = c.loop-j in
