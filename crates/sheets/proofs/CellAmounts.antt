@@ -17,7 +17,6 @@ use Rattle.binary32.proofs.Orders.{key_order}
 use Rattle.sheets.specs.declared.amount.Kind.{Kind}
 use Rattle.sheets.specs.declared.amount.Kind.TheVariants.{Classes, Amounts}
 use Rattle.sheets.specs.declared.layout.Record.{Record}
-use Rattle.sheets.specs.Wear.{amount_in}
 use Rattle.sheets.specs.Amount.{below_zero, wear_fault, wear_amount, wear_refusal, cell_amount}
 
 -- ---- a number below zero: a pattern above that of minus zero

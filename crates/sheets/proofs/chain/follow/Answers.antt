@@ -8,7 +8,6 @@ use Rattle.refusals.specs.Answer.{Answer, refuses, done, then}
 use Rattle.refusals.proofs.SizeLaws.{small}
 use Rattle.sheets.specs.declared.layout.Record.{Record}
 use Rattle.sheets.specs.Layout.{record_of, count_of}
-use Rattle.sheets.specs.Amount.{cell_amount}
 use Rattle.sheets.specs.Chain.{position_of, judge_of, Walk, walk}
 use Rattle.sheets.proofs.Walking.{walk_end, walk_turn, visit_past, turn_refused, turn_passed}
 use Rattle.sheets.proofs.chain.follow.Goals as goal

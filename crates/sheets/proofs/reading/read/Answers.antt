@@ -1,7 +1,6 @@
 -- `reading::read` meets its contract.
 use mathlib.Core.Path.{sym, ap, ◌∙◌}
 use native.Mathlib.Omega.{arith}
-use Rattle.refusals.proofs.SizeLaws.{small}
 use Rattle.sheets.specs.Chain.{Walk}
 use Rattle.sheets.specs.Reading.{cell_lower, cell_upper}
 use Rattle.sheets.proofs.Frames.{framed_tells}

@@ -1,7 +1,7 @@
-use mathlib.Core.Path.{◌≡◌, refl, ap, ◌∙◌}
+use mathlib.Core.Path.{◌≡◌, refl, ap}
 use native.Mathlib.Numerals.{add-one}
 use native.Mathlib.Omega.{arith}
-use lib.Seq.{paste-zero, paste-suc}
+use lib.Seq.{paste-suc}
 use lib.ListN.{length}
 use Rattle.sheets.proofs.Fronts.{put_ends}
 use Rattle.sheets.proofs.records.put_record.Goals as goal

@@ -3,7 +3,6 @@ use Prim.Native.Nat.{ℕ, ◌+◌, ◌≤◌}
 use native.Mathlib.Omega.{arith}
 use mathlib.Core.Bool.{cond}
 use Rattle.refusals.specs.Answer.{gives, refuses}
-use Rattle.sheets.proofs.Counting.{div_lt, mod_lt}
 use Rattle.sheets.proofs.Scanning.{scan_none, scan_counted, scan_faulty}
 use Rattle.sheets.proofs.tally.scan.Goals.{then-is_some, else-is_some}
 use Rattle.sheets.proofs.tally.scan.Goals as goal
