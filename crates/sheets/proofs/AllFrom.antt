@@ -18,15 +18,6 @@ both true b c e = e
 both false b c e = refl
 
 module _ (test : ℕ → Bool) where
-  pub all_end : (i n : ℕ) → n ≡ 0 → true ≡ all_from test i n
-  unfolding all_from
-  all_end i n e = rw e
-
-  -- by whether place i passes
-  pub all_by : (i n m : ℕ) (t : Bool) → n ≡ suc m → test i ≡ t → cond t (all_from test (i + 1) m) false ≡ all_from test i n
-  unfolding all_from
-  all_by i n m t e f = rw (e, f)
-
   pub all_tells : (n i : ℕ) → all_from test i n ≡ true → (j : ℕ) → i ≤ j → j < i + n → test j ≡ true
   unfolding all_from
   all_tells zero i t j h k = absurd (omega arith)

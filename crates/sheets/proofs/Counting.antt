@@ -1,14 +1,14 @@
 -- Laws of the cells' records, one cell after the other. Assumes nothing.
-use mathlib.Core.Path.{◌≡◌, refl, sym, ap, subst, ◌∙◌}
+use mathlib.Core.Path.{◌≡◌, refl, sym, subst}
 use mathlib.Core.List.{List, ◌++◌, append_assoc, append-nil}
 use Prim.Native.Nat.{ℕ, zero, suc, ◌+◌, ◌-◌, ◌*◌, ◌/◌, ◌%◌, ◌≤◌, ◌<◌}
 use native.Mathlib.Nat.{add-zero, add-suc, div-lt_iff_lt-mul}
 use native.Mathlib.Numerals.{add-one}
 use native.Mathlib.Omega.{arith}
-use lib.ListN.{length, take, drop, length-append}
+use lib.ListN.{length, take, length-append}
 use Rattle.sheets.specs.Sheet.{over, cell_at, tally, count_to, next_of, cell_bytes, records_to}
 use Rattle.sheets.proofs.CellBytes.{tally_le, cell_length}
-use Rattle.sheets.proofs.Fronts.{Front, front_more, front_is}
+use Rattle.sheets.proofs.Fronts.{Front, front_more}
 
 module _ (lo up : List ℕ) where
   pub count_none : 0 ≡ count_to lo up 0
@@ -57,13 +57,6 @@ module _ (columns total : ℕ) (lo up : List ℕ) where
   pub start : (out : List ℕ) → Front (16 * (0 + 1)) (take 16 out ++ records_to columns total lo up 0) out out
   unfolding records_to
   start out = record { long = refl; front = sym (append-nil (take 16 out)); rest = refl }
-
-  -- all records are written
-  pub cells_end : (p cells k : ℕ) (d out : List ℕ) → p ≡ cells → k ≡ count_to lo up p → total ≡ count_to lo up cells
-      → Front (16 * (k + 1)) (take 16 d ++ records_to columns total lo up p) d out → out ≡ take 16 d ++ records_to columns total lo up cells ++ drop (16 * (total + 1)) d
-  cells_end p cells k d out e f g w =
-      let s : k ≡ total = f ∙ ap (count_to lo up) e ∙ sym g in
-      front_is (16 * (k + 1)) _ d out w ∙ rw (s, e)
 
 pub div_lt : (p c m : ℕ) → 0 < c → p < m * c → p / c < m
 div_lt p c m h k = (div-lt_iff_lt-mul h).1 k

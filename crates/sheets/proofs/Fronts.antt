@@ -3,7 +3,7 @@ use mathlib.Core.Path.{◌≡◌, sym, ◌∙◌}
 use mathlib.Core.List.{List, ◌++◌}
 use Prim.Native.Nat.{ℕ, ◌+◌, ◌≤◌}
 use native.Mathlib.Omega.{arith}
-use lib.ListN.{length, take, drop, length-append, length-drop, take-append-drop}
+use lib.ListN.{length, take, drop, length-append, length-drop}
 use lib.Seq.{paste, take_at, drop_at, drop-drop, length-take-le, take_all}
 use Rattle.sheets.specs.Sheet.{over}
 
@@ -30,9 +30,6 @@ front_more m f d out b h w =
       rest = drop_at (take m out ++ b) (drop (m + length b) out) (m + length b) k
           ∙ sym (drop-drop (length b) m out) ∙ rw w.rest (drop-drop (length b) m d);
     }
-
-pub front_is : (m : ℕ) (f d out : List ℕ) → Front m f d out → out ≡ f ++ drop m d
-front_is m f d out w = sym (take-append-drop m out) ∙ rw (w.front, w.rest)
 
 -- the loop that puts sixteen bytes in, at its end
 pub put_ends : (d out b b' : List ℕ) (at j : ℕ) → out ≡ paste d at b j → j ≡ 16 → b ≡ b' → length b' ≡ 16 → out ≡ over at b' d

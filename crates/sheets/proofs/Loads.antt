@@ -1,20 +1,18 @@
 -- Laws of a load: the test of its first amount, the amounts that the code gives, and what a read with it tells. Assumes nothing.
 use mathlib.Core.Path.{◌≡◌, sym, ap, ◌∙◌}
-use mathlib.Core.Bool.{Bool, false, cond}
 use mathlib.Core.List.{List}
-use Prim.Native.Nat.{ℕ, ◌+◌, ◌≤◌}
+use Prim.Native.Nat.{ℕ, ◌+◌}
 use native.Mathlib.Omega.{arith}
 use lib.ListN.{length}
 use lib.Seq.{take_all}
-use lib.Dec.{eqb}
 use Rattle.refusals.specs.declared.reason.Reason.{Reason}
 use Rattle.refusals.specs.Answer.{Judged, gives, refuses, done, refuse, unplaced, and_then}
 use Rattle.refusals.proofs.Answers.{gives_injective, next_tells, then_tells, placed_tells}
 use Rattle.std.specs.List.{list_all, range_with_len}
 use Rattle.binary32.specs.Number.{finite}
-use Rattle.binary32.specs.Order.{magnitude_of, at_most}
+use Rattle.binary32.specs.Order.{at_most}
 use Rattle.sheets.specs.Wear.{amount_in}
-use Rattle.sheets.specs.Load.{patterns_of, all_finite, rising, ascending, load_fault, load_of}
+use Rattle.sheets.specs.Load.{patterns_of, all_finite, rising, load_fault, load_of}
 use Rattle.sheets.specs.Reading.{sizes, read_by, read_with}
 use Rattle.sheets.proofs.AllFrom.{all_ranged, all_listed}
 use Rattle.sheets.proofs.Answers.{Accepted, accepted_by}
@@ -28,11 +26,6 @@ finite_listed amounts h =
 pub rising_ranged : (amounts : List ℕ) → list_all (λ c. at_most (amount_in amounts c) (amount_in amounts (c + 1))) (range_with_len 0 7) ≡ rising amounts
 unfolding rising
 rising_ranged amounts = all_ranged (λ c. at_most (amount_in amounts c) (amount_in amounts (c + 1))) 7 0
-
--- by whether the first amount is zero
-pub ascending_by : (amounts : List ℕ) (t : Bool) → eqb (magnitude_of (amount_in amounts 0)) 0 ≡ t → cond t (rising amounts) false ≡ ascending amounts
-unfolding ascending
-ascending_by amounts t e = rw e
 
 -- ---- a load that the code answers with v
 

@@ -2,18 +2,23 @@
 use Rattle.std.specs.Prelude.{cond, List, [], ◌∷◌, ◌++◌, ℕ, zero, suc, ◌+◌, ◌*◌, ◌/◌, ◌%◌, ltb, length, get_or, take, drop, Some, None}
 use Rattle.refusals.specs.Answer.{gives, refuses}
 use Rattle.sheets.specs.declared.amount.Kind.TheVariants.{Amounts}
+use Rattle.sheets.specs.declared.layout.Record.{Record}
 use Rattle.sheets.specs.Kind.{byte_of}
 use Rattle.sheets.specs.Cell.{HandedIn, handed_of}
 
 -- ---- bytes
 
--- the record of a cell: next index, row, column, lower and upper bound, and the amount zero
+-- the bytes of a record, as `record_of` reads them (Layout)
+abbrev pub bytes_of : Record → List ℕ
+bytes_of r =
+    r.next % 256 ∷ r.next / 256 % 256 ∷ r.row ∷ r.column
+    ∷ r.lower % 256 ∷ r.lower / 256 % 256 ∷ r.lower / 65536 % 256 ∷ r.lower / 16777216 % 256
+    ∷ r.upper % 256 ∷ r.upper / 256 % 256 ∷ r.upper / 65536 % 256 ∷ r.upper / 16777216 % 256
+    ∷ r.wear % 256 ∷ r.wear / 256 % 256 ∷ r.wear / 65536 % 256 ∷ r.wear / 16777216 % 256 ∷ []
+
+-- the record of a cell that is written: next index, row, column, lower and upper bound, and the amount zero
 unfoldable pub record_bytes : ℕ → ℕ → ℕ → ℕ → ℕ → List ℕ
-record_bytes n r c l u =
-    n % 256 ∷ n / 256 % 256 ∷ r ∷ c
-    ∷ l % 256 ∷ l / 256 % 256 ∷ l / 65536 % 256 ∷ l / 16777216 % 256
-    ∷ u % 256 ∷ u / 256 % 256 ∷ u / 65536 % 256 ∷ u / 16777216 % 256
-    ∷ 0 ∷ 0 ∷ 0 ∷ 0 ∷ []
+record_bytes n r c l u = bytes_of (record { next = n; row = r; column = c; lower = l; upper = u; wear = 0 })
 
 -- the head, in the same form: index of the first cell, rows, columns, number of records in bytes 4 and 5, the byte of its kind in byte 6, then zeros
 abbrev pub head_bytes : ℕ → ℕ → ℕ → ℕ → List ℕ

@@ -34,10 +34,7 @@ impl Kind {
 fn is_below_zero(p: u32) -> bool
     ensures { result ≡ below_zero p }
 {
-    if p <= Binary32::SIGN {
-        return false;
-    }
-    is_finite(p)
+    p > Binary32::SIGN && is_finite(p)
 }
 
 // The check of a record's wear. In a class sheet: 6, one of bytes 13 to 15 is not zero; 10, the class is above 7. In an amount sheet: 14, the amount is
@@ -68,14 +65,23 @@ pub fn check_wear(kind: Kind, r: Record) -> Result<(), Refusal>
     }
 }
 
-// The amount of a record whose wear passes: that of its class, or itself.
-#[tactic(auto, using(crate::proofs::CellAmounts::class_tells), unfolding(crate::specs::Amount::wear_amount))]
-pub fn wear_amount(kind: Kind, amounts: &[u32; 8], r: Record) -> u32
-    requires { check_wear kind r ≡ done }
-    ensures { result ≡ wear_amount kind amounts.now r.wear }
-{
-    match kind {
-        Kind::Classes => amounts[r.wear as usize],
-        Kind::Amounts => r.wear,
+// What a read holds the wear of a cell against: the kind of the sheet, and the amounts of the eight wear classes.
+#[derive(Clone, Copy)]
+pub struct Rule<'a> {
+    pub kind: Kind,
+    pub amounts: &'a [u32; 8],
+}
+
+impl<'a> Rule<'a> {
+    // The amount of a record whose wear passes: that of its class, or itself.
+    #[tactic(auto, using(crate::proofs::CellAmounts::class_tells), unfolding(crate::specs::Amount::wear_amount))]
+    pub fn amount(self, r: Record) -> u32
+        requires { check_wear self.kind r ≡ done }
+        ensures { result ≡ wear_amount self.entry.kind self.entry.amounts.now r.wear }
+    {
+        match self.kind {
+            Kind::Classes => self.amounts[r.wear as usize],
+            Kind::Amounts => r.wear,
+        }
     }
 }

@@ -23,10 +23,7 @@ fn canonical(p: u32) -> u32
 fn is_zero(a: u32, b: u32) -> bool
     ensures { result ≡ both_zero a b }
 {
-    if a != 0 {
-        return false;
-    }
-    b == 0
+    a == 0 && b == 0
 }
 
 // Checks a cell that is to be written: None for [0, 0], which gets no record; else its bounds, with minus zero replaced by 0; or its fault.

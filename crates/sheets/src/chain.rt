@@ -1,12 +1,12 @@
-// Follows the chain of a sheet's cells and checks each record: 7, 8, then 6 and 10 in a class sheet or 14 in an amount sheet, then 3, 4, 5. `kind` is that
-// of the sheet, and `amounts` are the eight wear amounts that the read is held against. Writes nothing.
+// Follows the chain of a sheet's cells and checks each record: 7, 8, then 6 and 10 in a class sheet or 14 in an amount sheet, then 3, 4, 5. Writes nothing.
 ghost use Rattle.std.specs.Prelude.{◌≡◌, ◌+◌, ◌*◌, ◌≤◌, length};
 ghost use Rattle.refusals.specs.Answer.{done, then};
 ghost use Rattle.sheets.specs.Layout.{count_of};
 ghost use Rattle.sheets.specs.Amount.{cell_amount};
 ghost use Rattle.sheets.specs.Chain.{judge_of, walk_all};
 
-use crate::amount::{Kind, check_wear, wear_amount};
+use crate::Sizes;
+use crate::amount::{Rule, check_wear};
 use crate::layout::{Record, record_at};
 use crate::worn::check_worn;
 use refusals::Refusal;
@@ -22,17 +22,11 @@ pub struct Cell {
 }
 
 // Checks one record of the chain. Its position must be `least` or more, one past that of the cell before it.
-fn judge(
-    kind: Kind,
-    amounts: &[u32; 8],
-    rows: usize,
-    columns: usize,
-    least: usize,
-    r: Record,
-) -> Result<(), Refusal>
-    requires { (rows ≤ 32) × (columns ≤ 32) }
-    ensures { result ≡ then (judge_of (cell_amount kind amounts.now) rows columns least r) done }
+fn judge(rule: Rule, sizes: Sizes, least: usize, r: Record) -> Result<(), Refusal>
+    requires { (sizes.rows ≤ 32) × (sizes.columns ≤ 32) }
+    ensures { result ≡ then (judge_of (cell_amount rule.entry.kind rule.entry.amounts.now) sizes.rows sizes.columns least r) done }
 {
+    let Sizes { rows, columns } = sizes;
     let row = r.row;
     let column = r.column;
     if row >= rows {
@@ -47,21 +41,14 @@ fn judge(
     }
     let i = row as u8;
     let j = column as u8;
-    check_wear(kind, r)?;
-    check_worn(r.lower, r.upper, wear_amount(kind, amounts, r)).map_err(|reason| Refusal::of_cell(reason, 0, i, j))
+    check_wear(rule.kind, r)?;
+    check_worn(r.lower, r.upper, rule.amount(r)).map_err(|reason| Refusal::of_cell(reason, 0, i, j))
 }
 
 // Checks the whole chain, whose first record has the index `first`. Index 0 ends the chain.
-pub fn follow(
-    kind: Kind,
-    amounts: &[u32; 8],
-    s: &[u8],
-    rows: usize,
-    columns: usize,
-    first: usize,
-) -> Result<(), Refusal>
-    requires { (rows ≤ 32) × (columns ≤ 32) × (16 * count_of s.now ≡ length s.now) }
-    ensures { result ≡ (walk_all (cell_amount kind amounts.now) s.now rows columns first).verdict }
+pub fn follow(rule: Rule, s: &[u8], sizes: Sizes, first: usize) -> Result<(), Refusal>
+    requires { (sizes.rows ≤ 32) × (sizes.columns ≤ 32) × (16 * count_of s.now ≡ length s.now) }
+    ensures { result ≡ (walk_all (cell_amount rule.entry.kind rule.entry.amounts.now) s.now sizes.rows sizes.columns first).verdict }
 {
     let mut index = first;
     let mut least = 0;
@@ -71,9 +58,9 @@ pub fn follow(
             return Err(Refusal::of_matrix(Reason::Outside, 0));
         }
         let r = record_at(s, index);
-        judge(kind, amounts, rows, columns, least, r)?;
+        judge(rule, sizes, least, r)?;
         index = r.next;
-        least = r.row * columns + r.column + 1;
+        least = r.row * sizes.columns + r.column + 1;
     }
     Ok(())
 }

@@ -2,6 +2,7 @@
 ghost use Rattle.std.specs.Prelude.{◌≡◌, ◌+◌, ◌*◌, ◌≤◌, ◌<◌, length, get_or};
 ghost use Rattle.sheets.specs.Kind.{kind_of};
 ghost use Rattle.sheets.specs.Layout.{u16_at, u32_at, blank, record_of, framed};
+ghost use Rattle.sheets.specs.Sheet.{bytes_of};
 
 use crate::amount::Kind;
 
@@ -14,6 +15,22 @@ pub struct Record {
     pub lower: u32,
     pub upper: u32,
     pub wear: u32,
+}
+
+impl Record {
+    // Its 16 bytes.
+    pub fn bytes(self) -> [u8; 16]
+        requires { (self.row < 256) × (self.column < 256) }
+        ensures { result ≡ bytes_of self }
+    {
+        let [n0, n1] = ((self.next % 65536) as u16).to_le_bytes();
+        let [l0, l1, l2, l3] = self.lower.to_le_bytes();
+        let [u0, u1, u2, u3] = self.upper.to_le_bytes();
+        let [w0, w1, w2, w3] = self.wear.to_le_bytes();
+        let row = self.row as u8;
+        let column = self.column as u8;
+        [n0, n1, row, column, l0, l1, l2, l3, u0, u1, u2, u3, w0, w1, w2, w3]
+    }
 }
 
 // Byte p of s.

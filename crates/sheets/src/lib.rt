@@ -112,8 +112,6 @@ pub fn write<'a, 'b>(
     ensures part { result.now ≡ front_of rows columns lowers.now uppers.now
         (write_of rows columns lowers.now uppers.now (length out.old)) }
 {
-    match put(rows, columns, lowers, uppers, out) {
-        Ok(n) => &mut out[..n],
-        Err(_) => &mut out[..0],
-    }
+    let n = put(rows, columns, lowers, uppers, out).unwrap_or(0);
+    &mut out[..n]
 }

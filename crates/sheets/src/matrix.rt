@@ -7,7 +7,8 @@ ghost use Rattle.sheets.specs.Cell.{worn_fault};
 ghost use Rattle.sheets.specs.Chain.{worn_cell, walk_all};
 ghost use Rattle.sheets.specs.Reading.{put_in, cell_lower, cell_upper};
 
-use crate::amount::{Kind, wear_amount};
+use crate::Sizes;
+use crate::amount::Rule;
 use crate::cell::widen;
 use crate::chain::Cell;
 use crate::layout::{Record, record_at};
@@ -15,16 +16,16 @@ use refusals::Refusal;
 
 // The cell of a record that passed all checks, widened by its amount.
 #[tactic(auto, using(crate::proofs::Bounding::worn_tells), unfolding(crate::specs::Cell::widened_of))]
-fn passed(kind: Kind, amounts: &[u32; 8], columns: usize, r: Record) -> Result<Cell, Refusal>
-    requires { (columns ≤ 32) × (r.row < 32) × (r.column < 32) × (check_wear kind r ≡ done)
-        × (worn_fault r.lower r.upper (wear_amount kind amounts.now r.wear) ≡ done) }
-    ensures { result ≡ worn_cell columns r (wear_amount kind amounts.now r.wear) }
+fn passed(rule: Rule, columns: usize, r: Record) -> Result<Cell, Refusal>
+    requires { (columns ≤ 32) × (r.row < 32) × (r.column < 32) × (check_wear rule.kind r ≡ done)
+        × (worn_fault r.lower r.upper (wear_amount rule.kind rule.amounts.now r.wear) ≡ done) }
+    ensures { result ≡ worn_cell columns r (wear_amount rule.entry.kind rule.entry.amounts.now r.wear) }
 {
     let row = r.row;
     let column = r.column;
     let i = row as u8;
     let j = column as u8;
-    let (lower, upper) = widen(r.lower, r.upper, wear_amount(kind, amounts, r)).map_err(
+    let (lower, upper) = widen(r.lower, r.upper, rule.amount(r)).map_err(
         |reason| Refusal::of_cell(reason, 0, i, j),
     )?;
     Ok(Cell {
@@ -37,38 +38,32 @@ fn passed(kind: Kind, amounts: &[u32; 8], columns: usize, r: Record) -> Result<C
 
 // Puts the cells of the chain at their positions. The loop ends because positions rise; `least` serves only that proof.
 pub fn fill(
-    kind: Kind,
-    amounts: &[u32; 8],
+    rule: Rule,
     s: &[u8],
-    rows: usize,
-    columns: usize,
+    sizes: Sizes,
     first: usize,
     lowers: &mut [u32],
     uppers: &mut [u32],
 )
-    requires { (rows ≤ 32) × (columns ≤ 32) × (16 * count_of s.now ≡ length s.now)
-        × (rows * columns ≤ length lowers.old) × (rows * columns ≤ length uppers.old)
-        × ((walk_all (cell_amount kind amounts.now) s.now rows columns first).verdict ≡ done) }
+    requires { (sizes.rows ≤ 32) × (sizes.columns ≤ 32) × (16 * count_of s.now ≡ length s.now)
+        × (sizes.rows * sizes.columns ≤ length lowers.old) × (sizes.rows * sizes.columns ≤ length uppers.old)
+        × ((walk_all (cell_amount rule.kind rule.amounts.now) s.now sizes.rows sizes.columns first).verdict ≡ done) }
     ensures { (lowers.new ≡ put_in cell_lower lowers.old
-        (walk_all (cell_amount kind amounts.now) s.now rows columns first).cells)
+        (walk_all (cell_amount rule.entry.kind rule.entry.amounts.now) s.now sizes.rows sizes.columns first).cells)
         × (uppers.new ≡ put_in cell_upper uppers.old
-        (walk_all (cell_amount kind amounts.now) s.now rows columns first).cells) }
+        (walk_all (cell_amount rule.entry.kind rule.entry.amounts.now) s.now sizes.rows sizes.columns first).cells) }
 {
     let mut index = first;
     let mut least = 0;
     // A chain: no sequence to go over.
     while index != 0 {
-        match passed(kind, amounts, columns, record_at(s, index)) {
-            Ok(c) => {
-                let position = c.position;
-                lowers[position] = c.lower;
-                uppers[position] = c.upper;
-                index = c.next;
-                least = position + 1;
-            }
-            Err(_) => {
-                return;
-            }
-        }
+        let Ok(c) = passed(rule, sizes.columns, record_at(s, index)) else {
+            return;
+        };
+        let position = c.position;
+        lowers[position] = c.lower;
+        uppers[position] = c.upper;
+        index = c.next;
+        least = position + 1;
     }
 }

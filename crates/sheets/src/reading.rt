@@ -2,6 +2,7 @@
 ghost use Rattle.std.specs.Prelude.{◌≡◌, length};
 ghost use Rattle.sheets.specs.Reading.{read_by, cell_lower, cell_upper, slice_by};
 
+use crate::amount::Rule;
 use crate::chain::follow;
 use crate::matrix::fill;
 use crate::{Sizes, layout};
@@ -22,8 +23,9 @@ fn check(amounts: &[u32; 8], s: &[u8], lowers: usize, uppers: usize) -> Result<S
     let columns = layout::byte(s, 3);
     let kind = layout::kind(s);
     check_fit(0, rows, columns, lowers, uppers)?;
-    follow(kind, amounts, s, rows, columns, layout::u16_at(s, 0))?;
-    Ok(Sizes { rows, columns })
+    let sizes = Sizes { rows, columns };
+    follow(Rule { kind, amounts }, s, sizes, layout::u16_at(s, 0))?;
+    Ok(sizes)
 }
 
 // Reads the matrix of a sheet into the front of the two slices; a refusal leaves both as they were.
@@ -38,16 +40,14 @@ pub fn read(
     ensures above { uppers.new ≡ slice_by amounts.now cell_upper s.now result uppers.old }
 {
     let sizes = check(amounts, s, lowers.len(), uppers.len())?;
-    let rows = sizes.rows;
-    let columns = sizes.columns;
+    let Sizes { rows, columns } = sizes;
+    let kind = layout::kind(s);
     clear(rows * columns, lowers);
     clear(rows * columns, uppers);
     fill(
-        layout::kind(s),
-        amounts,
+        Rule { kind, amounts },
         s,
-        rows,
-        columns,
+        sizes,
         layout::u16_at(s, 0),
         lowers,
         uppers,

@@ -1,37 +1,18 @@
 // Writes the cells of a matrix into a buffer as the records of a sheet.
 ghost use Rattle.std.specs.Prelude.{◌≡◌, ◌++◌, ◌+◌, ◌*◌, ◌≤◌, ◌<◌, length, drop, take};
 ghost use Rattle.sheets.specs.Cell.{handed_of};
-ghost use Rattle.sheets.specs.Sheet.{record_bytes, head_bytes, over, tally, count_to, next_of, cell_bytes, records_to};
+ghost use Rattle.sheets.specs.Sheet.{bytes_of, head_bytes, over, tally, count_to, next_of, cell_bytes, records_to};
 
 use crate::amount::Kind;
 use crate::cell::handed;
-
-// The 16 bytes of a cell's record, with the amount 0. The head has the same form, with the record count and the kind in place of the lower bound.
-#[tactic(auto, unfolding(crate::specs::Sheet::record_bytes))]
-fn record_bytes(next: usize, row: usize, column: usize, lower: u32, upper: u32) -> [u8; 16]
-    requires { (row < 256) × (column < 256) }
-    ensures { result ≡ record_bytes next row column lower upper }
-{
-    let [n0, n1] = ((next % 65536) as u16).to_le_bytes();
-    let [l0, l1, l2, l3] = lower.to_le_bytes();
-    let [u0, u1, u2, u3] = upper.to_le_bytes();
-    [n0, n1, row as u8, column as u8, l0, l1, l2, l3, u0, u1, u2, u3, 0, 0, 0, 0]
-}
+use crate::layout::Record;
 
 // Writes the 16 bytes of a record from index `at` on.
-pub fn put_record(
-    out: &mut [u8],
-    at: usize,
-    next: usize,
-    row: usize,
-    column: usize,
-    lower: u32,
-    upper: u32,
-)
-    requires { (at + 16 ≤ length out.old) × (row < 256) × (column < 256) }
-    ensures { out.new ≡ over at (record_bytes next row column lower upper) out.old }
+pub fn put_record(out: &mut [u8], at: usize, r: Record)
+    requires { (at + 16 ≤ length out.old) × (r.row < 256) × (r.column < 256) }
+    ensures { out.new ≡ over at (bytes_of r) out.old }
 {
-    let bytes = record_bytes(next, row, column, lower, upper);
+    let bytes = r.bytes();
     // `copy_from_slice` was tried and is slower: a write takes 17 % more instructions.
     for j in 0..16 {
         out[at + j] = bytes[j];
@@ -40,12 +21,21 @@ pub fn put_record(
 
 // Writes the head of a sheet of `count` records, the head counted. What is written is an amount sheet: its kind is in byte 6, the third of the four that
 // a cell has its lower bound in.
+#[tactic(auto, unfolding(crate::specs::Sheet::record_bytes))]
 pub fn put_head(out: &mut [u8], first: usize, rows: usize, columns: usize, count: usize)
     requires { (16 ≤ length out.old) × (rows < 256) × (columns < 256) × (count < 65536) }
     ensures { out.new ≡ over 0 (head_bytes first rows columns count) out.old }
 {
     let kind = u32::from(Kind::Amounts.byte());
-    put_record(out, 0, first, rows, columns, count as u32 + 65536 * kind, 0);
+    let head = Record {
+        next: first,
+        row: rows,
+        column: columns,
+        lower: count as u32 + 65536 * kind,
+        upper: 0,
+        wear: 0,
+    };
+    put_record(out, 0, head);
 }
 
 // The next index in record k of a chain of records 1 to `total`: k + 1, or 0 in the last record.
@@ -58,7 +48,7 @@ pub fn next_of(total: usize, k: usize) -> usize
 }
 
 // Writes a cell as record k + 1, unless it is [0, 0]; returns the number of cells written so far.
-#[tactic(auto, unfolding(crate::specs::Sheet::tally, crate::specs::Sheet::cell_bytes))]
+#[tactic(auto, unfolding(crate::specs::Sheet::tally, crate::specs::Sheet::cell_bytes, crate::specs::Sheet::record_bytes))]
 fn put_cell(
     out: &mut [u8],
     k: usize,
@@ -73,8 +63,17 @@ fn put_cell(
         × (out.new ≡ over (16 * (k + 1)) (cell_bytes (next_of total (k + 1)) row column (handed_of lower upper)) out.old) }
 {
     match handed(lower, upper) {
-        Ok(Some((a, b))) => {
-            put_record(out, 16 * (k + 1), next_of(total, k + 1), row, column, a, b);
+        Ok(Some((lower, upper))) => {
+            let next = next_of(total, k + 1);
+            let cell = Record {
+                next,
+                row,
+                column,
+                lower,
+                upper,
+                wear: 0,
+            };
+            put_record(out, 16 * (k + 1), cell);
             k + 1
         }
         Ok(None) => k,

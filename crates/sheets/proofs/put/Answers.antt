@@ -10,9 +10,6 @@ use Rattle.sheets.proofs.put.Goals as goal
 pub overflow_sub-total : goal.overflow_sub-total
 overflow_sub-total c = omega (arith, (bytes_tell _ _ _ _ _ _ (sym c.check_write.ensures ∙ c.in_ok-n.was)).bytes)
 
-pub overflow_add-total : goal.overflow_add-total
-overflow_add-total c = let g = bytes_tell _ _ _ _ _ _ (sym c.check_write.ensures ∙ c.in_ok-n.was) in omega (arith, g.bytes, g.few, g.counted)
-
 pub put_head-requires : goal.put_head-requires
 put_head-requires c =
     let g = bytes_tell _ _ _ _ _ _ (sym c.check_write.ensures ∙ c.in_ok-n.was) in
@@ -28,8 +25,10 @@ put_cells-requires c =
     let z = g.sized in
     (z.some_column, z.columns, mul-le-mul_right a.columns z.rows, z.lowers, z.uppers, omega (arith, g.bytes), omega (arith, g.bytes, g.roomy))
 
-pub returns : goal.returns
-returns c =
-    let g = bytes_tell _ _ _ _ _ _ (sym c.check_write.ensures ∙ c.in_ok-n.was) in
-    let d = put_done _ _ _ _ _ _ g _ _ _ _ refl c.next_of.ensures c.put_head.ensures c.put_cells.ensures in
-    record { answer = sym c.in_ok-n.was ∙ c.check_write.ensures; left = d; trip = trip_done _ _ _ _ _ _ _ g d }
+pub returns-clause-left : goal.returns-clause-left
+returns-clause-left c =
+    put_done _ _ _ _ _ _ (bytes_tell _ _ _ _ _ _ (sym c.check_write.ensures ∙ c.in_ok-n.was)) _ _ _ _ refl c.next_of.ensures c.put_head.ensures c.put_cells.ensures
+
+pub returns-clause-trip : goal.returns-clause-trip
+returns-clause-trip c =
+    trip_done _ _ _ _ _ _ _ (bytes_tell _ _ _ _ _ _ (sym c.check_write.ensures ∙ c.in_ok-n.was)) (returns-clause-left c)

@@ -7,7 +7,7 @@ use Rattle.sheets.proofs.chain.follow.Given as goal
 
 abbrev pub invariant-loop-index : goal.invariant-loop-index
 invariant-loop-index l =
-    (t : ℕ) × (l.rows * l.columns < t + l.least) × (l.least ≤ l.rows * l.columns) × ((walk (cell_amount l.kind l.amounts) l.s l.rows l.columns (l.rows * l.columns + 1) l.first 0).verdict ≡ (walk (cell_amount l.kind l.amounts) l.s l.rows l.columns t l.index l.least).verdict)
+    (t : ℕ) × (l.sizes.rows * l.sizes.columns < t + l.least) × (l.least ≤ l.sizes.rows * l.sizes.columns) × ((walk (cell_amount l.rule.kind l.rule.amounts.now) l.s l.sizes.rows l.sizes.columns (l.sizes.rows * l.sizes.columns + 1) l.first 0).verdict ≡ (walk (cell_amount l.rule.kind l.rule.amounts.now) l.s l.sizes.rows l.sizes.columns t l.index l.least).verdict)
 
 abbrev pub decreases-loop-index : goal.decreases-loop-index
-decreases-loop-index l = l.rows * l.columns - l.least
+decreases-loop-index l = l.sizes.rows * l.sizes.columns - l.least

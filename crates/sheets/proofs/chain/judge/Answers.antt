@@ -3,12 +3,9 @@ use mathlib.Core.Path.{◌≡◌, refl, sym, ap, ◌∙◌}
 use mathlib.Core.Bool.{true, false}
 use mathlib.Core.List.{List}
 use Prim.Native.Nat.{ℕ, ◌≤◌, ◌<◌}
-use native.Mathlib.Omega.{arith}
-use lib.Arith.{digits_lt}
 use borrow.Author.Rules.{rules}
 use borrow.Author.Tests.{le-leb, lt-leb, lt-ltb}
 use Rattle.refusals.specs.Answer.{Answer, Judged, gives, refuses, done, at_cell, and_then, then}
-use Rattle.refusals.proofs.SizeLaws.{small}
 use Rattle.sheets.specs.declared.amount.Kind.{Kind}
 use Rattle.sheets.specs.declared.layout.Record.{Record}
 use Rattle.sheets.specs.declared.chain.Cell.{Cell}
@@ -33,16 +30,6 @@ pub returns-then-column-columns : goal.returns-then-column-columns
 returns-then-column-columns c =
     ap refuses c.of_matrix-then-column-columns.ensures ∙ ap verdict (judge_by _ _ _ _ _ false true _ (lt-leb _ _ c.if-row-rows.false) (le-leb _ _ c.if-column-columns.true) refl)
 
-pub overflow_mul-position : goal.overflow_mul-position
-overflow_mul-position c =
-    let a = c.args in
-    omega (arith, digits_lt c.if-row-rows.false c.if-column-columns.false, small a.rows a.columns (omega arith) (omega arith))
-
-pub overflow_add-position : goal.overflow_add-position
-overflow_add-position c =
-    let a = c.args in
-    omega (arith, digits_lt c.if-row-rows.false c.if-column-columns.false, small a.rows a.columns (omega arith) (omega arith))
-
 pub returns-then-position-least : goal.returns-then-position-least
 returns-then-position-least c =
     ap refuses c.of_matrix-then-position-least.ensures
@@ -63,16 +50,16 @@ returns-in_err-check_wear c =
     let a = c.args in
     let e : c.from_residual.result ≡ refuses c.in_err-check_wear.field-0.0 = search rules in
     e
-    ∙ amounted a.kind a.amounts.now a.rows a.columns a.least a.r c.if-row-rows.false c.if-column-columns.false c.if-position-least.false _
+    ∙ amounted a.rule.kind a.rule.amounts.now a.sizes.rows a.sizes.columns a.least a.r c.if-row-rows.false c.if-column-columns.false c.if-position-least.false _
     (amount_refused _ _ _ _ (sym c.check_wear.ensures ∙ c.in_err-check_wear.was))
 
-pub wear_amount-requires : goal.wear_amount-requires
-wear_amount-requires c = sym c.check_wear.ensures ∙ c.in_ok-check_wear.was
+pub amount-requires : goal.amount-requires
+amount-requires c = sym c.check_wear.ensures ∙ c.in_ok-check_wear.was
 
 pub returns : goal.returns
 returns c =
     let a = c.args in
     let e : c.map_err.result ≡ at_cell 0 a.r.row a.r.column c.check_worn.result = search rules in
     e
-    ∙ worn a.kind a.amounts.now a.rows a.columns a.least a.r c.if-row-rows.false c.if-column-columns.false c.if-position-least.false _ _
-    (ap gives c.wear_amount.ensures ∙ amount_given _ _ _ (sym c.check_wear.ensures ∙ c.in_ok-check_wear.was)) c.check_worn.ensures
+    ∙ worn a.rule.kind a.rule.amounts.now a.sizes.rows a.sizes.columns a.least a.r c.if-row-rows.false c.if-column-columns.false c.if-position-least.false _ _
+    (ap gives c.amount.ensures ∙ amount_given _ _ _ (sym c.check_wear.ensures ∙ c.in_ok-check_wear.was)) c.check_worn.ensures

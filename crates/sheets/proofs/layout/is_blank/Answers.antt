@@ -1,5 +1,5 @@
 -- `layout::is_blank` meets its contract.
-use Rattle.std.proofs.Common.{refl, ◌∙◌, arith, rules, take, drop}
+use Rattle.std.proofs.Common.{◌∙◌, arith, rules, take, drop}
 use lib.Dec.{eqb}
 use borrow.Author.Tests.{tests}
 use Rattle.std.proofs.lemmas.Iterator.{YieldsList-from_slice}

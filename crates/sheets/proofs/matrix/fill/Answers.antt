@@ -1,4 +1,4 @@
-use mathlib.Core.Path.{◌≡◌, refl, sym, ap, ◌∙◌}
+use mathlib.Core.Path.{◌≡◌, sym, ap, ◌∙◌}
 use mathlib.Core.List.{List}
 use Prim.Native.Nat.{ℕ, ◌+◌, ◌-◌, ◌*◌, ◌≤◌, ◌<◌}
 use native.Mathlib.Omega.{arith}
@@ -16,11 +16,8 @@ use Rattle.sheets.specs.Reading.{cell_lower, cell_upper}
 use Rattle.sheets.proofs.CellAmounts.{amount_given, amount_tells}
 use Rattle.sheets.proofs.Walking.{Passing, walk_passing, visit_passing, visit_position, walk_end, walk_turn}
 use Rattle.sheets.proofs.Putting.{put_none, put_more}
+use Rattle.sheets.proofs.matrix.fill.Goals.{In-Ok}
 use Rattle.sheets.proofs.matrix.fill.Goals as goal
-
-pub loop-index-init : goal.loop-index-init
-loop-index-init c =
-    (c.args.rows * c.args.columns + 1, omega arith, omega arith, refl, refl, c.requires.5, refl, refl)
 
 module _ (kind : Kind) (amounts s : List ℕ) (rows columns t index least : ℕ) (b : (rows * columns < t + least) × (least ≤ rows * columns)) (n : index ≡ 0 → ⊥)
     (v : (walk (cell_amount kind amounts) s rows columns t index least).verdict ≡ done) where
@@ -53,27 +50,27 @@ pub record_at-requires : goal.record_at-requires
 record_at-requires c =
     let a = c.args in
     let h = c.loop-index in
-    omega (arith, (passing a.kind a.amounts.now a.s.now a.rows a.columns h.invariant.0 h.index h.least (omega arith, omega arith) (omega arith) h.invariant.5).index)
+    omega (arith, (passing a.rule.kind a.rule.amounts.now a.s.now a.sizes.rows a.sizes.columns h.invariant.0 h.index h.least (omega arith, omega arith) (omega arith) h.invariant.5).index)
 
 pub passed-requires : goal.passed-requires
 passed-requires c =
     let a = c.args in
     let h = c.loop-index in
-    let p = (passing a.kind a.amounts.now a.s.now a.rows a.columns h.invariant.0 h.index h.least (omega arith, omega arith) (omega arith) h.invariant.5).passed in
-    let f = fine a.kind a.amounts.now a.s.now a.rows a.columns h.invariant.0 h.index h.least (omega arith, omega arith) (omega arith) h.invariant.5 _ c.record_at.ensures in
+    let p = (passing a.rule.kind a.rule.amounts.now a.s.now a.sizes.rows a.sizes.columns h.invariant.0 h.index h.least (omega arith, omega arith) (omega arith) h.invariant.5).passed in
+    let f = fine a.rule.kind a.rule.amounts.now a.s.now a.sizes.rows a.sizes.columns h.invariant.0 h.index h.least (omega arith, omega arith) (omega arith) h.invariant.5 _ c.record_at.ensures in
     let e = c.record_at.ensures in
     (omega arith, rw e (omega (arith, p.row)), rw e (omega (arith, p.column)), f.0, f.1)
 
-turn : (c : goal.In-Ok) →
+turn : (c : In-Ok) →
     let a = c.args in
     let h = c.loop-index in
     let x = c.in-Ok.c in
-    (h.least ≤ x.position) × (x.position < a.rows * a.columns) × (a.rows * a.columns ≤ 1024)
-    × (walk (cell_amount a.kind a.amounts.now) a.s.now a.rows a.columns h.invariant.0 h.index h.least ≡ more x (walk (cell_amount a.kind a.amounts.now) a.s.now a.rows a.columns (h.invariant.0 - 1) x.next (x.position + 1)))
+    (h.least ≤ x.position) × (x.position < a.sizes.rows * a.sizes.columns) × (a.sizes.rows * a.sizes.columns ≤ 1024)
+    × (walk (cell_amount a.rule.kind a.rule.amounts.now) a.s.now a.sizes.rows a.sizes.columns h.invariant.0 h.index h.least ≡ more x (walk (cell_amount a.rule.kind a.rule.amounts.now) a.s.now a.sizes.rows a.sizes.columns (h.invariant.0 - 1) x.next (x.position + 1)))
 turn c =
     let a = c.args in
     let h = c.loop-index in
-    turned a.kind a.amounts.now a.s.now a.rows a.columns h.invariant.0 h.index h.least (omega arith, omega arith) (omega arith) h.invariant.5 _ c.record_at.ensures _ _ c.requires.0 c.requires.1 c.passed.ensures
+    turned a.rule.kind a.rule.amounts.now a.s.now a.sizes.rows a.sizes.columns h.invariant.0 h.index h.least (omega arith, omega arith) (omega arith) h.invariant.5 _ c.record_at.ensures _ _ c.requires.0 c.requires.1 c.passed.ensures
     c.in-Ok.is
 
 pub offset_bounds-lowers-position : goal.offset_bounds-lowers-position
@@ -108,11 +105,11 @@ loop-index-preserved c =
       put_more cell_upper _ _ _ _ j.3 ∙ h.invariant.7,
     )
 
-pub returns-in-Err : goal.returns-in-Err
-returns-in-Err c =
+pub returns-in_default : goal.returns-in_default
+returns-in_default c =
     let a = c.args in
     let h = c.loop-index in
-    let w = walk_turn _ _ _ _ h.invariant.0 (h.invariant.0 - 1) _ _ (omega arith) (omega arith) (refuses _) (visited a.kind a.amounts.now a.s.now a.rows a.columns h.invariant.0 h.index h.least (omega arith, omega arith) (omega arith) h.invariant.5 _ c.record_at.ensures _ _ c.passed.ensures c.in-Err.is) in
+    let w = walk_turn _ _ _ _ h.invariant.0 (h.invariant.0 - 1) _ _ (omega arith) (omega arith) (refuses _) (visited a.rule.kind a.rule.amounts.now a.s.now a.sizes.rows a.sizes.columns h.invariant.0 h.index h.least (omega arith, omega arith) (omega arith) h.invariant.5 _ c.record_at.ensures _ _ c.passed.ensures c.in_default.is) in
     (sym (put_none cell_lower _ _ _ w) ∙ h.invariant.6, sym (put_none cell_upper _ _ _ w) ∙ h.invariant.7)
 
 pub returns : goal.returns

@@ -1,24 +1,17 @@
 -- `reading::read` meets its contract.
 use mathlib.Core.Path.{sym, ap, ◌∙◌}
 use native.Mathlib.Omega.{arith}
-use Rattle.refusals.proofs.SizeLaws.{small}
 use Rattle.sheets.specs.Chain.{Walk}
 use Rattle.sheets.specs.Reading.{cell_lower, cell_upper}
 use Rattle.sheets.proofs.Frames.{framed_tells}
 use Rattle.sheets.proofs.Answers.{accepted_by, accepted_walk, slice_done}
 use Rattle.sheets.proofs.reading.read.Goals as goal
 
-pub overflow_mul-rows : goal.overflow_mul-rows
-overflow_mul-rows c = let g = (accepted_by _ _ _ _ _ _ (sym c.check.ensures ∙ c.in_ok-sizes.was)).sized in omega (arith, small c.in_ok-sizes.sizes.rows c.in_ok-sizes.sizes.columns g.rows g.columns)
-
-pub overflow_mul-rows-2 : goal.overflow_mul-rows-2
-overflow_mul-rows-2 c = let g = (accepted_by _ _ _ _ _ _ (sym c.check.ensures ∙ c.in_ok-sizes.was)).sized in omega (arith, small c.in_ok-sizes.sizes.rows c.in_ok-sizes.sizes.columns g.rows g.columns)
-
-pub kind-requires : goal.kind-requires
-kind-requires c = let g = framed_tells _ (accepted_by _ _ _ _ _ _ (sym c.check.ensures ∙ c.in_ok-sizes.was)).frame in omega arith
+pub kind-kind-requires : goal.kind-kind-requires
+kind-kind-requires c = let g = framed_tells _ ((accepted_by _ _ _ _ _ _ (sym c.check.ensures ∙ c.in_ok-sizes.was))).frame in omega arith
 
 pub u16_at-requires : goal.u16_at-requires
-u16_at-requires c = let g = framed_tells _ (accepted_by _ _ _ _ _ _ (sym c.check.ensures ∙ c.in_ok-sizes.was)).frame in omega arith
+u16_at-requires c = let g = framed_tells _ ((accepted_by _ _ _ _ _ _ (sym c.check.ensures ∙ c.in_ok-sizes.was))).frame in omega arith
 
 pub fill-requires : goal.fill-requires
 fill-requires c =
@@ -29,14 +22,15 @@ fill-requires c =
       (framed_tells _ a.frame).1,
       omega arith,
       omega arith,
-      ap (λ (w : Walk). w.verdict) (accepted_walk _ _ _ _ _ _ _ _ a c.kind.ensures c.u16_at.ensures.0) ∙ a.passed,
+      ap (λ (w : Walk). w.verdict) (accepted_walk _ _ _ _ _ _ _ _ a c.kind-kind.ensures c.u16_at.ensures.0) ∙ a.passed,
     )
 
-pub returns : goal.returns
-returns c =
+pub returns-clause-below : goal.returns-clause-below
+returns-clause-below c =
     let a = accepted_by _ _ _ _ _ _ (sym c.check.ensures ∙ c.in_ok-sizes.was) in
-    let k = c.kind.ensures in record {
-      answer = sym c.in_ok-sizes.was ∙ c.check.ensures;
-      below = slice_done _ cell_lower _ _ _ _ _ _ _ _ _ _ a k c.u16_at.ensures.0 a.sized.lowers c.clear.ensures c.fill.ensures.0;
-      above = slice_done _ cell_upper _ _ _ _ _ _ _ _ _ _ a k c.u16_at.ensures.0 a.sized.uppers c.clear-2.ensures c.fill.ensures.1;
-    }
+    slice_done _ cell_lower _ _ _ _ _ _ _ _ _ _ a c.kind-kind.ensures c.u16_at.ensures.0 a.sized.lowers c.clear.ensures c.fill.ensures.0
+
+pub returns-clause-above : goal.returns-clause-above
+returns-clause-above c =
+    let a = accepted_by _ _ _ _ _ _ (sym c.check.ensures ∙ c.in_ok-sizes.was) in
+    slice_done _ cell_upper _ _ _ _ _ _ _ _ _ _ a c.kind-kind.ensures c.u16_at.ensures.0 a.sized.uppers c.clear-2.ensures c.fill.ensures.1

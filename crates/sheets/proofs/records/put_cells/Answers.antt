@@ -4,7 +4,7 @@ use Prim.Native.Nat.{ℕ, ◌+◌, ◌*◌, ◌≤◌, ◌<◌}
 use native.Mathlib.Omega.{arith}
 use lib.ListN.{length, take}
 use Rattle.sheets.specs.Sheet.{cell_at, tally, count_to}
-use Rattle.sheets.proofs.Counting.{start, div_lt, mod_lt, count_none, count_room, count_le, cells_more, cells_end}
+use Rattle.sheets.proofs.Counting.{start, div_lt, mod_lt, count_none, count_room, count_le, cells_more}
 use Rattle.sheets.proofs.records.put_cells.Goals as goal
 
 pub loop-p-init : goal.loop-p-init
@@ -35,8 +35,3 @@ loop-p-preserved c =
     let r = roomy a.lowers.now a.uppers.now h.p h.k a.cells a.total (length a.out.now) (omega arith) (omega arith) h.invariant.0 c.requires.5 c.requires.6 in
     cells_more a.columns a.total _ _ h.p h.k (16 * (h.k + 1)) _ _ _ _ (take 16 a.out.now) h.invariant.0 refl
     c.put_cell-k.ensures.0 c.put_cell-k.ensures.1 r.0 h.invariant.1
-
-pub returns : goal.returns
-returns c =
-    let h = c.loop-p in
-    cells_end _ _ _ _ h.p c.args.cells h.k _ _ (omega arith) h.invariant.0 (omega arith) h.invariant.1

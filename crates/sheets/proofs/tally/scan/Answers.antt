@@ -3,23 +3,12 @@ use Prim.Native.Nat.{ℕ, ◌+◌, ◌≤◌}
 use native.Mathlib.Omega.{arith}
 use mathlib.Core.Bool.{cond}
 use Rattle.refusals.specs.Answer.{gives, refuses}
-use Rattle.sheets.proofs.Counting.{div_lt, mod_lt}
 use Rattle.sheets.proofs.Scanning.{scan_none, scan_counted, scan_faulty}
 use Rattle.sheets.proofs.tally.scan.Goals.{then-is_some, else-is_some}
 use Rattle.sheets.proofs.tally.scan.Goals as goal
 
 pub loop-p-init : goal.loop-p-init
 loop-p-init c = (omega arith, scan_none _ _ _)
-
-pub overflow_cast-row : goal.overflow_cast-row
-overflow_cast-row c =
-    let a = c.args in
-    omega (arith, div_lt c.loop-p.p a.columns 32 (omega arith) (omega arith))
-
-pub overflow_cast-column : goal.overflow_cast-column
-overflow_cast-column c =
-    let a = c.args in
-    omega (arith, mod_lt c.loop-p.p a.columns (omega arith))
 
 pub returns-in-Err : goal.returns-in-Err
 returns-in-Err c =
@@ -38,8 +27,3 @@ loop-p-preserved c =
     ] in
     let e = scan_counted a.columns a.lowers.now a.uppers.now h.p h.count _ _ _ h.invariant.1 c.handed.ensures c.in-Ok.is c.is_some.ensures in
     (omega (arith, k.0, h.invariant), e ∙ ap (λ (m : ℕ). gives m) k.1)
-
-pub returns : goal.returns
-returns c =
-    let all : c.loop-p.p ≡ c.args.cells = omega arith in
-    sym (rw all at c.loop-p.invariant.1)
