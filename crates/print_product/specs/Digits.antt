@@ -1,4 +1,4 @@
--- Numbers as text: decimal, and hexadecimal in capitals. Definitions only (01, "The printed product").
+-- Numbers as text: decimal, and hexadecimal in capitals. Definitions only.
 use Rattle.std.specs.Prelude.{cond, List, [], ◌∷◌, ◌++◌, ℕ, zero, suc, ◌+◌, ◌/◌, ◌%◌, ltb}
 
 -- the ASCII code of a digit below 16: 0 to 9, then A to F

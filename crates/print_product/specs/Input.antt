@@ -1,4 +1,4 @@
--- The parts of the input: one ASCII digit, sheet A, sheet B. Definitions only (01, "The printed product").
+-- The parts of the input: one ASCII digit, sheet A, sheet B. Definitions only.
 use Rattle.std.specs.Prelude.{cond, List, ℕ, ◌-◌, ltb, get_or, take, drop}
 use Rattle.sheets.specs.Cut.{first_length}
 

@@ -1,4 +1,4 @@
--- The lines that are printed: fields one space apart, and a line feed at the end. Definitions only (01, "The printed product").
+-- The lines that are printed: fields one space apart, and a line feed at the end. Definitions only.
 use Rattle.std.specs.Prelude.{List, [], ◌∷◌, ◌++◌, ℕ}
 use Rattle.refusals.specs.declared.Refusal.{Refusal}
 use Rattle.print_product.specs.Digits.{decimal, hexadecimal}

@@ -1,4 +1,4 @@
--- The text that is printed for an input. Definitions only (01, "The printed product").
+-- The text that is printed for an input. Definitions only.
 use Rattle.std.specs.Prelude.{List, [], ◌++◌, ℕ, zero, suc, ◌*◌, ◌/◌, ◌%◌, get_or}
 use Rattle.refusals.specs.Answer.{Answer, gives, refuses}
 use Rattle.job.specs.Factor.{Factor}
