@@ -73,8 +73,12 @@ cells_length columns zero lo up some few h = omega arith
 cells_length columns (suc p) lo up some few h =
     let row : p / columns < 32 = div_lt p columns 32 some (omega arith) in
     let column : p % columns < columns = mod_lt p columns some in
-    omega (arith, length-append (cell_lines columns lo up p) (cell_line (p / columns) (p % columns) (get_or lo p 0) (get_or up p 0)),
-    cells_length columns p lo up some few (omega arith), cell_length (p / columns) (p % columns) (get_or lo p 0) (get_or up p 0) (omega arith) (omega arith))
+    omega (
+      arith,
+      length-append (cell_lines columns lo up p) (cell_line (p / columns) (p % columns) (get_or lo p 0) (get_or up p 0)),
+      cells_length columns p lo up some few (omega arith),
+      cell_length (p / columns) (p % columns) (get_or lo p 0) (get_or up p 0) (omega arith) (omega arith),
+    )
 
 pub product_fits : (m r c : ℕ) (lo up : List ℕ) → m < 10 → r ≤ 32 → 0 < c → c ≤ 32 → length (product_text m r c lo up) ≤ 24592
 product_fits m r c lo up h k some few =

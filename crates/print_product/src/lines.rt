@@ -31,7 +31,12 @@ impl Display for Product<'_> {
     ghost output = { λ x. Some (product_text x.method x.sizes.rows x.sizes.columns x.lowers.now x.uppers.now) };
 
     fn fmt<W: fmt::Write>(&self, f: &mut fmt::Formatter<W>) -> fmt::Result {
-        let Product { method, sizes, lowers, uppers } = *self;
+        let Product {
+            method,
+            sizes,
+            lowers,
+            uppers,
+        } = *self;
         let Sizes { rows, columns } = sizes;
         writeln!(f, "product {method} {rows} {columns}")?;
         for p in 0..rows * columns {
@@ -63,7 +68,12 @@ impl Display for Refused {
     ghost output = { λ x. Some (refused_line x.0) };
 
     fn fmt<W: fmt::Write>(&self, f: &mut fmt::Formatter<W>) -> fmt::Result {
-        let Refusal { number, matrix, row, column } = self.0;
+        let Refusal {
+            number,
+            matrix,
+            row,
+            column,
+        } = self.0;
         writeln!(f, "refused {number} {matrix} {row} {column}")
     }
 }

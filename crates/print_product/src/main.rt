@@ -16,10 +16,9 @@ mod lines;
 use lines::{Product, Refused, TEXT, text_of};
 use refusals::sizes::MOST_CELLS;
 use sheets::cut::first_length;
-use std::fmt;
 use std::fmt::InlineText;
-use std::io;
 use std::io::{ErrorKind, Read, Write};
+use std::{fmt, io};
 
 // 1 + 16,400 + 16,401: a digit, the longest sheet A, and a sheet B that is one byte too long. Later bytes change nothing (proofs/Cuts).
 const INPUT: usize = 32802;
