@@ -55,7 +55,7 @@ pub fn plus<D: Short>(s: Number, y: Number) -> Number
     requires { IsNumber s × Part y }
     ensures { (t : Option ℤ) → Holds t y → Holds (bind t λ v. D.way binary32 1 (worth s +ℤ v)) result }
 {
-    D::limit(add::<D>(s, y))
+    D::limit_sum(add::<D>(s, y))
 }
 
 // The same where neither s nor y is above zero.
@@ -63,5 +63,5 @@ pub fn plus_negative<D: Short>(s: Number, y: Number) -> Number
     requires { IsNumber s × Part y × Below s × Below y }
     ensures { (t : Option ℤ) → Holds t y → Holds (bind t λ v. D.way binary32 1 (worth s +ℤ v)) result }
 {
-    D::limit(add_negative::<D>(s, y))
+    D::limit_sum(add_negative::<D>(s, y))
 }

@@ -31,28 +31,19 @@ pub trait Short: Direction {
         requires { Normal x × (x.exp ≤ 4002) }
         ensures { Holds (limited (worth x)) result };
 
+    // The same for the sum of a step.
+    fn limit_sum(x: Number) -> Number
+        requires { Normal x × (x.exp ≤ 4002) }
+        ensures { Holds (limited (worth x)) result }
+    {
+        Self::limit(x)
+    }
+
     ghost laws: { ShortLaws Self.way part limited Sum };
 }
 
 // 2^24 - 1, the significand of the largest number.
 const LARGEST_SIGNIFICAND: i64 = 0xFF_FFFF;
-
-// The largest number where x is above it, none where x is below all numbers.
-fn limit_large(x: Number) -> Number
-    requires { Normal x × (x.exp ≤ 4002) }
-    ensures { Holds (limited (worth x)) result }
-{
-    if fits(x) {
-        return x;
-    }
-    if x.sig < 0 {
-        return none();
-    }
-    Number {
-        sig: LARGEST_SIGNIFICAND,
-        exp: LARGEST_EXPONENT,
-    }
-}
 
 impl Short for Down {
     ghost part = { shr_z };
@@ -67,12 +58,26 @@ impl Short for Down {
         lowered(t, n)
     }
 
-    // The usual case first: a smaller exponent than that of the largest number.
+    // The largest number where x is above it, none where x is below all numbers.
     fn limit(x: Number) -> Number {
+        if fits(x) {
+            return x;
+        }
+        if x.sig < 0 {
+            return none();
+        }
+        Number {
+            sig: LARGEST_SIGNIFICAND,
+            exp: LARGEST_EXPONENT,
+        }
+    }
+
+    // The usual case first: a smaller exponent than that of the largest number.
+    fn limit_sum(x: Number) -> Number {
         if x.exp < LARGEST_EXPONENT {
             return x;
         }
-        limit_large(x)
+        Self::limit(x)
     }
 }
 

@@ -6,9 +6,9 @@ use Rattle.products.proofs.plus.plus.Goals as goal
 pub add-requires : goal.add-requires
 add-requires g c = summands c.args.s c.args.y c.requires.0 c.requires.1
 
-pub limit-requires : goal.limit-requires
-limit-requires g c = g.met.D.Short.laws.normal _ _ c.add.ensures
+pub limit_sum-requires : goal.limit_sum-requires
+limit_sum-requires g c = g.met.D.Short.laws.normal _ _ c.add.ensures
 
 pub returns : goal.returns
 returns g c =
-    g.met.D.Short.laws.sums c.args.s c.args.y c.add.result c.limit.result c.requires.0 c.add.ensures c.limit.ensures
+    g.met.D.Short.laws.sums c.args.s c.args.y c.add.result c.limit_sum.result c.requires.0 c.add.ensures c.limit_sum.ensures

@@ -1,10 +1,26 @@
--- `products::short::DownShort::limit` meets its contract: below the largest exponent by `fits_below`.
-use mathlib.Core.Path.{sym}
-use Rattle.unpacked.proofs.Worths.{fits_below}
-use Rattle.unpacked.proofs.Limits.{limit_fits}
+-- `products::short::DownShort::limit` meets its contract: by `limit_fits`, `limit_below` and `limit_above`.
+use mathlib.Core.Path.{sym, ◌∙◌, subst}
+use mathlib.Core.Bool.{true, false}
+use native.Mathlib.Omega.{arith}
+use Rattle.algebra.proofs.Machine.{fits_nat_abs}
+use Rattle.binary32.proofs.Ints.{test}
+use Rattle.unpacked.specs.Number.{worth, Holds}
+use Rattle.unpacked.specs.Cuts.{limited}
+use Rattle.unpacked.proofs.Limits.{limit_fits, limit_below, limit_above}
 use borrow.Author.Rules.{rules}
 use Rattle.products.proofs.short.DownShort.limit.Goals as goal
 
-pub returns-then-x-lt-LARGEST_EXPONENT : goal.returns-then-x-lt-LARGEST_EXPONENT
-returns-then-x-lt-LARGEST_EXPONENT c =
-    limit_fits c.args.x c.requires.0 (sym (fits_below c.args.x c.requires.0 c.if-x-lt-LARGEST_EXPONENT.true))
+pub returns-then-fits : goal.returns-then-fits
+returns-then-fits c =
+    limit_fits c.args.x c.requires.0 (sym c.fits.ensures ∙ c.if-fits.true)
+
+pub returns-then-x-lt0 : goal.returns-then-x-lt0
+returns-then-x-lt0 c =
+    subst (Holds (limited (worth c.args.x))) (sym c.none.ensures)
+    (limit_below c.args.x c.requires.0 (sym c.fits.ensures ∙ c.if-fits.false)
+    (test c.args.x.sig (fits_nat_abs c.args.x.sig (omega (arith, c.requires.0.few))) true c.if-x-lt0.true))
+
+pub returns : goal.returns
+returns c =
+    limit_above c.args.x c.requires.0 (sym c.fits.ensures ∙ c.if-fits.false)
+    (test c.args.x.sig (fits_nat_abs c.args.x.sig (omega (arith, c.requires.0.few))) false c.if-x-lt0.false)
