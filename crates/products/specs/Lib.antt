@@ -9,3 +9,5 @@ pub mod CentreSize
 pub mod Derived
 pub mod MidRad
 pub mod Written
+pub mod Short
+pub mod ShortProofs

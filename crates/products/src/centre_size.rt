@@ -4,12 +4,13 @@ ghost use Rattle.binary32.specs.Number.{value_of, Finite};
 ghost use Rattle.unpacked.specs.Number.{worth, IsNumber};
 ghost use Rattle.products.specs.CentreSize.{SizedNumbers, SizedStep, Paired, SizedAll, refused_sized};
 
-use crate::near::{plus_near, plus_near_negative};
 use crate::number::negative;
 use crate::pattern::unpack;
-use crate::rounded::rounded_near;
+use crate::plus::{plus, plus_negative};
+use crate::rounded::rounded;
 use crate::row::number_of;
 use crate::times::times;
+use binary32::direction::Near;
 use unpacked::{Number, ZERO_EXPONENT, is_none};
 
 // C, and G negated: the sum of the products, and minus the sum of their magnitudes, both to nearest.
@@ -25,10 +26,10 @@ impl CentreSize {
         requires { SizedNumbers self × IsNumber x × Finite y }
         ensures { SizedStep self (worth x) (value_of y) result }
     {
-        let t = rounded_near(times(x, unpack(y)));
+        let t = rounded::<Near>(times(x, unpack(y)));
         CentreSize {
-            centre: plus_near(self.centre, t),
-            size: plus_near_negative(self.size, negative(t)),
+            centre: plus::<Near>(self.centre, t),
+            size: plus_negative::<Near>(self.size, negative(t)),
         }
     }
 

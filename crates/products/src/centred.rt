@@ -9,9 +9,10 @@ ghost use Rattle.products.specs.Centred.{growth, shrinkage, AllNumbers, Added, S
 
 use crate::number::absolute;
 use crate::pattern::unpack;
-use crate::plus::{plus_down, plus_negative};
-use crate::rounded::{rounded_down, rounded_up};
+use crate::plus::{plus, plus_negative};
+use crate::rounded::{rounded, rounded_up};
 use crate::times::times;
+use binary32::direction::Down;
 use binary32::order::magnitude;
 use unpacked::{Number, Product, is_none, zero};
 
@@ -72,9 +73,9 @@ impl Centred {
         let p = times(f, unpack(y));
         let q = times(absolute(f), unpack(w));
         Centred {
-            radius: plus_negative(self.radius, rounded_up(q)),
-            lower: plus_down(self.lower, rounded_down(p)),
-            opposed: plus_down(self.opposed, rounded_up(p)),
+            radius: plus_negative::<Down>(self.radius, rounded_up(q)),
+            lower: plus::<Down>(self.lower, rounded::<Down>(p)),
+            opposed: plus::<Down>(self.opposed, rounded_up(p)),
         }
     }
 
@@ -88,9 +89,9 @@ impl Centred {
         let p = times(f, unpack(y));
         let q = times(absolute(f), unpack(w));
         Centred {
-            radius: plus_negative(self.radius, rounded_up(q)),
-            lower: plus_down(self.lower, rounded_down(p)),
-            opposed: plus_down(self.opposed, rounded_up(p)),
+            radius: plus_negative::<Down>(self.radius, rounded_up(q)),
+            lower: plus::<Down>(self.lower, rounded::<Down>(p)),
+            opposed: plus::<Down>(self.opposed, rounded_up(p)),
         }
     }
 
@@ -100,12 +101,12 @@ impl Centred {
         ensures { Added self x y (shrinkage x y) result }
     {
         let p = times(unpack(x), unpack(y));
-        let below = rounded_down(p);
+        let below = rounded::<Down>(p);
         let above = rounded_up(p);
         Centred {
-            lower: plus_down(self.lower, below),
-            opposed: plus_down(self.opposed, above),
-            radius: plus_down(self.radius, size_down(p, below, above)),
+            lower: plus::<Down>(self.lower, below),
+            opposed: plus::<Down>(self.opposed, above),
+            radius: plus::<Down>(self.radius, size_down(p, below, above)),
         }
     }
 

@@ -7,6 +7,7 @@ ghost use Rattle.products.specs.CentreSize.{TwiceError};
 use crate::number::{PAST_LARGEST, scaled, whole};
 use crate::plus::plus_negative;
 use crate::shifts::{size, with_sign};
+use binary32::direction::Down;
 use unpacked::{BIAS, Number};
 
 // -2^-126, the least normal number negated: -2^23 units.
@@ -32,5 +33,5 @@ pub fn twice_error(size: Number, k: usize) -> Number
     ensures { TwiceError k (neg_ℤ (worth size)) result }
 {
     let spacings = scaled(whole(with_sign(true, k as u64 + 1)), spacing_exponent(size));
-    scaled(plus_negative(spacings, whole(MINUS_NORMAL)), 1)
+    scaled(plus_negative::<Down>(spacings, whole(MINUS_NORMAL)), 1)
 }

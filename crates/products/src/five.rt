@@ -14,10 +14,11 @@ ghost use Rattle.products.specs.Written.{Written};
 use crate::centre_size::sum_pairs;
 use crate::error::twice_error;
 use crate::number::opposite;
-use crate::plus::plus_down;
+use crate::plus::plus;
 use crate::radius::outer;
 use crate::row::unpack_row;
 use crate::sums::{Place, Sums, ends};
+use binary32::direction::Down;
 use refusals::sizes::LARGEST_SIZE;
 use unpacked::{Number, is_none, none, zero};
 
@@ -36,8 +37,8 @@ fn radius(size: Number, k: usize, n: usize, i: usize, j: usize, wa: &[u32], wb: 
     requires { IsNumber size × Below size × (k ≤ 32) × Reaches (record { k = k; n = n; i = i; j = j; row = wa.now; column = wb.now }) }
     ensures { Holds (negate (radius_for (record { k = k; n = n; i = i; j = j; row = wa.now; column = wb.now }) (neg_ℤ (worth size)))) result }
 {
-    let less = plus_down(opposite(size), outer(zero(), k, n, i, j, wa, wb));
-    plus_down(twice_error(size, k), less)
+    let less = plus::<Down>(opposite(size), outer(zero(), k, n, i, j, wa, wb));
+    plus::<Down>(twice_error(size, k), less)
 }
 
 // The entry in row i and column j. xs and ps have row i of the midpoints and of the parts of A's cells, unpacked; mb and pb have those of B's cells,

@@ -3,12 +3,12 @@ ghost use Rattle.std.specs.Prelude.{◌≡◌};
 ghost use Rattle.binary32.specs.Number.{Finite};
 ghost use Rattle.products.specs.Centred.{NearNumbers, NearAdded, refused_nearest, zero_nearest};
 
-use crate::near::plus_near;
 use crate::number::absolute;
 use crate::pattern::unpack;
-use crate::plus::plus_negative;
-use crate::rounded::{rounded_near, rounded_up};
+use crate::plus::{plus, plus_negative};
+use crate::rounded::{rounded, rounded_up};
 use crate::times::times;
+use binary32::direction::{Down, Near};
 use binary32::order::magnitude;
 use unpacked::{Number, is_none, zero};
 
@@ -39,8 +39,8 @@ impl Nearest {
         let p = times(f, unpack(y));
         let q = times(absolute(f), unpack(w));
         Nearest {
-            centre: plus_near(self.centre, rounded_near(p)),
-            radius: plus_negative(self.radius, rounded_up(q)),
+            centre: plus::<Near>(self.centre, rounded::<Near>(p)),
+            radius: plus_negative::<Down>(self.radius, rounded_up(q)),
         }
     }
 

@@ -1,21 +1,23 @@
-// Numbers unpacked into significand and exponent: comparison with the largest number, sign changes, and rounding down to 24 bits.
+// Numbers unpacked into significand and exponent: comparison with the largest number, sign changes, and rounding to 24 bits.
 ghost use Rattle.std.specs.Prelude.{◌≡◌, ◌^◌, ◌≤◌, ◌<◌, leb, nat_abs};
 ghost use Rattle.std.proofs.Math.Option.{some};
 ghost use Rattle.rounding.specs.Format.{binary32, MAX};
 ghost use Rattle.unpacked.specs.Number.{worth, Normal, Holds, Opposite, Absolute, Negative, Scaled};
-ghost use Rattle.unpacked.specs.Cuts.{CutDown, OrLow};
+ghost use Rattle.unpacked.specs.Cuts.{Cut, OrLow};
 
-use crate::shifts::{GUARD, digits, lowered, raised, size, widened};
+use crate::shifts::{GUARD, digits, raised, size, widened};
+use crate::short::Short;
+use binary32::direction::Down;
 use unpacked::{BIAS, LARGEST_EXPONENT, Number, ZERO_EXPONENT};
 
 // 2^24, one more than the significand of the largest number.
 pub const PAST_LARGEST: u64 = 0x100_0000;
 
 // How many bits of a sum are dropped when it is rounded to 24: it is first shifted up to 62 bits, and 62 - 24 is 38.
-pub const DROPPED: u32 = 38;
+const DROPPED: u32 = 38;
 
 // Dropping 38 bits, of which 36 are guard bits, adds 2 to the exponent.
-pub const GAIN: u32 = DROPPED - GUARD;
+const GAIN: u32 = DROPPED - GUARD;
 
 // Whether |x| is at most the largest number.
 pub fn fits(x: Number) -> bool
@@ -76,20 +78,20 @@ pub fn scaled(x: Number, n: u32) -> Number
 }
 
 // The exponent of a rounded w: e, or that of zero where w is 0.
-pub fn or_low(w: i64, e: u32) -> u32
+fn or_low(w: i64, e: u32) -> u32
     ensures { OrLow w e result }
 {
     if w == 0 { ZERO_EXPONENT } else { e }
 }
 
-// w × 2^(exp - 436) units, rounded down to 24 bits: w is shifted up by z places to 62 bits, then 38 bits are dropped.
-pub fn cut_down(w: i64, exp: u32) -> Number
+// w × 2^(exp - 436) units, rounded to 24 bits: w is shifted up by z places to 62 bits, then 38 bits are dropped.
+pub fn cut<D: Short>(w: i64, exp: u32) -> Number
     requires { (nat_abs w ≤ 2 ^ 61) × (64 ≤ exp) × (exp ≤ 4000) }
-    ensures { CutDown w exp result }
+    ensures { Cut D.part w exp result }
 {
     let z = u64::leading_zeros(digits(w) * 4 + 3);
     Number {
-        sig: lowered(widened(w, z), DROPPED),
+        sig: D::shorten(widened(w, z), DROPPED),
         exp: or_low(w, exp + GAIN - z),
     }
 }
@@ -99,5 +101,5 @@ pub fn whole(z: i64) -> Number
     requires { nat_abs z ≤ 2 ^ 24 }
     ensures { Holds (some z) result }
 {
-    cut_down(raised(z), BIAS)
+    cut::<Down>(raised(z), BIAS)
 }

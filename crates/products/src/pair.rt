@@ -12,9 +12,10 @@ ghost use Rattle.products.specs.Running.{BothNumbers, HoldsRange, bounds_of};
 use crate::apart::Apart;
 use crate::corners::{corner_by_sign, greater, lesser};
 use crate::pattern::unpack;
-use crate::plus::plus_down;
-use crate::rounded::{rounded_down, rounded_up};
+use crate::plus::plus;
+use crate::rounded::{rounded, rounded_up};
 use crate::sums::Sums;
+use binary32::direction::Down;
 use binary32::finite::are_finite;
 use intervals::check;
 use refusals::reason::Reason;
@@ -45,8 +46,8 @@ fn step_pair(s: Sums, a: Apart, bl: u32, bu: u32) -> Sums
     let low = lesser(corner_by_sign(w, y, z), corner_by_sign(x, y, z)).product;
     let high = greater(corner_by_sign(w, z, y), corner_by_sign(x, z, y)).product;
     Sums {
-        lower: plus_down(s.lower, rounded_down(low)),
-        opposed: plus_down(s.opposed, rounded_up(high)),
+        lower: plus::<Down>(s.lower, rounded::<Down>(low)),
+        opposed: plus::<Down>(s.opposed, rounded_up(high)),
     }
 }
 

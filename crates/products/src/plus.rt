@@ -1,95 +1,67 @@
-// Sums of unpacked numbers, rounded down: a shift, an addition, a count of leading zeros and a shift.
+// Sums of unpacked numbers, rounded down or to nearest: a shift, an addition, a count of leading zeros and a shift.
 // A sum of two numbers is a whole number of units, so a subnormal sum is exact and needs no case of its own.
+// To nearest, a summand that loses bits by its shift is at most 2^-13 of the last bit of the other one, which is then the nearest value; so no sticky bit is kept.
 ghost use Rattle.std.proofs.Math.Option.{Option, bind};
 ghost use Rattle.std.specs.Prelude.{◌≤◌, ℤ, ◌+ℤ◌};
 ghost use Rattle.rounding.specs.Format.{binary32};
-ghost use Rattle.rounding.specs.Rounding.{down};
-ghost use Rattle.unpacked.specs.Number.{worth, Normal, IsNumber, Below, Holds, Part};
-ghost use Rattle.unpacked.specs.Cuts.{Summands, SumDown, CutNegative, Filled, limited};
+ghost use Rattle.unpacked.specs.Number.{worth, IsNumber, Below, Holds, Part};
+ghost use Rattle.unpacked.specs.Cuts.{Summands, Filled, CutFilled};
 
-use crate::number::{cut_down, fits};
-use crate::shifts::{GUARD, lowered};
+use crate::number::cut;
+use crate::shifts::GUARD;
+use crate::short::Short;
 use crate::summands::{GUARD_AND_CARRY, align, carried};
-use unpacked::{LARGEST_EXPONENT, Number, none};
+use unpacked::Number;
 
-// 2^24 - 1, the significand of the largest number.
-const LARGEST_SIGNIFICAND: i64 = 0xFF_FFFF;
-
-// x + y, rounded down to 24 bits, as if there were no largest number.
-fn add_down(x: Number, y: Number) -> Number
+// x + y, rounded to 24 bits, as if there were no largest number.
+fn add<D: Short>(x: Number, y: Number) -> Number
     requires { Summands x y }
-    ensures { SumDown x y result }
+    ensures { D.Sum (worth x +ℤ worth y) result }
 {
     let s = align(x, y);
-    cut_down(s.w, s.exp)
+    cut::<D>(s.w, s.exp)
 }
 
-// w × 2^(exp - 436) units, rounded down to 24 bits, for w from -2^61 to -2^59 or 0: its length is known, so no leading zeros are counted.
-fn cut_negative(w: i64, exp: u32) -> Number
+// The next three stand beside `cut`, `add` and `plus`: to count no leading zeros is a tenth of method 3's time, and a flag for it at each call is no plainer than a name.
+
+// w × 2^(exp - 436) units, rounded to 24 bits, for w from -2^61 to -2^59 or 0: its length is known, so no leading zeros are counted.
+fn cut_negative<D: Short>(w: i64, exp: u32) -> Number
     requires { Filled w exp × (exp ≤ 4000) }
-    ensures { CutNegative w exp result }
+    ensures { CutFilled D.part w exp result }
 {
     if carried(w) {
         return Number {
-            sig: lowered(w, GUARD_AND_CARRY),
+            sig: D::shorten(w, GUARD_AND_CARRY),
             exp: exp + 1,
         };
     }
     Number {
-        sig: lowered(w, GUARD),
-        exp: exp,
+        sig: D::shorten(w, GUARD),
+        exp,
     }
 }
 
-// x + y, rounded down to 24 bits as if there were no largest number, where neither is above zero, so that no leading bits cancel.
-fn add_negative(x: Number, y: Number) -> Number
+// x + y, rounded to 24 bits as if there were no largest number, where neither is above zero, so that no leading bits cancel.
+fn add_negative<D: Short>(x: Number, y: Number) -> Number
     requires { Summands x y × Below x × Below y }
-    ensures { SumDown x y result }
+    ensures { D.Sum (worth x +ℤ worth y) result }
 {
     let s = align(x, y);
-    cut_negative(s.w, s.exp)
+    cut_negative::<D>(s.w, s.exp)
 }
 
-// x, which is rounded down to 24 bits already, as a binary32 number: the largest number where x is above it, none where x is below all numbers.
-pub fn limit(x: Number) -> Number
-    requires { Normal x × (x.exp ≤ 4002) }
-    ensures { Holds (limited (worth x)) result }
-{
-    if fits(x) {
-        return x;
-    }
-    if x.sig < 0 {
-        return none();
-    }
-    Number {
-        sig: LARGEST_SIGNIFICAND,
-        exp: LARGEST_EXPONENT,
-    }
-}
-
-// The same, with the usual case first: a smaller exponent than that of the largest number.
-fn limit_down(x: Number) -> Number
-    requires { Normal x × (x.exp ≤ 4002) }
-    ensures { Holds (limited (worth x)) result }
-{
-    if x.exp < LARGEST_EXPONENT {
-        return x;
-    }
-    limit(x)
-}
-
-// s + y, rounded down; none where y is none or the sum is below all numbers.
-pub fn plus_down(s: Number, y: Number) -> Number
+// s + y, rounded; none where y is none or the sum has no rounded value.
+pub fn plus<D: Short>(s: Number, y: Number) -> Number
     requires { IsNumber s × Part y }
-    ensures { (t : Option ℤ) → Holds t y → Holds (bind t λ v. down binary32 1 (worth s +ℤ v)) result }
+    ensures { (t : Option ℤ) → Holds t y → Holds (bind t λ v. D.way binary32 1 (worth s +ℤ v)) result }
 {
-    limit_down(add_down(s, y))
+    D::limit_sum(add::<D>(s, y))
 }
 
 // The same where neither s nor y is above zero.
-pub fn plus_negative(s: Number, y: Number) -> Number
+pub fn plus_negative<D: Short>(s: Number, y: Number) -> Number
     requires { IsNumber s × Part y × Below s × Below y }
-    ensures { (t : Option ℤ) → Holds t y → Holds (bind t λ v. down binary32 1 (worth s +ℤ v)) result }
+    ensures { (t : Option ℤ) → Holds t y → Holds (bind t λ v. D.way binary32 1 (worth s +ℤ v)) result }
 {
-    limit_down(add_negative(s, y))
+    D::limit_sum(add_negative::<D>(s, y))
 }

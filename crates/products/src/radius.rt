@@ -8,6 +8,7 @@ use crate::pattern::unpack;
 use crate::plus::plus_negative;
 use crate::rounded::rounded_up;
 use crate::times::times;
+use binary32::direction::Down;
 use binary32::order::magnitude;
 use unpacked::{Number, is_none};
 
@@ -18,7 +19,7 @@ fn grown(radius: Number, u: u32, v: u32) -> Number
 {
     let a = magnitude(u);
     let b = magnitude(v);
-    plus_negative(radius, rounded_up(times(unpack(a), unpack(b))))
+    plus_negative::<Down>(radius, rounded_up(times(unpack(a), unpack(b))))
 }
 
 // The radius plus |u| × |w| for each l below k, where u is in row i and column l of ra (k columns) and w in row l and column j of wb (n columns).

@@ -14,8 +14,9 @@ use crate::apart::Apart;
 use crate::corners::{corner_by_sign, greater, lesser};
 use crate::number::opposite;
 use crate::pattern::{pack, unpack};
-use crate::plus::plus_down;
-use crate::rounded::{rounded_down, rounded_up};
+use crate::plus::plus;
+use crate::rounded::{rounded, rounded_up};
+use binary32::direction::Down;
 use unpacked::{Number, is_none, zero};
 
 // The lower sum, and the negated upper sum: rounding x up is negating -x rounded down, so both sums are rounded down. Each is a number or none.
@@ -67,8 +68,8 @@ impl Sums {
         let low = lesser(corner_by_sign(w, y, z), corner_by_sign(x, y, z)).product;
         let high = greater(corner_by_sign(w, z, y), corner_by_sign(x, z, y)).product;
         Sums {
-            lower: plus_down(self.lower, rounded_down(low)),
-            opposed: plus_down(self.opposed, rounded_up(high)),
+            lower: plus::<Down>(self.lower, rounded::<Down>(low)),
+            opposed: plus::<Down>(self.opposed, rounded_up(high)),
         }
     }
 
@@ -106,7 +107,7 @@ pub fn ends(lower: Number, opposed: Number, radius: Number) -> Sums
     ensures { Ended lower opposed radius result }
 {
     Sums {
-        lower: plus_down(lower, radius),
-        opposed: plus_down(opposed, radius),
+        lower: plus::<Down>(lower, radius),
+        opposed: plus::<Down>(opposed, radius),
     }
 }

@@ -11,6 +11,7 @@ use crate::number::opposite;
 use crate::plus::plus_negative;
 use crate::radius::outer;
 use crate::sums::{Place, ends};
+use binary32::direction::Down;
 use unpacked::{is_none, minus_tiny};
 
 // From midpoints and radii. vb has rB' for each cell of B, wb |m| + r. The radius gets 2^-125 between its two sums.
@@ -50,7 +51,7 @@ pub fn entries(
                     }
                 }
             }
-            let inner = plus_negative(s.radius, minus_tiny());
+            let inner = plus_negative::<Down>(s.radius, minus_tiny());
             if is_none(inner) {
                 place = Some(Place { row: i, column: j });
                 break 'search;

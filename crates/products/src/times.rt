@@ -1,8 +1,9 @@
 // Products of unpacked numbers: exact in 48 bits, and rounded to the first 24 of these.
 ghost use Rattle.std.specs.Prelude.{◌≡◌, cond, false, ◌^◌, ◌≤◌, ltb, nat_abs};
-ghost use Rattle.unpacked.specs.Exact.{Factors, ProductIs, Shortened, ShortenedNear, Turned};
+ghost use Rattle.unpacked.specs.Exact.{Factors, ProductIs, Short, Turned};
 
-use crate::shifts::{digits, lowered, multiplied, nearest, twice};
+use crate::shifts::{digits, multiplied, twice};
+use crate::short::Short;
 use unpacked::{BIAS, LARGEST_EXPONENT, Number, Product};
 
 // The bias of a Product's exponent: its value is sig × 2^(exp - 950) units. 950 is 2 × 400 for the factors' biases, 149 since a unit times a unit
@@ -55,13 +56,13 @@ pub fn is_usual(e: u32) -> bool
     e < LARGE
 }
 
-// p, rounded down to its first 24 bits.
-pub fn shortened(p: Product) -> Number
+// p, rounded to its first 24 bits.
+pub fn shortened<D: Short>(p: Product) -> Number
     requires { (nat_abs p.sig ≤ 2 ^ 48) × (926 ≤ p.exp) }
-    ensures { Shortened p result }
+    ensures { Short D.part p result }
 {
     Number {
-        sig: lowered(p.sig, HALF),
+        sig: D::shorten(p.sig, HALF),
         exp: p.exp - TO_NUMBER,
     }
 }
@@ -74,16 +75,5 @@ pub fn turned(p: Product) -> Product
     Product {
         sig: -p.sig,
         exp: p.exp,
-    }
-}
-
-// p, rounded to nearest to its first 24 bits.
-pub fn shortened_near(p: Product) -> Number
-    requires { (nat_abs p.sig ≤ 2 ^ 48) × (926 ≤ p.exp) }
-    ensures { ShortenedNear p result }
-{
-    Number {
-        sig: nearest(p.sig, HALF),
-        exp: p.exp - TO_NUMBER,
     }
 }

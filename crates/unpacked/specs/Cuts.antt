@@ -94,12 +94,16 @@ pub record OrLow (w : ℤ) (e r : ℕ) : Type 0 where
   pub none : w ≡ pos 0 → r ≡ 64
   pub some : 0 < nat_abs w → r ≡ e
 
--- r is w * 2 ^ exp without its 36 guard bits, rounded down to 24 bits: w is shifted up to 62 bits, and 38 are dropped.
+-- r is w * 2 ^ exp without its 36 guard bits, rounded to 24 bits by `part`: w is shifted up to 62 bits, and 38 are dropped.
 -- Dropping 38 bits, of which 36 are guard bits, adds 2 to the exponent
-pub record CutDown (w : ℤ) (exp : ℕ) (r : Number) : Type 0 where
-  pub sigs : r.sig ≡ shr_z (w *ℤ pos (2 ^ room w)) (2 ^ 38)
+pub record Cut (part : ℤ → ℕ → ℤ) (w : ℤ) (exp : ℕ) (r : Number) : Type 0 where
+  pub sigs : r.sig ≡ part (w *ℤ pos (2 ^ room w)) (2 ^ 38)
   pub none : w ≡ pos 0 → r.exp ≡ 64
   pub some : 0 < nat_abs w → r.exp + room w ≡ exp + 2
+
+-- rounded down
+abbrev pub CutDown : ℤ → ℕ → Number → Type 0
+CutDown = Cut shr_z
 
 -- w is a sum with 36 guard bits of two summands that are not positive: from -2 ^ 61 to -2 ^ 59, or zero, which has the exponent 64
 pub record Filled (w : ℤ) (exp : ℕ) : Type 0 where
@@ -108,10 +112,14 @@ pub record Filled (w : ℤ) (exp : ℕ) : Type 0 where
   pub full : 0 < nat_abs w → 2 ^ 59 ≤ nat_abs w
   pub low : nat_abs w ≡ 0 → exp ≡ 64
 
--- r is w * 2 ^ exp without its 36 guard bits, rounded down to 24 bits, for such a w: 36 bits are dropped, or 37 where the sum carried
-pub record CutNegative (w : ℤ) (exp : ℕ) (r : Number) : Type 0 where
-  pub carry : 2 ^ 60 < nat_abs w → (r.sig ≡ shr_z w (2 ^ 37)) × (r.exp ≡ exp + 1)
-  pub plain : nat_abs w ≤ 2 ^ 60 → (r.sig ≡ shr_z w (2 ^ 36)) × (r.exp ≡ exp)
+-- r is w * 2 ^ exp without its 36 guard bits, rounded to 24 bits by `part`, for such a w: 36 bits are dropped, or 37 where the sum carried
+pub record CutFilled (part : ℤ → ℕ → ℤ) (w : ℤ) (exp : ℕ) (r : Number) : Type 0 where
+  pub carry : 2 ^ 60 < nat_abs w → (r.sig ≡ part w (2 ^ 37)) × (r.exp ≡ exp + 1)
+  pub plain : nat_abs w ≤ 2 ^ 60 → (r.sig ≡ part w (2 ^ 36)) × (r.exp ≡ exp)
+
+-- rounded down
+abbrev pub CutNegative : ℤ → ℕ → Number → Type 0
+CutNegative = CutFilled shr_z
 
 -- t / m rounded to nearest, ties to even
 abbrev pub nearest_of : ℤ → ℕ → ℤ

@@ -7,6 +7,7 @@ use Rattle.std.specs.Int.Signed.{shr_z}
 use Rattle.rounding.specs.Format.{binary32}
 use Rattle.rounding.specs.Rounding.{down, up, near, negate}
 use Rattle.binary32.specs.Number.{value_of, finites}
+use Rattle.binary32.specs.Operations.{Way}
 use Rattle.unpacked.specs.declared.Number.{Number}
 use Rattle.unpacked.specs.declared.Product.{Product}
 use Rattle.unpacked.specs.Number.{worth, Part, Holds}
@@ -50,30 +51,33 @@ pub record Formed (p : Product) : Type 0 where
   pub few : nat_abs p.sig ≤ 2 ^ 48
   pub full : 926 ≤ p.exp → p.exp ≤ 1307 → 2 ^ 47 ≤ nat_abs p.sig
 
--- r is p rounded down; none where a factor is none
-pub record RoundedDown (p : Product) (r : Number) : Type 0 where
-  pub number : (X : ℤ) → Exact X p → Holds (down binary32 (2 ^ 149) X) r
+-- r is p rounded by `way`; none where a factor is none
+pub record Rounded (way : Way) (p : Product) (r : Number) : Type 0 where
+  pub number : (X : ℤ) → Exact X p → Holds (way binary32 (2 ^ 149) X) r
   pub none : 1307 < p.exp → Holds none r
 
--- r is -q, where q is p rounded up; none where a factor is none
-pub record RoundedUp (p : Product) (r : Number) : Type 0 where
-  pub number : (X : ℤ) → Exact X p → Holds (negate (up binary32 (2 ^ 149) X)) r
-  pub none : 1307 < p.exp → Holds none r
+abbrev pub RoundedDown : Product → Number → Type 0
+RoundedDown = Rounded down
 
--- r is p rounded to nearest; none where a factor is none
-pub record RoundedNear (p : Product) (r : Number) : Type 0 where
-  pub number : (X : ℤ) → Exact X p → Holds (near binary32 (2 ^ 149) X) r
-  pub none : 1307 < p.exp → Holds none r
+-- r is -q, where q is p rounded up
+abbrev pub RoundedUp : Product → Number → Type 0
+RoundedUp = Rounded (λ f D X. negate (up f D X))
 
--- r is p rounded down to its first 24 bits; 526 = 950 - 24 - 400
-pub record Shortened (p : Product) (r : Number) : Type 0 where
-  pub sigs : r.sig ≡ shr_z p.sig (2 ^ 24)
+abbrev pub RoundedNear : Product → Number → Type 0
+RoundedNear = Rounded near
+
+-- r is p rounded by `part` to its first 24 bits; 526 = 950 - 24 - 400
+pub record Short (part : ℤ → ℕ → ℤ) (p : Product) (r : Number) : Type 0 where
+  pub sigs : r.sig ≡ part p.sig (2 ^ 24)
   pub exps : r.exp ≡ p.exp - 526
 
--- r is p rounded to nearest to its first 24 bits
-pub record ShortenedNear (p : Product) (r : Number) : Type 0 where
-  pub sigs : r.sig ≡ nearest_of p.sig (2 ^ 24)
-  pub exps : r.exp ≡ p.exp - 526
+-- rounded down
+abbrev pub Shortened : Product → Number → Type 0
+Shortened = Short shr_z
+
+-- rounded to nearest
+abbrev pub ShortenedNear : Product → Number → Type 0
+ShortenedNear = Short nearest_of
 
 -- r is -p
 pub record Turned (p r : Product) : Type 0 where

@@ -30,12 +30,12 @@ outer-requires c =
     let z : (c.zero.result ≡ zero_number) = c.zero.ensures in
     (subst IsNumber (sym z) zero_runs.number, subst Below (sym z) zero_below, c.requires.3)
 
-pub plus_down-requires : goal.plus_down-requires
-plus_down-requires c =
+pub plus-requires : goal.plus-requires
+plus-requires c =
     let w = line c.args.k c.args.n c.args.i c.args.j c.args.wa.now c.args.wb.now in
     let g = number c.args.size c.requires.0 in
     let S = sums w c.zero.result c.outer.result c.zero.ensures c.outer.ensures in
-    let L = less_holds w.k c.requires.2 _ g w refl c.opposite.result c.plus_down-less.result c.opposite.ensures.worths (c.plus_down-less.ensures _ S) in
+    let L = less_holds w.k c.requires.2 _ g w refl c.opposite.result c.plus-less.result c.opposite.ensures.worths (c.plus-less.ensures _ S) in
     ((twice_number w.k c.requires.2 _ g c.twice_error.result c.twice_error.ensures).0, L.part)
 
 pub returns : goal.returns
@@ -43,5 +43,5 @@ returns c =
     let w = line c.args.k c.args.n c.args.i c.args.j c.args.wa.now c.args.wb.now in
     let g = number c.args.size c.requires.0 in
     let S = sums w c.zero.result c.outer.result c.zero.ensures c.outer.ensures in
-    let L = less_holds w.k c.requires.2 _ g w refl c.opposite.result c.plus_down-less.result c.opposite.ensures.worths (c.plus_down-less.ensures _ S) in
-    radius_holds w.k c.requires.2 _ g w refl c.twice_error.result c.plus_down.result c.twice_error.ensures (c.plus_down.ensures _ L)
+    let L = less_holds w.k c.requires.2 _ g w refl c.opposite.result c.plus-less.result c.opposite.ensures.worths (c.plus-less.ensures _ S) in
+    radius_holds w.k c.requires.2 _ g w refl c.twice_error.result c.plus.result c.twice_error.ensures (c.plus.ensures _ L)

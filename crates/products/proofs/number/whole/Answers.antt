@@ -21,9 +21,9 @@ raised_is c = read c.raised.result c.raised.type_inv ∙ c.raised.ensures ∙ ap
 pub raised-requires : goal.raised-requires
 raised-requires c = subst (λ (t : ℤ). nat_abs t ≤ 2 ^ 24) (sym (plain c)) c.requires
 
-pub cut_down-requires : goal.cut_down-requires
-cut_down-requires c = (subst (λ (t : ℤ). nat_abs t ≤ 2 ^ 61) (sym (raised_is c)) (omega (arith, raised_abs c.args.z, c.requires)), omega arith, omega arith)
+pub cut-requires : goal.cut-requires
+cut-requires c = (subst (λ (t : ℤ). nat_abs t ≤ 2 ^ 61) (sym (raised_is c)) (omega (arith, raised_abs c.args.z, c.requires)), omega arith, omega arith)
 
 pub returns : goal.returns
 returns c =
-    whole_holds c.args.z c.cut_down.result c.requires (subst (λ (t : ℤ). CutDown t 400 c.cut_down.result) (raised_is c.before) c.cut_down.ensures)
+    whole_holds c.args.z c.cut.result c.requires (subst (λ (t : ℤ). CutDown t 400 c.cut.result) (raised_is c.before) c.cut.ensures)

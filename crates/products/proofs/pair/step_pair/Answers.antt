@@ -25,24 +25,24 @@ corner_by_sign-requires-4 c =
     let b = bounds_of c.args.a c.args.bl c.args.bu c.lower-w.result c.upper-x.result c.unpack-y.result c.unpack-z.result c.requires.1 c.lower-w.ensures c.upper-x.ensures c.unpack-y.ensures c.unpack-z.ensures in
     (b.x_number, b.z_number, b.y_number)
 
-pub rounded_down-requires : goal.rounded_down-requires
-rounded_down-requires c =
+pub rounded-requires : goal.rounded-requires
+rounded-requires c =
     let b = bounds_of c.args.a c.args.bl c.args.bu c.lower-w.result c.upper-x.result c.unpack-y.result c.unpack-z.result c.requires.1 c.lower-w.ensures c.upper-x.ensures c.unpack-y.ensures c.unpack-z.ensures in
     exact_formed (step.least_exact b c.corner_by_sign.ensures c.corner_by_sign-2.ensures c.lesser.ensures)
 
-pub plus_down-requires : goal.plus_down-requires
-plus_down-requires c =
+pub plus-requires : goal.plus-requires
+plus-requires c =
     let b = bounds_of c.args.a c.args.bl c.args.bu c.lower-w.result c.upper-x.result c.unpack-y.result c.unpack-z.result c.requires.1 c.lower-w.ensures c.upper-x.ensures c.unpack-y.ensures c.unpack-z.ensures in
     let l = step.least_exact b c.corner_by_sign.ensures c.corner_by_sign-2.ensures c.lesser.ensures in
-    (c.requires.0.lower, (step.lower_term b l c.rounded_down.ensures).part)
+    (c.requires.0.lower, (step.lower_term b l c.rounded.ensures).part)
 
 pub rounded_up-requires : goal.rounded_up-requires
 rounded_up-requires c =
     let b = bounds_of c.args.a c.args.bl c.args.bu c.lower-w.result c.upper-x.result c.unpack-y.result c.unpack-z.result c.requires.1 c.lower-w.ensures c.upper-x.ensures c.unpack-y.ensures c.unpack-z.ensures in
     exact_formed (step.greatest_exact b c.corner_by_sign-3.ensures c.corner_by_sign-4.ensures c.greater.ensures)
 
-pub plus_down-requires-2 : goal.plus_down-requires-2
-plus_down-requires-2 c =
+pub plus-requires-2 : goal.plus-requires-2
+plus-requires-2 c =
     let b = bounds_of c.args.a c.args.bl c.args.bu c.lower-w.result c.upper-x.result c.unpack-y.result c.unpack-z.result c.requires.1 c.lower-w.ensures c.upper-x.ensures c.unpack-y.ensures c.unpack-z.ensures in
     let h = step.greatest_exact b c.corner_by_sign-3.ensures c.corner_by_sign-4.ensures c.greater.ensures in
     (c.requires.0.opposed, (step.upper_term b h c.rounded_up.ensures).part)
@@ -52,4 +52,4 @@ returns c =
     let b = bounds_of c.args.a c.args.bl c.args.bu c.lower-w.result c.upper-x.result c.unpack-y.result c.unpack-z.result c.requires.1 c.lower-w.ensures c.upper-x.ensures c.unpack-y.ensures c.unpack-z.ensures in
     let l = step.least_exact b c.corner_by_sign.ensures c.corner_by_sign-2.ensures c.lesser.ensures in
     let h = step.greatest_exact b c.corner_by_sign-3.ensures c.corner_by_sign-4.ensures c.greater.ensures in
-    pair_holds c.args.s _ _ _ (c.plus_down.ensures _ (step.lower_term b l c.rounded_down.ensures)) (c.plus_down-2.ensures _ (step.upper_term b h c.rounded_up.ensures))
+    pair_holds c.args.s _ _ _ (c.plus.ensures _ (step.lower_term b l c.rounded.ensures)) (c.plus-2.ensures _ (step.upper_term b h c.rounded_up.ensures))

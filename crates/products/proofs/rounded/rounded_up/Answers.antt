@@ -3,8 +3,8 @@ use Rattle.unpacked.proofs.RoundedProducts.{turned_formed, rounded_turned}
 use borrow.Author.Rules.{rules}
 use Rattle.products.proofs.rounded.rounded_up.Goals as goal
 
-pub rounded_down-requires : goal.rounded_down-requires
-rounded_down-requires c = turned_formed c.requires c.turned.ensures
+pub rounded-requires : goal.rounded-requires
+rounded-requires c = turned_formed c.requires c.turned.ensures
 
 pub returns : goal.returns
-returns c = rounded_turned c.turned.ensures c.rounded_down.ensures
+returns c = rounded_turned c.turned.ensures c.rounded.ensures

@@ -1,37 +1,32 @@
--- `products::rounded::small` meets its contract: by `small_holds`.
+-- `products::rounded::small` meets its contract: by the law `units`.
 use mathlib.Core.Path.{◌≡◌, sym, ap₂, ◌∙◌, subst}
 use mathlib.Core.Option.{some}
-use Prim.Native.Nat.{ℕ, ◌^◌, ◌≤◌}
+use Prim.Native.Nat.{ℕ, ◌-◌, ◌^◌, ◌≤◌, ◌<◌, min}
 use native.Mathlib.Omega.{arith}
 use lib.IntN.{ℤ, nat_abs}
-use lib.Signed.{shr_z}
+use lib.Signed.{mag}
 use mir.Syntax.{w64}
 use mir.Val.{to_z, of_z}
 use Rattle.binary32.proofs.Ints.{read, read_small}
-use Rattle.unpacked.specs.declared.Product.{Product}
 use Rattle.unpacked.specs.Number.{Holds}
-use Rattle.unpacked.proofs.SmallProducts.{units, small_few, small_holds}
 use borrow.Author.Rules.{rules}
 use Rattle.products.proofs.rounded.small.Goals as goal
 
-module _ (c : goal.After-lowered) where
-  abbrev P : Product
-  P = c.args.p
+-- the units, read back
+units_are : (part : ℤ → ℕ → ℤ) (s v : ℤ) (d n : ℕ) → nat_abs s ≤ 2 ^ 48 → d ≡ n → mag v < 2 ^ 63 → v ≡ part (to_z w64 (of_z w64 s)) (2 ^ d)
+    → to_z w64 (of_z w64 v) ≡ part s (2 ^ n)
+units_are part s v d n h k t e = read v t ∙ e ∙ ap₂ (λ (a : ℤ) (b : ℕ). part a (2 ^ b)) (read_small s (omega (arith, h))) k
 
-  abbrev U : ℤ
-  U = units P c.requires.0 c.requires.1
-
-  lowered_is : to_z w64 (of_z w64 c.lowered.result) ≡ U
-  lowered_is =
-      read c.lowered.result c.lowered.type_inv ∙ c.lowered.ensures
-      ∙ ap₂ (λ (t : ℤ) (n : ℕ). shr_z t (2 ^ n)) (read_small P.sig (omega (arith, c.requires.0))) c.cap.ensures
-
-  few : nat_abs (to_z w64 (of_z w64 c.lowered.result)) ≤ 2 ^ 24
-  few = subst (λ (t : ℤ). nat_abs t ≤ 2 ^ 24) (sym lowered_is) (small_few P c.requires.0 c.requires.1)
+pub shorten-requires : goal.shorten-requires
+shorten-requires g c =
+    (subst (λ (t : ℤ). nat_abs t ≤ 2 ^ 62) (sym (read_small c.args.p.sig (omega (arith, c.requires.0)))) (omega (arith, c.requires.0)), omega (arith, c.cap.ensures, c.requires.1), omega (arith, c.cap.ensures))
 
 pub whole-requires : goal.whole-requires
-whole-requires c = few c
+whole-requires g c =
+    let is = units_are g.D.Short.part c.args.p.sig c.shorten.result c.cap.result _ c.requires.0 c.cap.ensures c.shorten.type_inv c.shorten.ensures in
+    subst (λ (t : ℤ). nat_abs t ≤ 2 ^ 24) (sym is) (g.met.D.Short.laws.few c.args.p c.requires.0 c.requires.1)
 
 pub returns : goal.returns
-returns c =
-    λ X i. small_holds (P c.before) c.requires.0 c.requires.1 X i c.whole.result (subst (λ (t : ℤ). Holds (some t) c.whole.result) (lowered_is c.before) c.whole.ensures)
+returns g c = λ X i.
+    let is = units_are g.D.Short.part c.args.p.sig c.shorten.result c.cap.result _ c.requires.0 c.cap.ensures c.shorten.type_inv c.shorten.ensures in
+    g.met.D.Short.laws.units c.args.p c.requires.0 c.requires.1 X i c.whole.result (subst (λ (t : ℤ). Holds (some t) c.whole.result) is c.whole.ensures)

@@ -20,32 +20,32 @@ size_term x y t g h n = subst (λ m. Holds m g) (minus_size_is x y) (negative_ho
 pub times-requires : goal.times-requires
 times-requires c = record { first = number_part c.requires.1; second = c.unpack.ensures.part }
 
-pub rounded_near-t-requires : goal.rounded_near-t-requires
-rounded_near-t-requires c =
+pub rounded-t-requires : goal.rounded-t-requires
+rounded-t-requires c =
     exact_formed (exact_product c.args.x c.args.y c.unpack.result c.times.result c.requires.1 c.requires.2 c.unpack.ensures c.times.ensures)
 
-pub plus_near-requires : goal.plus_near-requires
-plus_near-requires c =
+pub plus-requires : goal.plus-requires
+plus-requires c =
     let e = exact_product c.args.x c.args.y c.unpack.result c.times.result c.requires.1 c.requires.2 c.unpack.ensures c.times.ensures in
-    (c.requires.0.centre, (c.rounded_near-t.ensures.number _ e).part)
+    (c.requires.0.centre, (c.rounded-t.ensures.number _ e).part)
 
 pub negative-requires : goal.negative-requires
 negative-requires c =
     let e = exact_product c.args.x c.args.y c.unpack.result c.times.result c.requires.1 c.requires.2 c.unpack.ensures c.times.ensures in
-    (c.rounded_near-t.ensures.number _ e).part.normal
+    (c.rounded-t.ensures.number _ e).part.normal
 
-pub plus_near_negative-requires : goal.plus_near_negative-requires
-plus_near_negative-requires c =
+pub plus_negative-requires : goal.plus_negative-requires
+plus_negative-requires c =
     let e = exact_product c.args.x c.args.y c.unpack.result c.times.result c.requires.1 c.requires.2 c.unpack.ensures c.times.ensures in
     let n = c.requires.0 in
-    let g = size_term (worth c.args.x) (value_of c.args.y) _ c.negative.result (c.rounded_near-t.ensures.number _ e) c.negative.ensures in
-    (n.size, g.part, n.below, negative_under c.rounded_near-t.result c.negative.result c.negative.ensures)
+    let g = size_term (worth c.args.x) (value_of c.args.y) _ c.negative.result (c.rounded-t.ensures.number _ e) c.negative.ensures in
+    (n.size, g.part, n.below, negative_under c.rounded-t.result c.negative.result c.negative.ensures)
 
 pub returns : goal.returns
 returns c =
     let e = exact_product c.args.x c.args.y c.unpack.result c.times.result c.requires.1 c.requires.2 c.unpack.ensures c.times.ensures in
-    let t = c.rounded_near-t.ensures.number _ e in
+    let t = c.rounded-t.ensures.number _ e in
     record {
-      centre = c.plus_near.ensures _ t;
-      size = c.plus_near_negative.ensures _ (size_term (worth c.args.x) (value_of c.args.y) _ c.negative.result t c.negative.ensures);
+      centre = c.plus.ensures _ t;
+      size = c.plus_negative.ensures _ (size_term (worth c.args.x) (value_of c.args.y) _ c.negative.result t c.negative.ensures);
     }

@@ -21,21 +21,21 @@ plus_negative-requires c =
     let g = by_sizes _ _ _ _ c.rounded_up.result refl c.magnitude-w.ensures (up_exactly q c.rounded_up.ensures) in
     (p.0.radius, g.part, p.1, term_below _ _ c.rounded_up.result g)
 
-pub rounded_down-requires : goal.rounded_down-requires
-rounded_down-requires c =
+pub rounded-requires : goal.rounded-requires
+rounded-requires c =
     exactly_formed (exactly_of c.args.x c.args.y c.unpack-f.result c.unpack.result c.times-p.result c.unpack-f.ensures c.unpack.ensures c.times-p.ensures)
 
-pub plus_down-requires : goal.plus_down-requires
-plus_down-requires c =
+pub plus-requires : goal.plus-requires
+plus-requires c =
     let e = exactly_of c.args.x c.args.y c.unpack-f.result c.unpack.result c.times-p.result c.unpack-f.ensures c.unpack.ensures c.times-p.ensures in
-    (c.requires.0.lower, (down_exactly e c.rounded_down.ensures).part)
+    (c.requires.0.lower, (down_exactly e c.rounded.ensures).part)
 
 pub rounded_up-requires-2 : goal.rounded_up-requires-2
 rounded_up-requires-2 c =
     exactly_formed (exactly_of c.args.x c.args.y c.unpack-f.result c.unpack.result c.times-p.result c.unpack-f.ensures c.unpack.ensures c.times-p.ensures)
 
-pub plus_down-requires-2 : goal.plus_down-requires-2
-plus_down-requires-2 c =
+pub plus-requires-2 : goal.plus-requires-2
+plus-requires-2 c =
     let e = exactly_of c.args.x c.args.y c.unpack-f.result c.unpack.result c.times-p.result c.unpack-f.ensures c.unpack.ensures c.times-p.ensures in
     (c.requires.0.opposed, (up_exactly e c.rounded_up-2.ensures).part)
 
@@ -46,7 +46,7 @@ returns c =
     let s = absolute_unpacked a.x c.unpack-f.result c.absolute.result c.requires.2 c.unpack-f.ensures c.absolute.ensures in
     let q = exactly_of _ c.magnitude-w.result c.absolute.result c.unpack-2.result c.times-q.result s c.unpack-2.ensures c.times-q.ensures in
     record {
-      lower = c.plus_down.ensures (with₂ (mul down) a.x a.y) (down_exactly e c.rounded_down.ensures);
-      opposed = c.plus_down-2.ensures (negate (with₂ (mul up) a.x a.y)) (up_exactly e c.rounded_up-2.ensures);
+      lower = c.plus.ensures (with₂ (mul down) a.x a.y) (down_exactly e c.rounded.ensures);
+      opposed = c.plus-2.ensures (negate (with₂ (mul up) a.x a.y)) (up_exactly e c.rounded_up-2.ensures);
       radius = c.plus_negative.ensures _ (by_sizes _ _ _ _ c.rounded_up.result refl c.magnitude-w.ensures (up_exactly q c.rounded_up.ensures));
     }

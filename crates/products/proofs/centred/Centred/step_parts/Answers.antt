@@ -6,31 +6,31 @@ use Rattle.unpacked.proofs.RoundedProducts.{exactly_formed, down_exactly, up_exa
 use Rattle.products.proofs.Continuing.{size_exactly}
 use Rattle.products.proofs.centred.Centred.step_parts.Goals as goal
 
-pub rounded_down-below-requires : goal.rounded_down-below-requires
-rounded_down-below-requires c =
+pub rounded-below-requires : goal.rounded-below-requires
+rounded-below-requires c =
     exactly_formed (exactly_of c.args.x c.args.y c.unpack.result c.unpack-2.result c.times-p.result c.unpack.ensures c.unpack-2.ensures c.times-p.ensures)
 
 pub rounded_up-above-requires : goal.rounded_up-above-requires
 rounded_up-above-requires c =
     exactly_formed (exactly_of c.args.x c.args.y c.unpack.result c.unpack-2.result c.times-p.result c.unpack.ensures c.unpack-2.ensures c.times-p.ensures)
 
-pub plus_down-requires : goal.plus_down-requires
-plus_down-requires c =
+pub plus-requires : goal.plus-requires
+plus-requires c =
     let e = exactly_of c.args.x c.args.y c.unpack.result c.unpack-2.result c.times-p.result c.unpack.ensures c.unpack-2.ensures c.times-p.ensures in
-    (c.requires.lower, (down_exactly e c.rounded_down-below.ensures).part)
+    (c.requires.lower, (down_exactly e c.rounded-below.ensures).part)
 
-pub plus_down-requires-2 : goal.plus_down-requires-2
-plus_down-requires-2 c =
+pub plus-requires-2 : goal.plus-requires-2
+plus-requires-2 c =
     let e = exactly_of c.args.x c.args.y c.unpack.result c.unpack-2.result c.times-p.result c.unpack.ensures c.unpack-2.ensures c.times-p.ensures in
     (c.requires.opposed, (up_exactly e c.rounded_up-above.ensures).part)
 
 pub size_down-requires : goal.size_down-requires
 size_down-requires c =
     let e = exactly_of c.args.x c.args.y c.unpack.result c.unpack-2.result c.times-p.result c.unpack.ensures c.unpack-2.ensures c.times-p.ensures in
-    (exactly_formed e, c.rounded_down-below.ensures, c.rounded_up-above.ensures)
+    (exactly_formed e, c.rounded-below.ensures, c.rounded_up-above.ensures)
 
-pub plus_down-requires-3 : goal.plus_down-requires-3
-plus_down-requires-3 c =
+pub plus-requires-3 : goal.plus-requires-3
+plus-requires-3 c =
     let e = exactly_of c.args.x c.args.y c.unpack.result c.unpack-2.result c.times-p.result c.unpack.ensures c.unpack-2.ensures c.times-p.ensures in
     (c.requires.radius, (size_exactly _ _ _ _ e c.size_down.ensures).part)
 
@@ -39,7 +39,7 @@ returns c =
     let a = c.args in
     let e = exactly_of a.x a.y c.unpack.result c.unpack-2.result c.times-p.result c.unpack.ensures c.unpack-2.ensures c.times-p.ensures in
     record {
-      lower = c.plus_down.ensures (with₂ (mul down) a.x a.y) (down_exactly e c.rounded_down-below.ensures);
-      opposed = c.plus_down-2.ensures (negate (with₂ (mul up) a.x a.y)) (up_exactly e c.rounded_up-above.ensures);
-      radius = c.plus_down-3.ensures _ (size_exactly _ _ _ _ e c.size_down.ensures);
+      lower = c.plus.ensures (with₂ (mul down) a.x a.y) (down_exactly e c.rounded-below.ensures);
+      opposed = c.plus-2.ensures (negate (with₂ (mul up) a.x a.y)) (up_exactly e c.rounded_up-above.ensures);
+      radius = c.plus-3.ensures _ (size_exactly _ _ _ _ e c.size_down.ensures);
     }

@@ -34,14 +34,14 @@ times-q-requires c =
       second = c.unpack-2.ensures.part;
     }
 
-pub rounded_near-requires : goal.rounded_near-requires
-rounded_near-requires c =
+pub rounded-requires : goal.rounded-requires
+rounded-requires c =
     exactly_formed (exactly_of c.args.x c.args.y c.unpack-f.result c.unpack.result c.times-p.result c.unpack-f.ensures c.unpack.ensures c.times-p.ensures)
 
-pub plus_near-requires : goal.plus_near-requires
-plus_near-requires c =
+pub plus-requires : goal.plus-requires
+plus-requires c =
     let first = exactly_of c.args.x c.args.y c.unpack-f.result c.unpack.result c.times-p.result c.unpack-f.ensures c.unpack.ensures c.times-p.ensures in
-    (c.requires.0.centre, (near_exactly first c.rounded_near.ensures).part)
+    (c.requires.0.centre, (near_exactly first c.rounded.ensures).part)
 
 pub rounded_up-requires : goal.rounded_up-requires
 rounded_up-requires c =
@@ -65,6 +65,6 @@ returns c =
     grows a.x a.v c.magnitude-w.result c.unpack-f.result c.absolute.result c.unpack-2.result c.rounded_up.result c.times-q.result
     c.requires.1 c.unpack-f.ensures c.absolute.ensures c.magnitude-w.ensures c.unpack-2.ensures c.times-q.ensures c.rounded_up.ensures in
     record {
-      centre = c.plus_near.ensures (with₂ (mul near) a.x a.y) (near_exactly first c.rounded_near.ensures);
+      centre = c.plus.ensures (with₂ (mul near) a.x a.y) (near_exactly first c.rounded.ensures);
       radius = c.plus_negative.ensures _ g;
     }

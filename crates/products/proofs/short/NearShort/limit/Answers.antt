@@ -1,4 +1,4 @@
--- `products::near::limit_near` meets its contract: by `limit_near_fits` and `limit_near_over`. Both fields are chosen by the same test.
+-- `products::short::NearShort::limit` meets its contract: by `limit_near_fits` and `limit_near_over`. Both fields are chosen by the same test.
 use mathlib.Core.Path.{◌≡◌, sym, ◌∙◌, subst}
 use native.Mathlib.Omega.{arith}
 use lib.IntN.{ℤ, negsuc}
@@ -8,8 +8,8 @@ use Rattle.binary32.proofs.Ints.{read_small}
 use Rattle.unpacked.specs.Number.{worth, Holds}
 use Rattle.unpacked.specs.Cuts.{limited_near}
 use Rattle.unpacked.proofs.Limits.{limit_near_fits, limit_near_over}
-use Rattle.products.proofs.near.limit_near.Goals as goal
-use Rattle.products.proofs.near.limit_near.Goals.{then-ok, else-ok}
+use Rattle.products.proofs.short.NearShort.limit.Goals as goal
+use Rattle.products.proofs.short.NearShort.limit.Goals.{then-ok, else-ok}
 
 -- both fields are chosen by the same test
 pub returns-then-ok-2 : goal.returns-then-ok-2

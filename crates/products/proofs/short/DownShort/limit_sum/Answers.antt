@@ -1,9 +1,9 @@
--- `products::plus::limit_down` meets its contract: below the largest exponent by `fits_below`.
+-- `products::short::DownShort::limit_sum` meets its contract: below the largest exponent by `fits_below`.
 use mathlib.Core.Path.{sym}
 use Rattle.unpacked.proofs.Worths.{fits_below}
 use Rattle.unpacked.proofs.Limits.{limit_fits}
 use borrow.Author.Rules.{rules}
-use Rattle.products.proofs.plus.limit_down.Goals as goal
+use Rattle.products.proofs.short.DownShort.limit_sum.Goals as goal
 
 pub returns-then-x-lt-LARGEST_EXPONENT : goal.returns-then-x-lt-LARGEST_EXPONENT
 returns-then-x-lt-LARGEST_EXPONENT c =

@@ -1,4 +1,4 @@
--- `products::plus::limit` meets its contract: by `limit_fits`, `limit_below` and `limit_above`.
+-- `products::short::DownShort::limit` meets its contract: by `limit_fits`, `limit_below` and `limit_above`.
 use mathlib.Core.Path.{sym, ◌∙◌, subst}
 use mathlib.Core.Bool.{true, false}
 use native.Mathlib.Omega.{arith}
@@ -8,7 +8,7 @@ use Rattle.unpacked.specs.Number.{worth, Holds}
 use Rattle.unpacked.specs.Cuts.{limited}
 use Rattle.unpacked.proofs.Limits.{limit_fits, limit_below, limit_above}
 use borrow.Author.Rules.{rules}
-use Rattle.products.proofs.plus.limit.Goals as goal
+use Rattle.products.proofs.short.DownShort.limit.Goals as goal
 
 pub returns-then-fits : goal.returns-then-fits
 returns-then-fits c =
