@@ -52,7 +52,7 @@ pub fn entries(
                     let y = bl[b];
                     let z = bu[b];
                     if is_nonzero(y, z) {
-                        s = s.step(a, y, z);
+                        s = s.step::<1>(a, y, z);
                         if s.refused() {
                             place = Some(Place { row: i, column: j });
                             break 'search;

@@ -38,7 +38,7 @@ pub fn entries(
                 let x = ma[a];
                 if is_nonzero(x) {
                     let b = l * n + j;
-                    s = s.step_four(x, mb[b], rb[b]);
+                    s = s.step::<4>(x, mb[b], rb[b]);
                     if s.refused() {
                         place = Some(Place { row: i, column: j });
                         break 'search;

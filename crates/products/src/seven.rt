@@ -81,7 +81,7 @@ pub fn entries(
                 let x = ma[a];
                 if is_nonzero(x) {
                     let b = l * n + j;
-                    s = s.step_seven(x, mb[b], rb[b]);
+                    s = s.step::<7>(x, mb[b], rb[b]);
                     if s.refused() {
                         place = Some(Place { row: i, column: j });
                         break 'search;

@@ -55,8 +55,9 @@ impl Sums {
     }
 
     // Adds a pair of cells, a of A and [bl, bu] of B: the least of their four corner products to the lower sum, all rounded down, and the greatest to the
-    // upper sum, all rounded up.
-    pub fn step(self, a: Apart, bl: u32, bu: u32) -> Sums
+    // upper sum, all rounded up. USE changes nothing of that: each caller gets a copy of its own. The compiler inlines a function with one caller, and a
+    // step is too large to be inlined twice.
+    pub fn step<const USE: u32>(self, a: Apart, bl: u32, bu: u32) -> Sums
         requires { BothNumbers self × Cells a bl bu }
         ensures { HoldsRange (add_pair (of binary32) (bounds_of self) (apart_cell a) (pattern_cell bl bu)) result }
     {

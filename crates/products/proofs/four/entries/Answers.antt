@@ -52,8 +52,8 @@ loop-l-init c =
     let p = spot c.args.k c.args.n c.args.ma.now c.args.ra.now c.args.mb.now c.args.rb.now c.search.i c.loop-j.j in
     (omega arith, c.loop-j.invariant.2.nowhere, subst (MiddleSum p 0) (sym c.new-s.ensures) (middle_start p))
 
-pub step_four-s-requires : goal.step_four-s-requires
-step_four-s-requires c =
+pub step-s-requires : goal.step-s-requires
+step-s-requires c =
     let p = spot c.args.k c.args.n c.args.ma.now c.args.ra.now c.args.mb.now c.args.rb.now c.search.i c.loop-j.j in
     let a = middle_numbers p _ _ c.loop-l.invariant.2 in
     (a.0, a.1, (pair c.args.m p c.requires.0 (omega arith) (omega arith) c.loop-l.l (omega arith)).cell_first.mid)
@@ -67,7 +67,7 @@ loop-l-preserved c =
     elim c.if-is_nonzero.branch [
       | then-is_nonzero+else-refused w ↦
           subst (MiddleSum p (o.l + 1)) (sym w.s-is)
-          (middle_more p _ _ (middle_next p o.l _ o.s _ (pair c.args.m p c.requires.0 (omega arith) (omega arith) o.l (omega arith)) o.invariant.2 w.step_four-s.ensures) (sym w.refused.ensures ∙ w.if-refused.false))
+          (middle_more p _ _ (middle_next p o.l _ o.s _ (pair c.args.m p c.requires.0 (omega arith) (omega arith) o.l (omega arith)) o.invariant.2 w.step-s.ensures) (sym w.refused.ensures ∙ w.if-refused.false))
       | else-is_nonzero w ↦ subst (MiddleSum p (o.l + 1)) (sym w.s-is) (middle_skip p o.l o.s o.invariant.2 (sym c.is_nonzero.ensures ∙ w.if-is_nonzero.false))
     ] in
     (omega arith, o.invariant.1, on)
@@ -107,7 +107,7 @@ returns-then-refused c =
     let o = c.loop-l in
     to_none (entry_by p four) (to_from _ c.search.invariant.2 (omega arith) c.loop-j.invariant.2) c.args.m c.args.n c.search.i c.loop-j.j (omega arith) (omega arith) (omega arith)
     (four_middle p c.loop-j.at (omega arith) (omega arith)
-    (middle_none p _ _ (middle_next p o.l _ o.s _ (pair c.args.m p c.requires.0 (omega arith) (omega arith) o.l (omega arith)) o.invariant.2 c.step_four-s.ensures) (omega arith) (sym c.refused.ensures ∙ c.if-refused.true)))
+    (middle_none p _ _ (middle_next p o.l _ o.s _ (pair c.args.m p c.requires.0 (omega arith) (omega arith) o.l (omega arith)) o.invariant.2 c.step-s.ensures) (omega arith) (sym c.refused.ensures ∙ c.if-refused.true)))
 
 pub returns-then-is_none : goal.returns-then-is_none
 returns-then-is_none c =

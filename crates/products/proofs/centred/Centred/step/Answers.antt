@@ -1,4 +1,4 @@
--- `Centred::step_four` meets its contract: the products of what is read from the patterns are exact, and each sum takes its rounded product.
+-- `Centred::step` meets its contract: the products of what is read from the patterns are exact, and each sum takes its rounded product.
 use mathlib.Core.Path.{refl}
 use Rattle.rounding.specs.Rounding.{down, up, negate}
 use Rattle.binary32.specs.Operations.{mul, with₂}
@@ -6,15 +6,15 @@ use Rattle.unpacked.proofs.Opposites.{absolute_unpacked}
 use Rattle.unpacked.proofs.Multiplying.{exactly_of}
 use Rattle.unpacked.proofs.RoundedProducts.{exactly_formed, down_exactly, up_exactly}
 use Rattle.products.proofs.Radii.{by_sizes, term_below}
-use Rattle.products.proofs.centred.Centred.step_four.Goals as goal
+use Rattle.products.proofs.centred.Centred.step.Goals as goal
 
 pub rounded_up-requires : goal.rounded_up-requires
-rounded_up-requires c =
+rounded_up-requires g c =
     let s = absolute_unpacked c.args.x c.unpack-f.result c.absolute.result c.requires.2 c.unpack-f.ensures c.absolute.ensures in
     exactly_formed (exactly_of _ c.magnitude-w.result c.absolute.result c.unpack-2.result c.times-q.result s c.unpack-2.ensures c.times-q.ensures)
 
 pub plus_negative-requires : goal.plus_negative-requires
-plus_negative-requires c =
+plus_negative-requires g c =
     let p = c.requires in
     let s = absolute_unpacked c.args.x c.unpack-f.result c.absolute.result c.requires.2 c.unpack-f.ensures c.absolute.ensures in
     let q = exactly_of _ c.magnitude-w.result c.absolute.result c.unpack-2.result c.times-q.result s c.unpack-2.ensures c.times-q.ensures in
@@ -22,25 +22,25 @@ plus_negative-requires c =
     (p.0.radius, g.part, p.1, term_below _ _ c.rounded_up.result g)
 
 pub rounded_down-requires : goal.rounded_down-requires
-rounded_down-requires c =
+rounded_down-requires g c =
     exactly_formed (exactly_of c.args.x c.args.y c.unpack-f.result c.unpack.result c.times-p.result c.unpack-f.ensures c.unpack.ensures c.times-p.ensures)
 
 pub plus_down-requires : goal.plus_down-requires
-plus_down-requires c =
+plus_down-requires g c =
     let e = exactly_of c.args.x c.args.y c.unpack-f.result c.unpack.result c.times-p.result c.unpack-f.ensures c.unpack.ensures c.times-p.ensures in
     (c.requires.0.lower, (down_exactly e c.rounded_down.ensures).part)
 
 pub rounded_up-requires-2 : goal.rounded_up-requires-2
-rounded_up-requires-2 c =
+rounded_up-requires-2 g c =
     exactly_formed (exactly_of c.args.x c.args.y c.unpack-f.result c.unpack.result c.times-p.result c.unpack-f.ensures c.unpack.ensures c.times-p.ensures)
 
 pub plus_down-requires-2 : goal.plus_down-requires-2
-plus_down-requires-2 c =
+plus_down-requires-2 g c =
     let e = exactly_of c.args.x c.args.y c.unpack-f.result c.unpack.result c.times-p.result c.unpack-f.ensures c.unpack.ensures c.times-p.ensures in
     (c.requires.0.opposed, (up_exactly e c.rounded_up-2.ensures).part)
 
 pub returns : goal.returns
-returns c =
+returns g c =
     let a = c.args in
     let e = exactly_of a.x a.y c.unpack-f.result c.unpack.result c.times-p.result c.unpack-f.ensures c.unpack.ensures c.times-p.ensures in
     let s = absolute_unpacked a.x c.unpack-f.result c.absolute.result c.requires.2 c.unpack-f.ensures c.absolute.ensures in
