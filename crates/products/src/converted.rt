@@ -5,7 +5,7 @@ ghost use Rattle.matrices.specs.Checks.{chosen};
 ghost use Rattle.products.specs.Written.{Written};
 ghost use Rattle.products.specs.MidRad.{Sized, entry_from};
 
-use crate::derived::{Kind, derive_all, raised};
+use crate::derived::{derive_all, outer, part, raised, raised_radius};
 use crate::sums::Place;
 use crate::{five, four, seven, three};
 use refusals::sizes::MOST_CELLS;
@@ -28,8 +28,9 @@ fn by_three(
 {
     let mut vb = [0u32; MOST_CELLS];
     let mut wb = [0u32; MOST_CELLS];
-    derive_all(Kind::Raised(raised(k)), k * n, mb, rb, &mut vb);
-    derive_all(Kind::Outer, k * n, mb, rb, &mut wb);
+    let c = raised(k);
+    derive_all(|m, r| raised_radius(c, m, r), k * n, mb, rb, &mut vb);
+    derive_all(outer, k * n, mb, rb, &mut wb);
     three::entries(m, k, n, ma, ra, mb, rb, &vb, &wb, lo, up)
 }
 
@@ -50,7 +51,7 @@ fn by_four(
         m n lo.old up.old result lo.new up.new }
 {
     let mut wb = [0u32; MOST_CELLS];
-    derive_all(Kind::Outer, k * n, mb, rb, &mut wb);
+    derive_all(outer, k * n, mb, rb, &mut wb);
     four::entries(m, k, n, ma, ra, mb, rb, &wb, lo, up)
 }
 
@@ -74,10 +75,10 @@ fn by_five(
     let mut pa = [0u32; MOST_CELLS];
     let mut wb = [0u32; MOST_CELLS];
     let mut pb = [0u32; MOST_CELLS];
-    derive_all(Kind::Outer, m * k, ma, ra, &mut wa);
-    derive_all(Kind::Part, m * k, ma, ra, &mut pa);
-    derive_all(Kind::Outer, k * n, mb, rb, &mut wb);
-    derive_all(Kind::Part, k * n, mb, rb, &mut pb);
+    derive_all(outer, m * k, ma, ra, &mut wa);
+    derive_all(part, m * k, ma, ra, &mut pa);
+    derive_all(outer, k * n, mb, rb, &mut wb);
+    derive_all(part, k * n, mb, rb, &mut pb);
     five::entries(m, k, n, ma, ra, &wa, &pa, mb, rb, &wb, &pb, lo, up)
 }
 
@@ -100,9 +101,9 @@ fn by_seven(
     let mut pa = [0u32; MOST_CELLS];
     let mut wb = [0u32; MOST_CELLS];
     let mut pb = [0u32; MOST_CELLS];
-    derive_all(Kind::Part, m * k, ma, ra, &mut pa);
-    derive_all(Kind::Outer, k * n, mb, rb, &mut wb);
-    derive_all(Kind::Part, k * n, mb, rb, &mut pb);
+    derive_all(part, m * k, ma, ra, &mut pa);
+    derive_all(outer, k * n, mb, rb, &mut wb);
+    derive_all(part, k * n, mb, rb, &mut pb);
     seven::entries(m, k, n, ma, ra, &pa, mb, rb, &wb, &pb, lo, up)
 }
 

@@ -1,5 +1,5 @@
 -- `products::product` meets its contract: what the checks accept fits what the entries' functions ask for, and each way out is a case of `Left`.
-use mathlib.Core.Path.{◌≡◌, refl, sym, ◌∙◌}
+use mathlib.Core.Path.{refl, sym, ◌∙◌}
 use native.Mathlib.Omega.{arith}
 use borrow.Author.Rules.{rules}
 use Rattle.refusals.proofs.SizeLaws.{small}

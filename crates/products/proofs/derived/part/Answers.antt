@@ -1,8 +1,7 @@
--- `products::derived::part_of` meets its contract: the lesser of |m| and r, with the sign of m.
+-- `products::derived::part` meets its contract: the lesser of |m| and r, with the sign of m.
 use native.Mathlib.Omega.{arith}
-use borrow.Author.Rules.{rules}
 use Rattle.products.proofs.Derivations.{part_low, part_high}
-use Rattle.products.proofs.derived.part_of.Goals as goal
+use Rattle.products.proofs.derived.part.Goals as goal
 
 pub returns-then-m-lt2147483648 : goal.returns-then-m-lt2147483648
 returns-then-m-lt2147483648 c =
