@@ -9,6 +9,7 @@ pub mod EntryNumbers
 -- the checks
 pub mod CheckLaws
 pub mod CheckTells
+pub mod MethodLaws
 -- demand 3, and the examples of 01
 pub mod Keeping
 pub mod Examples

@@ -1,13 +1,15 @@
 // Methods 3, 4, 5 and 7, from midpoints and radii: values that depend on one cell are computed first (derived.rt), then the entries.
-ghost use Rattle.std.specs.Prelude.{◌≡◌, ◌⊎◌, length};
+ghost use Rattle.std.specs.Prelude.{◌≡◌, length};
 ghost use Rattle.enclosure.specs.Methods.{three, four, five, seven};
-ghost use Rattle.matrices.specs.Checks.{chosen};
+ghost use Rattle.matrices.specs.declared.methods.Method.TheVariants.{Classical};
+ghost use Rattle.matrices.specs.Methods.{meant};
 ghost use Rattle.products.specs.Written.{Written};
 ghost use Rattle.products.specs.MidRad.{Sized, entry_from};
 
 use crate::derived::{derive_all, outer, part, raised, raised_radius};
 use crate::sums::Place;
 use crate::{five, four, seven, three};
+use matrices::methods::Method;
 use refusals::sizes::MOST_CELLS;
 
 // Method 3: vb has (c × |m|) + r and wb has |m| + r of B's cells.
@@ -107,9 +109,9 @@ fn by_seven(
     seven::entries(m, k, n, ma, ra, &pa, mb, rb, &wb, &pb, lo, up)
 }
 
-// Writes the entries by this method by rows until one is refused, and returns its row and column, or None.
+// Writes the entries by this method, which is not the classical one, by rows until one is refused, and returns its row and column, or None.
 pub fn entries(
-    method: u32,
+    by: Method,
     m: usize,
     k: usize,
     n: usize,
@@ -120,15 +122,15 @@ pub fn entries(
     lo: &mut [u32],
     up: &mut [u32],
 ) -> Option<Place>
-    requires { ((method ≡ 3) ⊎ ((method ≡ 4) ⊎ ((method ≡ 5) ⊎ (method ≡ 7))))
+    requires { (by ≡ Classical → ⊥)
         × Sized m k n ma.now ra.now mb.now rb.now (length lo.old) (length up.old) }
-    ensures { Written (entry_from (chosen method) k n ma.now ra.now mb.now rb.now)
+    ensures { Written (entry_from (meant by) k n ma.now ra.now mb.now rb.now)
         m n lo.old up.old result lo.new up.new }
 {
-    match method {
-        3 => by_three(m, k, n, ma, ra, mb, rb, lo, up),
-        4 => by_four(m, k, n, ma, ra, mb, rb, lo, up),
-        5 => by_five(m, k, n, ma, ra, mb, rb, lo, up),
+    match by {
+        Method::Three => by_three(m, k, n, ma, ra, mb, rb, lo, up),
+        Method::Four => by_four(m, k, n, ma, ra, mb, rb, lo, up),
+        Method::Five => by_five(m, k, n, ma, ra, mb, rb, lo, up),
         _ => by_seven(m, k, n, ma, ra, mb, rb, lo, up),
     }
 }

@@ -9,6 +9,7 @@ ghost use Rattle.matrices.specs.Demand.{KeepsCalled};
 use cells::convert;
 use intervals::slices::clear;
 use matrices::check_order::{Lent, check_all};
+use matrices::methods::Method;
 use refusals::Refusal;
 use sums::Place;
 
@@ -82,6 +83,7 @@ pub fn product(
         ma.old ra.old mb.old rb.old lo.old up.old
         lo.new up.new }
 {
+    let by = Method::try_from(method)?;
     let lent = Lent {
         ma: ma.len(),
         ra: ra.len(),
@@ -94,21 +96,22 @@ pub fn product(
         method, a_rows, a_columns, b_rows, b_columns, al, au, bl, bu, lent,
     )?;
     let count = a_rows * b_columns;
-    if method == 1 {
-        finish(
+    match by {
+        Method::Classical => finish(
             classical::entries(a_rows, a_columns, b_columns, al, au, bl, bu, lo, up),
             count,
             lo,
             up,
-        )
-    } else {
-        convert(a_rows * a_columns, al, au, ma, ra);
-        convert(b_rows * b_columns, bl, bu, mb, rb);
-        finish(
-            converted::entries(method, a_rows, a_columns, b_columns, ma, ra, mb, rb, lo, up),
-            count,
-            lo,
-            up,
-        )
+        ),
+        _ => {
+            convert(a_rows * a_columns, al, au, ma, ra);
+            convert(b_rows * b_columns, bl, bu, mb, rb);
+            finish(
+                converted::entries(by, a_rows, a_columns, b_columns, ma, ra, mb, rb, lo, up),
+                count,
+                lo,
+                up,
+            )
+        }
     }
 }
