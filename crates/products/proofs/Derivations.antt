@@ -2,7 +2,8 @@
 use mathlib.Core.Path.{◌≡◌, refl, sym, ap, ap₂, ◌∙◌}
 use mathlib.Core.List.{List}
 use mathlib.Core.Option.{Option, none, some, bind}
-use Prim.Native.Nat.{ℕ, zero, suc, ◌%◌, ◌^◌, ◌≤◌, ◌<◌}
+use native.Mathlib.Omega.{arith}
+use Prim.Native.Nat.{ℕ, zero, suc, ◌*◌, ◌%◌, ◌^◌, ◌≤◌, ◌<◌}
 use lib.IntN.{ℤ, pos, neg_ℤ}
 use Rattle.algebra.specs.Order.{◌≼◌}
 use Rattle.algebra.specs.Absolute.{abs}
@@ -16,6 +17,7 @@ use Rattle.binary32.specs.Number.{value_of, held, hold_up, negated}
 use Rattle.binary32.specs.Operations.{add, mul, with₂}
 use Rattle.binary32.specs.Order.{magnitude_of, least_of}
 use Rattle.binary32.proofs.Held.{held_hold}
+use Rattle.products.specs.MidRad.{Sized}
 use Rattle.products.specs.Derived.{MidRad, MidRads, MadeOf, Derived, outer_of, raised_of, part_of, factor_of, raised_factor}
 use Rattle.matrices.proofs.Fitting.{plus_up_fits, mul_up_fits}
 use Rattle.unpacked.proofs.Patterns.{held_is, low_value, high_value, magnitude_value, magnitude_finite, held_magnitude, held_negated, held_least, min_zero}
@@ -84,3 +86,7 @@ factor_held c k m r e = ap (λ o. bind o λ f. raised_of f m r) e
 module _ {made : ℕ → ℕ → ℕ → Type 0} (f : ℤ → ℤ → Option ℤ) (holds : (m r p : ℕ) → MidRad m r → made m r p → held p ≡ f (value_of m) (value_of r)) where
   pub derived : {count : ℕ} {m r p : List ℕ} → MidRads count m r → MadeOf made count m r p → Derived f count m r p
   derived M D = record { long = D.long; each = λ c h. holds _ _ _ (M.each c h) (D.each c h) }
+
+-- what is asked of the result's lengths is met by the number of its cells
+pub fitting : {m k n lo up : ℕ} {ma ra mb rb : List ℕ} → Sized m k n ma ra mb rb lo up → Sized m k n ma ra mb rb (m * n) (m * n)
+fitting z = record { rows = z.rows; inner = z.inner; columns = z.columns; a = z.a; b = z.b; lowers = omega arith; uppers = omega arith }

@@ -8,4 +8,6 @@ pub mod Row
 pub mod CentreSize
 pub mod Derived
 pub mod MidRad
+pub mod Spot
 pub mod Written
+pub mod Entries

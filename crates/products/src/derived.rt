@@ -83,7 +83,13 @@ pub fn part(m: u32, r: u32) -> u32
 }
 
 // What `of` makes of the first count cells, into the front of out.
-pub fn derive_all<F: Fn(u32, u32) -> u32>(of: F, count: usize, m: &[u32], r: &[u32], out: &mut [u32])
+pub fn derive_all<F: Fn(u32, u32) -> u32>(
+    of: F,
+    count: usize,
+    m: &[u32],
+    r: &[u32],
+    out: &mut [u32],
+)
     requires cells { MidRads count m.now r.now × (count ≤ length out.old) }
     requires callable { (x y : ℕ) → MidRad x y → F.pre of x y }
     ensures { MadeOf (F.post of) count m.now r.now out.new }

@@ -8,7 +8,7 @@ ghost use Rattle.unpacked.specs.Number.{worth, IsNumber};
 ghost use Rattle.products.specs.Apart.{Cells};
 ghost use Rattle.products.specs.Classical.{apart_cell, pattern_cell};
 ghost use Rattle.products.specs.Pair.{range_of};
-ghost use Rattle.products.specs.Running.{BothNumbers, HoldsRange, Ended, bounds_of, refused_sums, zero_sums};
+ghost use Rattle.products.specs.Running.{BothNumbers, HoldsRange, Ended, bounds_of, refused_sums, whole_of, zero_sums};
 
 use crate::apart::Apart;
 use crate::corners::{corner_by_sign, greater, lesser};
@@ -81,6 +81,16 @@ impl Sums {
             return true;
         }
         is_none(self.opposed)
+    }
+
+    // These sums, or None where one of them is none.
+    pub fn whole(self) -> Option<Sums>
+        ensures { result ≡ whole_of self }
+    {
+        if self.refused() {
+            return None;
+        }
+        Some(self)
     }
 
     // The pattern of the lower sum.

@@ -4,7 +4,7 @@ use native.Mathlib.Omega.{arith}
 use borrow.Author.Rules.{rules}
 use Rattle.refusals.proofs.SizeLaws.{small}
 use Rattle.matrices.proofs.Keeping.{left_keeps}
-use Rattle.products.proofs.Accepted.{inner, sizes, a_convertible, b_convertible, a_converted, b_converted, ready}
+use Rattle.products.proofs.Accepted.{inner, sizes, bounds_ready, a_convertible, b_convertible, a_converted, b_converted, ready}
 use Rattle.matrices.proofs.MethodLaws.{classical_number, other_number, method_chosen}
 use Rattle.products.proofs.Chosen.{by_mid_rad}
 use Rattle.products.proofs.Leaving.{reached, left_refused, number_refused, left_classical, left_converted}
@@ -26,7 +26,7 @@ pub overflow_mul-count : goal.overflow_mul-count
 overflow_mul-count c = let f = sizes _ (sym c.check_all.ensures ∙ c.in_ok-check_all.was) in omega (arith, small _ _ f.rows f.columns)
 
 pub entries-requires : goal.entries-requires
-entries-requires c = sizes _ (sym c.check_all.ensures ∙ c.in_ok-check_all.was)
+entries-requires c = bounds_ready _ (sym c.check_all.ensures ∙ c.in_ok-check_all.was)
 
 pub finish-requires : goal.finish-requires
 finish-requires c =
@@ -48,8 +48,8 @@ overflow_mul-b_rows c =
 pub convert-requires-in_default : goal.convert-requires-in_default
 convert-requires-in_default c = b_convertible _ (sym c.check_all.ensures ∙ c.in_ok-check_all.was)
 
-pub entries-requires-in_default : goal.entries-requires-in_default
-entries-requires-in_default c =
+pub converted-requires : goal.converted-requires
+converted-requires c =
     let k = sym c.check_all.ensures ∙ c.in_ok-check_all.was in (
       c.in_default.not-Classical,
       ready _ k _ _ _ _
@@ -60,7 +60,7 @@ entries-requires-in_default c =
 pub finish-requires-in_default : goal.finish-requires-in_default
 finish-requires-in_default c =
     let f = sizes _ (sym c.check_all.ensures ∙ c.in_ok-check_all.was) in
-    (omega (arith, f.lowers), omega (arith, f.uppers), reached c.entries-in_default.ensures f.rows f.positive f.columns)
+    (omega (arith, f.lowers), omega (arith, f.uppers), reached c.converted.ensures f.rows f.positive f.columns)
 
 pub returns-in-Classical : goal.returns-in-Classical
 returns-in-Classical c =
@@ -86,6 +86,6 @@ returns-in_default c =
     (left_converted _ k _ _ _ _
     (a_converted _ k a.ma.now a.ra.now _ _ refl refl A.mids_after A.rads_after) (b_converted _ k a.mb.now a.rb.now _ _ refl refl B.mids_after B.rads_after)
     a.ma.now a.ra.now a.mb.now a.rb.now _ _ _ _ _ _ _ _ (other_number _ _ v other) (method_chosen _ _ v) (by_mid_rad _ other)
-    A.mids_after A.rads_after B.mids_after B.rads_after c.entries-in_default.ensures c.finish-in_default.ensures)
+    A.mids_after A.rads_after B.mids_after B.rads_after c.converted.ensures c.finish-in_default.ensures)
     in
     record { left = l.0; keeps = l.1 }

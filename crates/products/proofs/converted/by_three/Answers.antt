@@ -2,17 +2,19 @@
 use mathlib.Core.Path.{◌∙◌}
 use borrow.Author.Rules.{rules}
 use Rattle.products.specs.Derived.{outer_of}
-use Rattle.products.proofs.Derivations.{derived, factor_held}
+use Rattle.products.proofs.Derivations.{fitting, derived, factor_held}
 use Rattle.refusals.proofs.SizeLaws.{small}
 use Rattle.products.proofs.converted.by_three.Goals as goal
 
 pub derive_all-requires-clause-cells : goal.derive_all-requires-clause-cells
 derive_all-requires-clause-cells c =
-    (c.requires.b, small c.args.k c.args.n c.requires.inner c.requires.columns)
+    (c.requires.b, small c.args.of.shape.k c.args.of.shape.n c.requires.inner c.requires.columns)
 
 pub derive_all-requires-2-clause-cells : goal.derive_all-requires-2-clause-cells
 derive_all-requires-2-clause-cells c =
-    (c.requires.b, small c.args.k c.args.n c.requires.inner c.requires.columns)
+    (c.requires.b, small c.args.of.shape.k c.args.of.shape.n c.requires.inner c.requires.columns)
 
 pub entries-requires : goal.entries-requires
-entries-requires c = (c.requires, derived _ (λ x y p M e. search rules ∙ factor_held c.raised-c.result c.args.k _ _ c.raised-c.ensures) c.requires.b c.derive_all.ensures, derived outer_of (λ x y p M e. search rules) c.requires.b c.derive_all-2.ensures)
+entries-requires c =
+    let z = c.requires in
+    ((fitting z, derived _ (λ x y p M e. search rules ∙ factor_held c.raised-c.result c.args.of.shape.k _ _ c.raised-c.ensures) z.b c.derive_all.ensures, derived outer_of (λ x y p M e. search rules) z.b c.derive_all-2.ensures), z.rows, z.columns, z.lowers, z.uppers)
