@@ -9,6 +9,7 @@ pub mod EntryNumbers
 -- the checks
 pub mod CheckLaws
 pub mod CheckTells
+pub mod MethodLaws
 -- enclosure and width, and the worked examples
 pub mod Keeping
 pub mod Examples

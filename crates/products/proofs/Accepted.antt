@@ -9,10 +9,8 @@ use Rattle.matrices.specs.Lists.{front}
 use Rattle.matrices.specs.Matrix.{AllFine, mid_at, rad_at}
 use Rattle.products.specs.MidRad.{Sized}
 use Rattle.products.specs.Written.{Sizes}
-use Rattle.matrices.specs.Checks.{Given, chosen, check_of}
+use Rattle.matrices.specs.Checks.{Given, check_of}
 use Rattle.matrices.proofs.CheckTells.{Checked, checked_tells}
-use Rattle.products.proofs.EntryExt.{ByMidRad}
-use Rattle.products.proofs.Chosen.{Others, numbered, by_mid_rad}
 use Rattle.products.proofs.MidRads.{Converted, converted_front, mid_rads}
 
 module _ (g : Given) (ok : check_of g ≡ done) where
@@ -45,6 +43,32 @@ module _ (g : Given) (ok : check_of g ≡ done) where
         b_fine = subst (AllFine g.B) (sym inner) known.b_fine;
       }
 
+  -- what the entries' function asks for by method 1
+  pub bounds_ready :
+      let n = g.a_rows * g.b_columns in
+      Sizes g.a_rows g.a_columns g.b_columns g.A g.B n n × (g.a_rows ≤ 32) × (g.b_columns ≤ 32) × (n ≤ g.lowers) × (n ≤ g.uppers)
+  bounds_ready =
+      let s = sizes in (
+        record {
+          rows = s.rows;
+          inner = s.inner;
+          columns = s.columns;
+          positive = s.positive;
+          a_lowers = s.a_lowers;
+          a_uppers = s.a_uppers;
+          b_lowers = s.b_lowers;
+          b_uppers = s.b_uppers;
+          lowers = omega arith;
+          uppers = omega arith;
+          a_fine = s.a_fine;
+          b_fine = s.b_fine;
+        },
+        s.rows,
+        s.columns,
+        s.lowers,
+        s.uppers,
+      )
+
   -- ---- methods 3, 4, 5 and 7
 
   -- what the two conversions ask for
@@ -72,16 +96,9 @@ module _ (g : Given) (ok : check_of g ≡ done) where
       subst (λ (n : ℕ). Converted g.B n m r) (sym inner)
       (converted_front g.B (g.b_rows * g.b_columns) m r m₀ r₀ known.b_fine (subst (λ (n : ℕ). g.b_rows * g.b_columns ≤ n) lm w.0) (subst (λ (n : ℕ). g.b_rows * g.b_columns ≤ n) lr w.1) em er)
 
-  module _ (not-1 : g.method ≡ 1 → ⊥) where
-    which : Others g.method
-    which = let m = known.method in numbered g.method m.0 m.1 not-1
-
-    pub chosen_by_mid_rad : ByMidRad (chosen g.method)
-    chosen_by_mid_rad = by_mid_rad g.method which
-
-    -- what the entries' function asks for
-    pub ready : (ma ra mb rb : List ℕ) → Converted g.A (g.a_rows * g.a_columns) ma ra → Converted g.B (g.a_columns * g.b_columns) mb rb
-        → Others g.method × Sized g.a_rows g.a_columns g.b_columns ma ra mb rb g.lowers g.uppers
-    ready ma ra mb rb a b =
-        let s = sizes in
-        (which, record { rows = s.rows; inner = s.inner; columns = s.columns; a = mid_rads a; b = mid_rads b; lowers = s.lowers; uppers = s.uppers })
+  -- what the entries' function asks for
+  pub ready : (ma ra mb rb : List ℕ) → Converted g.A (g.a_rows * g.a_columns) ma ra → Converted g.B (g.a_columns * g.b_columns) mb rb
+      → Sized g.a_rows g.a_columns g.b_columns ma ra mb rb g.lowers g.uppers
+  ready ma ra mb rb a b =
+      let s = sizes in
+      record { rows = s.rows; inner = s.inner; columns = s.columns; a = mid_rads a; b = mid_rads b; lowers = s.lowers; uppers = s.uppers }

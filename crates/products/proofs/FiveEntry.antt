@@ -28,7 +28,8 @@ use Rattle.products.specs.Running.{HoldsRange}
 use Rattle.products.proofs.CentreSizes.{finite_number}
 use Rattle.products.proofs.Ending.{places, position_entry_from}
 use Rattle.products.proofs.EntryExt.{bind_each}
-use Rattle.products.proofs.FourEntry.{Spot, Read, entry_by, a_mid, a_rad, b_mid, b_rad, left, right, line, reaches}
+use Rattle.products.specs.Spot.{Spot, a_mid, a_rad, b_mid, b_rad, left, right}
+use Rattle.products.proofs.FourEntry.{Read, entry_by, line, reaches}
 use Rattle.products.proofs.MidRadSteps.{largest_is}
 use Rattle.products.proofs.SevenEntry.{Made, held_number}
 
@@ -151,8 +152,12 @@ module _ (p : Spot) (q : Lists) where
         ∙ by_size p.k _ _
 
     -- ---- the entry, at position c by rows
-    pub five_holds : (c : ℕ) → c ≡ p.i * p.n + p.j → (e : Sums) → HoldsRange (range_of mids parts outers) e → HoldsRange (entry_by p five c) e
+    five_is : (c : ℕ) → c ≡ p.i * p.n + p.j → range_of mids parts outers ≡ entry_by p five c
     unfolding range_of entry
-    five_holds c at e =
-        subst (λ m. HoldsRange m e)
-        (ap₂ (λ r s. ends (of binary32) r s s) radius_is centre_is ∙ sym (position_entry_from five p.k p.n p.i p.j c at P.column p.ma p.ra p.mb p.rb))
+    five_is c at = ap₂ (λ r s. ends (of binary32) r s s) radius_is centre_is ∙ sym (position_entry_from five p.k p.n p.i p.j c at P.column p.ma p.ra p.mb p.rb)
+
+    pub five_none : (c : ℕ) → c ≡ p.i * p.n + p.j → range_of mids parts outers ≡ none → entry_by p five c ≡ none
+    five_none c at e = sym (five_is c at) ∙ e
+
+    pub five_holds : (c : ℕ) → c ≡ p.i * p.n + p.j → (e : Sums) → HoldsRange (range_of mids parts outers) e → HoldsRange (entry_by p five c) e
+    five_holds c at e = subst (λ m. HoldsRange m e) (five_is c at)

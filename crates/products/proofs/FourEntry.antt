@@ -29,6 +29,7 @@ use Rattle.products.specs.Centred.{growth, zero_centred, AllNumbers, Added, refu
 use Rattle.products.specs.Continued.{Line, Reaches, grown_by, Continued}
 use Rattle.products.specs.Derived.{outer_of}
 use Rattle.products.specs.MidRad.{mid_rad_at, entry_from}
+use Rattle.products.specs.Spot.{Spot, a_mid, a_rad, b_mid, b_rad, left, right, middles, inners, MiddleSum}
 use Rattle.products.proofs.Carrying.{holds_runs, holds_none, zero_below, mirrored_is, negate_none}
 use Rattle.products.proofs.Radii.{grown_below}
 use Rattle.products.proofs.MidRadSteps.{mid_is, inner_is, outer_is}
@@ -36,37 +37,7 @@ use Rattle.products.proofs.CentredSteps.{CentredHolds, all_numbers, centred_runs
 use Rattle.products.proofs.Zeros.{centred_same, is_zero, down_zero, up_zero, mid_zero, inner_zero}
 use Rattle.products.proofs.Ending.{ends_none, ends_hold, Places, position_entry_from}
 
--- an entry's row i and column j, and the midpoints and radii of A (k columns) and of B (n columns)
-pub record Spot : Type 0 where
-  pub k : ℕ
-  pub n : ℕ
-  pub ma : List ℕ
-  pub ra : List ℕ
-  pub mb : List ℕ
-  pub rb : List ℕ
-  pub i : ℕ
-  pub j : ℕ
-
 module _ (p : Spot) where
-  -- ---- the patterns and the cells of pair l
-  abbrev pub a_mid : ℕ → ℕ
-  a_mid l = get_or p.ma (p.i * p.k + l) 0
-
-  abbrev pub a_rad : ℕ → ℕ
-  a_rad l = get_or p.ra (p.i * p.k + l) 0
-
-  abbrev pub b_mid : ℕ → ℕ
-  b_mid l = get_or p.mb (l * p.n + p.j) 0
-
-  abbrev pub b_rad : ℕ → ℕ
-  b_rad l = get_or p.rb (l * p.n + p.j) 0
-
-  abbrev pub left : ℕ → Cell
-  left l = mid_rad_at p.ma p.ra (p.i * p.k + l)
-
-  abbrev pub right : ℕ → Cell
-  right l = mid_rad_at p.mb p.rb (l * p.n + p.j)
-
   -- what is read for it
   abbrev pub Read : ℕ → ℕ → Type 0
   Read l size = Places p.k p.n p.i p.j l p.ma p.ra p.mb p.rb size
@@ -74,42 +45,33 @@ module _ (p : Spot) where
   abbrev pub entry_by : Method → ℕ → Option Range
   entry_by method c = entry_from method p.k p.n p.ma p.ra p.mb p.rb c
 
-  -- ---- the sums over midpoints after l pairs, and after one more: each a number or none
-  unfoldable pub middles : Way → ℕ → Option ℤ
-  middles way l = sum (way binary32 1) (λ l. mid_term (of binary32) (way binary32) (left l) (right l)) (pos 0) l
-
-  unfoldable pub inners : ℕ → Option ℤ
-  inners l = sum (up binary32 1) (λ l. inner_term (of binary32) (left l) (right l)) (pos 0) l
-
-  unfoldable pub MiddleSum : ℕ → Centred → Type 0
-  MiddleSum l s = CentredSum (middles down l) (middles up l) (inners l) s × Below s.radius
-
+  -- ---- the sums over midpoints after one pair more: each a number or none
   unfoldable pub MiddleNext : ℕ → Centred → Type 0
-  MiddleNext l s = CentredHolds (middles down (l + 1)) (middles up (l + 1)) (inners (l + 1)) s × Below s.radius
+  MiddleNext l s = CentredHolds (middles p down (l + 1)) (middles p up (l + 1)) (inners p (l + 1)) s × Below s.radius
 
   -- one of them is none in the end
   unfoldable pub MiddleNone : Type 0
-  MiddleNone = OneNone (middles down p.k) (middles up p.k) (inners p.k)
+  MiddleNone = OneNone (middles p down p.k) (middles p up p.k) (inners p p.k)
 
-  pub middle_start : MiddleSum 0 zero_centred
+  pub middle_start : MiddleSum p 0 zero_centred
   unfolding MiddleSum middles inners
   middle_start = (centred_none_yet _ _ _, zero_below)
 
-  pub middle_numbers : (l : ℕ) (s : Centred) → MiddleSum l s → AllNumbers s × Below s.radius
+  pub middle_numbers : (l : ℕ) (s : Centred) → MiddleSum p l s → AllNumbers s × Below s.radius
   unfolding MiddleSum
   middle_numbers l s S = (all_numbers s S.0, S.1)
 
-  pub middle_next : (l size : ℕ) (s r : Centred) → Read l size → MiddleSum l s → Added s (a_mid l) (b_mid l) (growth (a_mid l) (b_rad l)) r → MiddleNext l r
+  pub middle_next : (l size : ℕ) (s r : Centred) → Read l size → MiddleSum p l s → Added s (a_mid p l) (b_mid p l) (growth (a_mid p l) (b_rad p l)) r → MiddleNext l r
   unfolding MiddleSum MiddleNext middles inners
   middle_next l size s r P S A = (
-    centred_more _ _ _ (pos 0) (pos 0) (pos 0) l s r (a_mid l) (b_mid l) _ S.0 A
-        (mid_is (a_mid l) (a_rad l) (b_mid l) (b_rad l) down P.cell_first.mid P.cell_second.mid)
-        (mid_is (a_mid l) (a_rad l) (b_mid l) (b_rad l) up P.cell_first.mid P.cell_second.mid)
-        (ap negate (sym (inner_is (a_mid l) (a_rad l) (b_mid l) (b_rad l) P.cell_first.mid P.cell_second.rad P.cell_second.nonneg))),
-    grown_below s.radius (a_mid l) (b_rad l) r.radius S.1 A.radius,
+    centred_more _ _ _ (pos 0) (pos 0) (pos 0) l s r (a_mid p l) (b_mid p l) _ S.0 A
+        (mid_is (a_mid p l) (a_rad p l) (b_mid p l) (b_rad p l) down P.cell_first.mid P.cell_second.mid)
+        (mid_is (a_mid p l) (a_rad p l) (b_mid p l) (b_rad p l) up P.cell_first.mid P.cell_second.mid)
+        (ap negate (sym (inner_is (a_mid p l) (a_rad p l) (b_mid p l) (b_rad p l) P.cell_first.mid P.cell_second.rad P.cell_second.nonneg))),
+    grown_below s.radius (a_mid p l) (b_rad p l) r.radius S.1 A.radius,
   )
 
-  pub middle_more : (l : ℕ) (r : Centred) → MiddleNext l r → refused_centred r ≡ false → MiddleSum (l + 1) r
+  pub middle_more : (l : ℕ) (r : Centred) → MiddleNext l r → refused_centred r ≡ false → MiddleSum p (l + 1) r
   unfolding MiddleSum MiddleNext
   middle_more l r H t = (centred_runs _ _ _ r H.0 t, H.1)
 
@@ -118,15 +80,15 @@ module _ (p : Spot) where
   middle_none l r H h t = one_stays _ _ _ (pos 0) (pos 0) (pos 0) l p.k h (centred_none _ _ _ r H.0 t)
 
   -- a midpoint of A that is zero adds nothing
-  pub middle_skip : (l : ℕ) (s : Centred) → MiddleSum l s → ltb 0 (magnitude_of (a_mid l)) ≡ false → MiddleSum (l + 1) s
+  pub middle_skip : (l : ℕ) (s : Centred) → MiddleSum p l s → ltb 0 (magnitude_of (a_mid p l)) ≡ false → MiddleSum p (l + 1) s
   unfolding MiddleSum middles inners
   middle_skip l s S t =
-      let z = is_zero (a_mid l) t in
-      (centred_same _ _ _ (pos 0) (pos 0) (pos 0) l s (mid_zero (left l) (right l) down down_zero z) (mid_zero (left l) (right l) up up_zero z) (inner_zero (left l) (right l) z) S.0, S.1)
+      let z = is_zero (a_mid p l) t in
+      (centred_same _ _ _ (pos 0) (pos 0) (pos 0) l s (mid_zero (left p l) (right p l) down down_zero z) (mid_zero (left p l) (right p l) up up_zero z) (inner_zero (left p l) (right p l) z) S.0, S.1)
 
   -- ---- the radius, continued from v with the outer terms
   unfoldable pub outers : ℤ → ℕ → Option ℤ
-  outers v l = sum (up binary32 1) (λ l. outer_term (of binary32) (left l) (right l)) v l
+  outers v l = sum (up binary32 1) (λ l. outer_term (of binary32) (left p l) (right p l)) v l
 
   -- a row of A's patterns and a column of B's
   abbrev pub line : (row column : List ℕ) → Line
@@ -139,12 +101,12 @@ module _ (p : Spot) where
   }
 
   -- wb holds |mB| + rB
-  module _ (wb : List ℕ) (size : ℕ) (P : (l : ℕ) → l < p.k → Read l size) (wide : (l : ℕ) → l < p.k → held (get_or wb (l * p.n + p.j) 0) ≡ outer_of (value_of (b_mid l)) (value_of (b_rad l))) where
+  module _ (wb : List ℕ) (size : ℕ) (P : (l : ℕ) → l < p.k → Read l size) (wide : (l : ℕ) → l < p.k → held (get_or wb (l * p.n + p.j) 0) ≡ outer_of (value_of (b_mid p l)) (value_of (b_rad p l))) where
     outers_are : (v : ℤ) → grown_by (line p.ra wb) v p.k ≡ outers v p.k
     unfolding outers grown_by
     outers_are v =
         sum_ext (up binary32 1) _ _ v p.k
-        (λ l m. sym (outer_is (a_mid l) (a_rad l) (b_mid l) (b_rad l) _ (P l m).cell_first.rad (P l m).cell_first.nonneg (P l m).cell_second.nonneg (wide l m)))
+        (λ l m. sym (outer_is (a_mid p l) (a_rad p l) (b_mid p l) (b_rad p l) _ (P l m).cell_first.rad (P l m).cell_first.nonneg (P l m).cell_second.nonneg (wide l m)))
 
     outer_holds : (x r : Number) → Continued (line p.ra wb) x r → Holds (negate (outers (neg_ℤ (worth x)) p.k)) r
     outer_holds x r C = subst (λ m. Holds (negate m) r) (outers_are (neg_ℤ (worth x))) C
@@ -156,33 +118,33 @@ module _ (p : Spot) where
     outer_none x r C t = negate_none _ (holds_none _ r (outer_holds x r C) t)
 
   -- ---- the entry, at position c by rows
-  pub radius_stays : MiddleNone → (next : ℤ → Option ℤ) → OneNone (middles down p.k) (middles up p.k) (bind (inners p.k) next)
+  pub radius_stays : MiddleNone → (next : ℤ → Option ℤ) → OneNone (middles p down p.k) (middles p up p.k) (bind (inners p p.k) next)
   unfolding MiddleNone bind
   radius_stays (inl e) next = inl e
   radius_stays (inr (inl e)) next = inr (inl e)
   radius_stays (inr (inr e)) next = inr (inr (ap (λ m. bind m next) e))
 
-  pub radius_is : (s : Centred) → MiddleSum p.k s → (next : ℤ → Option ℤ) → bind (inners p.k) next ≡ next (neg_ℤ (worth s.radius))
+  pub radius_is : (s : Centred) → MiddleSum p p.k s → (next : ℤ → Option ℤ) → bind (inners p p.k) next ≡ next (neg_ℤ (worth s.radius))
   unfolding MiddleSum bind
-  radius_is s S next = ap (λ m. bind m next) (mirrored_is (inners p.k) s.radius S.0.radius)
+  radius_is s S next = ap (λ m. bind m next) (mirrored_is (inners p p.k) s.radius S.0.radius)
 
   module _ (c : ℕ) (at : c ≡ p.i * p.n + p.j) (in_row : p.j < p.n) where
     abbrev radius : Option ℤ
-    radius = bind (inners p.k) λ v. outers v p.k
+    radius = bind (inners p p.k) λ v. outers v p.k
 
-    is : entry_by four c ≡ ends (of binary32) radius (middles down p.k) (middles up p.k)
+    is : entry_by four c ≡ ends (of binary32) radius (middles p down p.k) (middles p up p.k)
     unfolding entry radius₄ centre total middles inners outers
     is = position_entry_from four p.k p.n p.i p.j c at in_row p.ma p.ra p.mb p.rb
 
     pub four_middle : MiddleNone → entry_by four c ≡ none
-    four_middle o = is ∙ ends_none radius (middles down p.k) (middles up p.k) (radius_stays o (λ v. outers v p.k))
+    four_middle o = is ∙ ends_none radius (middles p down p.k) (middles p up p.k) (radius_stays o (λ v. outers v p.k))
 
-    pub four_outer : (s : Centred) → MiddleSum p.k s → outers (neg_ℤ (worth s.radius)) p.k ≡ none → entry_by four c ≡ none
-    four_outer s S e = is ∙ ends_none radius (middles down p.k) (middles up p.k) (inr (inr (radius_is s S (λ v. outers v p.k) ∙ e)))
+    pub four_outer : (s : Centred) → MiddleSum p p.k s → outers (neg_ℤ (worth s.radius)) p.k ≡ none → entry_by four c ≡ none
+    four_outer s S e = is ∙ ends_none radius (middles p down p.k) (middles p up p.k) (inr (inr (radius_is s S (λ v. outers v p.k) ∙ e)))
 
-    pub four_holds : (s : Centred) (x : Number) (e : Sums) → MiddleSum p.k s → Runs (negate (outers (neg_ℤ (worth s.radius)) p.k)) x → Ended s.lower s.opposed x e → HoldsRange (entry_by four c) e
+    pub four_holds : (s : Centred) (x : Number) (e : Sums) → MiddleSum p p.k s → Runs (negate (outers (neg_ℤ (worth s.radius)) p.k)) x → Ended s.lower s.opposed x e → HoldsRange (entry_by four c) e
     unfolding MiddleSum
     four_holds s x e S R E =
         subst (λ m. HoldsRange m e) (sym is)
-        (ends_hold radius (middles down p.k) (middles up p.k) s.lower s.opposed x e S.0.lower S.0.upper
+        (ends_hold radius (middles p down p.k) (middles p up p.k) s.lower s.opposed x e S.0.lower S.0.upper
         (subst (λ m. Runs (negate m) x) (sym (radius_is s S (λ v. outers v p.k))) R) E)

@@ -8,7 +8,7 @@ use Prim.Native.Nat.{ℕ, ◌+◌, ◌-◌, ◌*◌, ◌/◌, ◌%◌, ◌≤◌
 use native.Mathlib.Nat.{mod-lt, div-lt_iff_lt-mul}
 use native.Mathlib.Omega.{arith}
 use lib.Dec.{ltb}
-use lib.ListN.{length, drop, replicate}
+use lib.ListN.{drop, replicate}
 use lib.Seq.{drop-drop, drop_at}
 use borrow.Author.Tests.{ltb-true, ltb-false, eq-eqb, ne_eqb}
 use Rattle.enclosure.specs.Methods.{Method, Range, classical}
@@ -22,7 +22,10 @@ use Rattle.matrices.specs.Matrix.{mid_at, rad_at}
 use Rattle.products.specs.MidRad.{entry_from}
 use Rattle.matrices.specs.Entries.{entry_at, refused, lower_of, upper_of, stop_of}
 use Rattle.products.specs.Written.{Found, place_of, Written}
-use Rattle.matrices.specs.Checks.{Given, chosen, check_of}
+use Rattle.matrices.specs.Checks.{Given, chosen, check_method, check_shapes, check_of}
+use Rattle.matrices.specs.Methods.{method_answer}
+use Rattle.matrices.proofs.MethodLaws.{refused_method}
+use Rattle.refusals.proofs.Answers.{then_refuses}
 use Rattle.matrices.specs.Product.{Left, entries, cells, stop, product_of, result_after, work_after}
 use Rattle.products.specs.Written.{InReach, Finished, answer_at, cleared_at}
 use Rattle.matrices.proofs.Firsts.{first_le}
@@ -63,6 +66,11 @@ pub left_refused : (g : Given) (z : Answer (Unit {0})) (x : Refusal) (ma ra mb r
 unfolding product_of work_after result_after
 left_refused g z x ma ra mb rb lo up e f =
     record { answer = rw (f, e); a_mids = rw e; a_rads = rw e; b_mids = rw e; b_rads = rw e; lowers = rw e; uppers = rw e }
+
+-- refused for its method's number, which is checked first
+pub number_refused : (g : Given) (r : Refusal) → refuses r ≡ method_answer g.method → check_of g ≡ refuses r
+unfolding check_of check_shapes
+number_refused g r e = sym (then_refuses (check_shapes g) _ r (sym (then_refuses (check_method g.method) _ r (sym (refused_method g.method r e)))))
 
 -- accepted by the checks
 module _ (g : Given) (ok : check_of g ≡ done) where
@@ -131,14 +139,15 @@ module _ (g : Given) (ok : check_of g ≡ done) where
       }
 
   module _ (ma' ra' mb' rb' : List ℕ) (a : Converted g.A (g.a_rows * g.a_columns) ma' ra') (b : Converted g.B (g.a_columns * g.b_columns) mb' rb') where
-    pub left_converted : (ma ra mb rb lo up : List ℕ) (p : Found) (lo' up' : List ℕ) (r : Answer (Unit {0})) (lo'' up'' : List ℕ) → (g.method ≡ 1 → ⊥) → ByMidRad (chosen g.method)
+    pub left_converted : {x : Method} (ma ra mb rb lo up : List ℕ) (p : Found) (lo' up' : List ℕ) (r : Answer (Unit {0})) (lo'' up'' : List ℕ) → (g.method ≡ 1 → ⊥) → x ≡ chosen g.method → ByMidRad x
         → ma' ≡ front (g.a_rows * g.a_columns) (mid_at g.A) ma → ra' ≡ front (g.a_rows * g.a_columns) (rad_at g.A) ra
         → mb' ≡ front (g.b_rows * g.b_columns) (mid_at g.B) mb → rb' ≡ front (g.b_rows * g.b_columns) (rad_at g.B) rb
-        → Written (entry_from (chosen g.method) g.a_columns g.b_columns ma' ra' mb' rb') g.a_rows g.b_columns lo up p lo' up'
+        → Written (entry_from x g.a_columns g.b_columns ma' ra' mb' rb') g.a_rows g.b_columns lo up p lo' up'
         → Finished p (cells g) lo' up' r lo'' up'' → Left g ma ra mb rb lo up r ma' ra' mb' rb' lo'' up''
-    left_converted ma ra mb rb lo up p lo' up' r lo'' up'' e c em er fm fr w f =
+    left_converted {x} ma ra mb rb lo up p lo' up' r lo'' up'' e is c em er fm fr w f =
+        let from : Method → Type 0 = λ (m : Method). Written (entry_at m g.a_columns g.b_columns g.A g.B) g.a_rows g.b_columns lo up p lo' up' in
         let v : Written (entries g) g.a_rows g.b_columns lo up p lo' up' =
-        written_ext (entry_from (chosen g.method) g.a_columns g.b_columns ma' ra' mb' rb') (entries g) g.a_rows g.b_columns (entries_from g.a_rows g.a_columns g.b_columns a b (chosen g.method) c) w in
+        subst from is (written_ext (entry_from x g.a_columns g.b_columns ma' ra' mb' rb') (entry_at x g.a_columns g.b_columns g.A g.B) g.a_rows g.b_columns (entries_from g.a_rows g.a_columns g.b_columns a b x c) w) in
         record {
           answer = answer_is p r v.place f.answer;
           a_mids = converted_is _ _ ma ma' e em;

@@ -2,6 +2,7 @@
 pub mod Or
 pub mod Carrying
 pub mod Holding
+pub mod Wholes
 pub mod Rows
 pub mod EntryExt
 -- the sums of method 1
@@ -24,6 +25,7 @@ pub mod Continuing
 pub mod Ending
 pub mod FourEntry
 pub mod SevenEntry
+pub mod Turns
 pub mod NearestSteps
 pub mod ThreeSteps
 -- the sums of method 5

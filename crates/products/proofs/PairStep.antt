@@ -1,5 +1,5 @@
 -- A step of method 1 on a pair of cells, from what its calls promise: the bounds of both cells are numbers, and the least and the greatest of their corner
--- products, each rounded, are the terms of the two sums. One argument for the step of the loop (sums.rt) and that of a single pair (pair.rt).
+-- products, each rounded, are the terms of the two sums. One step serves the loop of method 1 and that of a single pair (pair.rt).
 use mathlib.Core.Path.{◌≡◌, sym, ap₂, subst}
 use Prim.Native.Nat.{ℕ}
 use lib.IntN.{◌*ℤ◌}

@@ -1,6 +1,6 @@
 -- Entries written by rows until the first that is refused, whatever computes them: what the loops over rows and columns keep, and what their two ways out leave.
 use Rattle.std.specs.Prelude.{Some, None}
-use mathlib.Core.Path.{◌≡◌, refl, sym, ap, ◌∙◌}
+use mathlib.Core.Path.{◌≡◌, refl, sym, ap, subst, ◌∙◌}
 use mathlib.Core.Bool.{true, false}
 use mathlib.Core.List.{List}
 use mathlib.Core.Option.{Option, none}
@@ -36,6 +36,10 @@ module _ (E : ℕ → Option Range) where
   to_start lo up = record { nowhere = refl; stop = first_none (λ c. refused (E c)); lowers = filled_none _ lo; uppers = filled_none _ up }
 
   module _ {at : ℕ} {lo₀ up₀ lo up : List ℕ} {place : Found} (W : WrittenTo at lo₀ up₀ lo up place) where
+    -- the same position, written otherwise
+    pub to_at : {to : ℕ} → at ≡ to → WrittenTo to lo₀ up₀ lo up place
+    to_at e = subst (λ (t : ℕ). WrittenTo t lo₀ up₀ lo up place) e W
+
     -- a row begins
     pub to_again : WrittenTo at lo up lo up place
     to_again = record {

@@ -27,7 +27,8 @@ use Rattle.products.specs.Derived.{part_of}
 use Rattle.products.proofs.Carrying.{bind_some, bind_none, mirrored_is, negate²}
 use Rattle.products.proofs.MidRadSteps.{part_is, shared_is}
 use Rattle.products.proofs.Ending.{ends_none, ends_hold, position_entry_from}
-use Rattle.products.proofs.FourEntry.{Spot, entry_by, a_mid, a_rad, b_mid, b_rad, left, right, line, middles, inners, outers, MiddleSum, MiddleNone}
+use Rattle.products.specs.Spot.{Spot, a_mid, a_rad, b_mid, b_rad, left, right, middles, inners, MiddleSum}
+use Rattle.products.proofs.FourEntry.{entry_by, line, outers, MiddleNone}
 
 module _ (p : Spot) where
   -- a and b hold the parts of pair l

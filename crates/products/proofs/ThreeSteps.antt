@@ -28,7 +28,8 @@ use Rattle.products.proofs.Zeros.{near_same, up_same, adds_not, near_zero, mid_z
 use Rattle.products.proofs.MidRadSteps.{mid_is, raised_is}
 use Rattle.products.proofs.NearestSteps.{NearestHolds, near_runs, near_none, opposite_runs, tiny, tiny_holds, tinied, tiny_more}
 use Rattle.products.proofs.Ending.{ends_none, ends_hold, position_entry_from}
-use Rattle.products.proofs.FourEntry.{Spot, a_mid, a_rad, b_mid, b_rad, left, right, Read, entry_by, middles, outers}
+use Rattle.products.specs.Spot.{Spot, a_mid, a_rad, b_mid, b_rad, left, right, middles, raiseds, FirstSum}
+use Rattle.products.proofs.FourEntry.{Read, entry_by, outers}
 
 nested : (m : Option ℤ) (g : ℤ → Option ℤ) → bind m (λ s. bind (up binary32 1 (s +ℤ pos tiny)) g) ≡ bind (tinied m) g
 unfolding tinied bind
@@ -36,29 +37,23 @@ nested none g = refl
 nested (some s) g = refl
 
 module _ (p : Spot) where
-  -- ---- the first sums after l pairs, and after one more: each a number or none
-  unfoldable pub raiseds : ℕ → Option ℤ
-  raiseds l = sum (up binary32 1) (λ l. raised_term (of binary32) p.k (left p l) (right p l)) (pos 0) l
-
-  unfoldable pub FirstSum : ℕ → Nearest → Type 0
-  FirstSum l s = NearestSum (middles p near l) (raiseds l) s
-
+  -- ---- the first sums after one pair more: each a number or none
   unfoldable pub FirstNext : ℕ → Nearest → Type 0
-  FirstNext l s = NearestHolds (middles p near (l + 1)) (raiseds (l + 1)) s
+  FirstNext l s = NearestHolds (middles p near (l + 1)) (raiseds p (l + 1)) s
 
   -- one of them is none in the end
   unfoldable pub FirstNone : Type 0
-  FirstNone = (middles p near p.k ≡ none) ⊎ (raiseds p.k ≡ none)
+  FirstNone = (middles p near p.k ≡ none) ⊎ (raiseds p p.k ≡ none)
 
-  pub first_start : FirstSum 0 zero_nearest
+  pub first_start : FirstSum p 0 zero_nearest
   unfolding FirstSum middles raiseds sum
   first_start = record { centre = zero_runs; radius = zero_runs; below = zero_below }
 
-  pub first_numbers : (l : ℕ) (s : Nearest) → FirstSum l s → NearNumbers s
+  pub first_numbers : (l : ℕ) (s : Nearest) → FirstSum p l s → NearNumbers s
   unfolding FirstSum
   first_numbers l s S = record { centre = S.centre.number; radius = S.radius.number; below = S.below }
 
-  pub first_next : (l size v : ℕ) (s r : Nearest) → Read p l size → FirstSum l s → held v ≡ raised_of (factor_of p.k) (value_of (b_mid p l)) (value_of (b_rad p l))
+  pub first_next : (l size v : ℕ) (s r : Nearest) → Read p l size → FirstSum p l s → held v ≡ raised_of (factor_of p.k) (value_of (b_mid p l)) (value_of (b_rad p l))
       → NearAdded s (a_mid p l) (b_mid p l) (a_mid p l) v r → FirstNext l r
   unfolding FirstSum FirstNext middles raiseds
   first_next l size v s r P S d A =
@@ -70,12 +65,12 @@ module _ (p : Spot) where
         below = grown_below s.radius (a_mid p l) v r.radius S.below A.radius;
       }
 
-  pub first_more : (l : ℕ) (r : Nearest) → FirstNext l r → refused_nearest r ≡ false → FirstSum (l + 1) r
+  pub first_more : (l : ℕ) (r : Nearest) → FirstNext l r → refused_nearest r ≡ false → FirstSum p (l + 1) r
   unfolding FirstSum FirstNext
   first_more l r H t = near_runs _ _ r H t
 
   -- a pair that is passed over adds nothing
-  pub first_skip : (l v : ℕ) (s : Nearest) → FirstSum l s → held v ≡ raised_of (factor_of p.k) (value_of (b_mid p l)) (value_of (b_rad p l)) → adds_of (a_mid p l) v ≡ false → FirstSum (l + 1) s
+  pub first_skip : (l v : ℕ) (s : Nearest) → FirstSum p l s → held v ≡ raised_of (factor_of p.k) (value_of (b_mid p l)) (value_of (b_rad p l)) → adds_of (a_mid p l) v ≡ false → FirstSum p (l + 1) s
   unfolding FirstSum middles raiseds
   first_skip l v s S d t =
       let z = adds_not (a_mid p l) v t in
@@ -90,25 +85,25 @@ module _ (p : Spot) where
   unfolding FirstNext FirstNone middles raiseds
   first_none l r H h t = go (near_none _ _ r H t)
     where
-      go : (middles p near (l + 1) ≡ none) ⊎ (raiseds (l + 1) ≡ none) → FirstNone
+      go : (middles p near (l + 1) ≡ none) ⊎ (raiseds p (l + 1) ≡ none) → FirstNone
       go (inl e) = inl (sum_stays (near binary32 1) _ (pos 0) l p.k h e)
       go (inr e) = inr (sum_stays (up binary32 1) _ (pos 0) l p.k h e)
 
   -- ---- the radius with 2^-125 more
   unfoldable pub TinyNext : Number → Type 0
-  TinyNext x = Holds (negate (tinied (raiseds p.k))) x × Below x
+  TinyNext x = Holds (negate (tinied (raiseds p p.k))) x × Below x
 
   unfoldable pub TinySum : Number → Type 0
-  TinySum x = Runs (negate (tinied (raiseds p.k))) x × Below x
+  TinySum x = Runs (negate (tinied (raiseds p p.k))) x × Below x
 
   unfoldable pub TinyNone : Type 0
-  TinyNone = tinied (raiseds p.k) ≡ none
+  TinyNone = tinied (raiseds p p.k) ≡ none
 
-  pub tiny_next : (s : Nearest) (y x : Number) → FirstSum p.k s → y ≡ minus_tiny → ((t : Option ℤ) → Holds t y → Holds (plus_down (worth s.radius) t) x) → TinyNext x
+  pub tiny_next : (s : Nearest) (y x : Number) → FirstSum p p.k s → y ≡ minus_tiny → ((t : Option ℤ) → Holds t y → Holds (plus_down (worth s.radius) t) x) → TinyNext x
   unfolding FirstSum TinyNext
   tiny_next s y x S e H =
       let h = H (some (neg_ℤ (pos tiny))) (tiny_holds y e) in
-      (tiny_more (raiseds p.k) s.radius x S.radius h, plus_below s.radius x (some (neg_ℤ (pos tiny))) S.below (neg_le_pos tiny 0) h)
+      (tiny_more (raiseds p p.k) s.radius x S.radius h, plus_below s.radius x (some (neg_ℤ (pos tiny))) S.below (neg_le_pos tiny 0) h)
 
   pub tiny_sum : (x : Number) → TinyNext x → ltb 653 x.exp ≡ false → TinySum x
   unfolding TinyNext TinySum
@@ -116,7 +111,7 @@ module _ (p : Spot) where
 
   pub tiny_none : (x : Number) → TinyNext x → ltb 653 x.exp ≡ true → TinyNone
   unfolding TinyNext TinyNone
-  tiny_none x H t = negate_none (tinied (raiseds p.k)) (holds_none _ x H.0 t)
+  tiny_none x H t = negate_none (tinied (raiseds p p.k)) (holds_none _ x H.0 t)
 
   pub tiny_number : (x : Number) → TinySum x → IsNumber x × Below x
   unfolding TinySum
@@ -128,7 +123,7 @@ module _ (p : Spot) where
     continued m = bind m λ v. outers p v p.k
 
     abbrev radius : Option ℤ
-    radius = continued (tinied (raiseds p.k))
+    radius = continued (tinied (raiseds p p.k))
 
     abbrev middle : Option ℤ
     middle = middles p near p.k
@@ -137,7 +132,7 @@ module _ (p : Spot) where
     unfolding entry radius₃ centre total middles raiseds outers
     is =
         position_entry_from three p.k p.n p.i p.j c at in_row p.ma p.ra p.mb p.rb
-        ∙ ap (λ r. ends (of binary32) r middle middle) (nested (raiseds p.k) (λ v. outers p v p.k))
+        ∙ ap (λ r. ends (of binary32) r middle middle) (nested (raiseds p p.k) (λ v. outers p v p.k))
 
     pub three_first : FirstNone → entry_by p three c ≡ none
     unfolding FirstNone tinied bind
@@ -153,12 +148,12 @@ module _ (p : Spot) where
 
     radius_is : (y : Number) → TinySum y → radius ≡ outers p (neg_ℤ (worth y)) p.k
     unfolding TinySum bind
-    radius_is y S = ap continued (mirrored_is (tinied (raiseds p.k)) y S.0)
+    radius_is y S = ap continued (mirrored_is (tinied (raiseds p p.k)) y S.0)
 
     pub three_outer : (y : Number) → TinySum y → outers p (neg_ℤ (worth y)) p.k ≡ none → entry_by p three c ≡ none
     three_outer y S e = is ∙ ends_none radius middle middle (inr (inr (radius_is y S ∙ e)))
 
-    pub three_holds : (s : Nearest) (y o x : Number) (e : Sums) → FirstSum p.k s → TinySum y → Opposite s.centre o → Runs (negate (outers p (neg_ℤ (worth y)) p.k)) x → Ended s.centre o x e
+    pub three_holds : (s : Nearest) (y o x : Number) (e : Sums) → FirstSum p p.k s → TinySum y → Opposite s.centre o → Runs (negate (outers p (neg_ℤ (worth y)) p.k)) x → Ended s.centre o x e
         → HoldsRange (entry_by p three c) e
     unfolding FirstSum
     three_holds s y o x e F S O R E =

@@ -1,13 +1,11 @@
 -- Values that are computed once for each cell, from its midpoint m and radius r. Definitions only.
 use Rattle.std.specs.Prelude.{List, ◌≡◌, ℕ, ◌+◌, ◌*◌, ◌^◌, ◌≤◌, ◌<◌, ℤ, pos, length, get_or}
-use Rattle.std.proofs.Math.Option.{Option, some, bind}
+use Rattle.std.proofs.Math.Option.{Option, some}
 use Rattle.algebra.specs.Order.{◌≼◌}
 use Rattle.rounding.specs.Format.{binary32}
 use Rattle.enclosure.specs.Arithmetic.{of}
 use Rattle.enclosure.specs.Methods.{part, outer_radius, raised_radius}
 use Rattle.binary32.specs.Number.{value_of, Finite, held}
-use Rattle.products.specs.declared.derived.Kind.{Kind}
-use Rattle.products.specs.declared.derived.Kind.TheVariants.{Outer, Raised, Part}
 
 -- |m| + r, rounded up
 abbrev pub outer_of : ℤ → ℤ → Option ℤ
@@ -25,13 +23,7 @@ factor_of k = pos ((k + 2) * 2 ^ 125)
 abbrev pub part_of : ℤ → ℤ → Option ℤ
 part_of m r = some (part m r)
 
--- the value of this kind, from m and r in units
-unfoldable pub derived_of : Kind → ℤ → ℤ → Option ℤ
-derived_of Outer m r = outer_of m r
-derived_of (Raised c) m r = bind (held c) λ f. raised_of f m r
-derived_of Part m r = part_of m r
-
--- the same as a result that is not none
+-- the factor as a result that is not none
 unfoldable pub raised_factor : ℕ → Option ℤ
 raised_factor k = some (factor_of k)
 
@@ -41,16 +33,17 @@ pub record MidRad (m r : ℕ) : Type 0 where
   pub rad : Finite r
   pub nonneg : pos 0 ≼ value_of r
 
--- the pattern p has the value of this kind for the patterns m and r; exponent field 255 means none
-pub record Derives (kind : Kind) (m r p : ℕ) : Type 0 where
-  pub holds : held p ≡ derived_of kind (value_of m) (value_of r)
-
 -- ---- the first count cells
 
 pub record MidRads (count : ℕ) (m r : List ℕ) : Type 0 where
   pub mids : count ≤ length m
   pub rads : count ≤ length r
   pub each : (c : ℕ) → c < count → MidRad (get_or m c 0) (get_or r c 0)
+
+-- `made` holds of each midpoint, each radius and the pattern of p at their place
+pub record MadeOf (made : ℕ → ℕ → ℕ → Type 0) (count : ℕ) (m r p : List ℕ) : Type 0 where
+  pub long : count ≤ length p
+  pub each : (c : ℕ) → c < count → made (get_or m c 0) (get_or r c 0) (get_or p c 0)
 
 -- the first count patterns of p have the values of f for the midpoints and radii in m and r; exponent field 255 means none
 pub record Derived (f : ℤ → ℤ → Option ℤ) (count : ℕ) (m r p : List ℕ) : Type 0 where

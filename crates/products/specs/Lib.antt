@@ -8,6 +8,8 @@ pub mod Row
 pub mod CentreSize
 pub mod Derived
 pub mod MidRad
+pub mod Spot
 pub mod Written
 pub mod Short
 pub mod ShortProofs
+pub mod Entries

@@ -6,7 +6,9 @@ use Rattle.enclosure.specs.Arithmetic.{of}
 use Rattle.enclosure.specs.Cell.{Cell}
 use Rattle.enclosure.specs.Methods.{Method, Range, entry}
 use Rattle.binary32.specs.Number.{value_of}
+use Rattle.products.specs.declared.operands.Operands.{Operands}
 use Rattle.products.specs.Derived.{MidRads}
+use Rattle.products.specs.Written.{Found, Written}
 
 -- the cell with the midpoint and the radius at position c; its bounds are set to 0, since methods 3, 4, 5 and 7 do not use them
 abbrev pub mid_rad_at : (m r : List ℕ) → ℕ → Cell
@@ -25,3 +27,14 @@ pub record Sized (m k n : ℕ) (ma ra mb rb : List ℕ) (lo up : ℕ) : Type 0 w
   pub b : MidRads (k * n) mb rb
   pub lowers : m * n ≤ lo
   pub uppers : m * n ≤ up
+
+-- the same of both matrices in one value
+abbrev pub Fits : Operands → (lo up : ℕ) → Type 0
+Fits o lo up = Sized o.shape.m o.shape.k o.shape.n o.ma.now o.ra.now o.mb.now o.rb.now lo up
+
+abbrev pub entries_of : Method → Operands → ℕ → Option Range
+entries_of method o = entry_from method o.shape.k o.shape.n o.ma.now o.ra.now o.mb.now o.rb.now
+
+-- the entries by a method are written, up to the first that is refused
+abbrev pub EntriesOf : Method → Operands → (lo up : List ℕ) → Found → (lo' up' : List ℕ) → Type 0
+EntriesOf method o = Written (entries_of method o) o.shape.m o.shape.n

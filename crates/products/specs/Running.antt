@@ -1,5 +1,5 @@
 -- The running sums of one entry, and the range that they hold. Definitions only, for the contracts of private functions.
-use Rattle.std.specs.Prelude.{◌≡◌, Bool, true, false, cond, ltb, ℤ, neg_ℤ, ◌+ℤ◌}
+use Rattle.std.specs.Prelude.{◌≡◌, Bool, true, false, cond, ltb, ℤ, neg_ℤ, ◌+ℤ◌, Option as Maybe, Some, None}
 use Rattle.std.proofs.Math.Option.{Option, none, some, bind}
 use Rattle.rounding.specs.Format.{binary32}
 use Rattle.rounding.specs.Rounding.{down}
@@ -32,6 +32,10 @@ pub record Ended (low high radius : Number) (r : Sums) : Type 0 where
 -- whether one of the sums is none: its exponent is above 653, that of the largest number
 abbrev pub refused_sums : Sums → Bool
 refused_sums s = cond (ltb 653 s.lower.exp) true (ltb 653 s.opposed.exp)
+
+-- s, or none where one of its sums is
+abbrev pub whole_of : Sums → Maybe Sums
+whole_of s = cond (refused_sums s) None (Some s)
 
 -- s has this range, or it is refused where there is none
 pub record HoldsRange (m : Option Range) (s : Sums) : Type 0 where

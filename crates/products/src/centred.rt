@@ -1,5 +1,5 @@
 // The running sums of methods 4 and 7: a value whose step adds one product to the centres and one to the radius and hands back the next value.
-// Each loop has a step function of its own with the same body: the compiler inlines a function with one caller, and a step is too large to be inlined twice.
+// A step has a const parameter, so that each loop has a copy of it: the compiler inlines a function with one caller, and a step is too large to be inlined twice.
 ghost use Rattle.std.specs.Prelude.{◌≡◌, ltb};
 ghost use Rattle.binary32.specs.Number.{Finite};
 ghost use Rattle.binary32.specs.Order.{magnitude_of};
@@ -63,24 +63,8 @@ impl Centred {
         }
     }
 
-    // Method 4: adds x × y to both centres and |x| × |v| to the radius.
-    pub fn step_four(self, x: u32, y: u32, v: u32) -> Centred
-        requires { AllNumbers self × Below self.radius × Finite x }
-        ensures { Added self x y (growth x v) result }
-    {
-        let f = unpack(x);
-        let w = magnitude(v);
-        let p = times(f, unpack(y));
-        let q = times(absolute(f), unpack(w));
-        Centred {
-            radius: plus_negative::<Down>(self.radius, rounded_up(q)),
-            lower: plus::<Down>(self.lower, rounded::<Down>(p)),
-            opposed: plus::<Down>(self.opposed, rounded_up(p)),
-        }
-    }
-
-    // Method 7, for the midpoints: the same as in method 4.
-    pub fn step_seven(self, x: u32, y: u32, v: u32) -> Centred
+    // Adds x × y to both centres and |x| × |v| to the radius, by methods 4 and 7. METHOD changes nothing of that: each method's loop gets a copy of its own.
+    pub fn step<const METHOD: u32>(self, x: u32, y: u32, v: u32) -> Centred
         requires { AllNumbers self × Below self.radius × Finite x }
         ensures { Added self x y (growth x v) result }
     {

@@ -1,14 +1,16 @@
-// Method 1, classical: one pass along a row of A and a column of B carries both sums of an entry. Each row of A is unpacked once for all its entries,
-// and the first overflow ends all loops.
-ghost use Rattle.std.specs.Prelude.{length, ◌≡◌, ◌+◌, ltb};
+// Method 1, classical: one pass along a row of A and a column of B carries both sums of an entry. Each row of A is unpacked once for all its entries.
+ghost use Rattle.std.specs.Prelude.{ℕ, length, get_or, ◌≡◌, ◌<◌, ◌+◌, ◌*◌, ltb};
 ghost use Rattle.enclosure.specs.Methods.{classical};
 ghost use Rattle.binary32.specs.Order.{magnitude_of};
 ghost use Rattle.matrices.specs.Matrix.{of_bounds};
 ghost use Rattle.matrices.specs.Entries.{entry_at};
-ghost use Rattle.products.specs.Written.{Sizes, Written};
+ghost use Rattle.products.specs.Apart.{IsApart, zero_apart};
+ghost use Rattle.products.specs.Classical.{SumsAfter};
+ghost use Rattle.products.specs.Written.{Sizes};
 
 use crate::apart::Apart;
-use crate::sums::{Place, Sums};
+use crate::entries::{Shape, Steps};
+use crate::sums::Sums;
 use refusals::sizes::LARGEST_SIZE;
 
 // Whether the cell [lo, hi] is not [0, 0], with zeros of either sign. The corner products of [0, 0] add nothing.
@@ -18,52 +20,75 @@ fn is_nonzero(lo: u32, hi: u32) -> bool
     0 < lo % 0x8000_0000 + hi % 0x8000_0000
 }
 
-// Writes the entries by rows until one is refused, and returns its row and column, or None.
-pub fn entries(
-    m: usize,
-    k: usize,
-    n: usize,
-    al: &[u32],
-    au: &[u32],
-    bl: &[u32],
-    bu: &[u32],
-    lo: &mut [u32],
-    up: &mut [u32],
-) -> Option<Place>
-    requires { Sizes m k n (of_bounds al.now au.now) (of_bounds bl.now bu.now) (length lo.old) (length up.old) }
-    ensures { Written (entry_at classical k n (of_bounds al.now au.now) (of_bounds bl.now bu.now))
-        m n lo.old up.old result lo.new up.new }
-{
-    let mut row = [Apart::zero(); LARGEST_SIZE];
-    let mut place = None;
-    let mut at = 0;
-    'search: for i in 0..m {
-        for l in 0..k {
-            let c = i * k + l;
-            row[l] = Apart::new(al[c], au[c]);
-        }
-        for j in 0..n {
-            // After l pairs s holds the lower and the upper sum over them: `SumsAfter` in specs/Classical.
-            let mut s = Sums::new();
-            for l in 0..k {
-                let a = row[l];
-                if a.is_nonzero() {
-                    let b = l * n + j;
-                    let y = bl[b];
-                    let z = bu[b];
-                    if is_nonzero(y, z) {
-                        s = s.step(a, y, z);
-                        if s.refused() {
-                            place = Some(Place { row: i, column: j });
-                            break 'search;
-                        }
-                    }
-                }
-            }
-            lo[at] = s.lower();
-            up[at] = s.upper();
-            at += 1;
+// A and B by their bounds, by rows.
+#[derive(Clone, Copy)]
+pub struct Classical<'a> {
+    pub shape: Shape,
+    pub al: &'a [u32],
+    pub au: &'a [u32],
+    pub bl: &'a [u32],
+    pub bu: &'a [u32],
+}
+
+impl<'a> Steps for Classical<'a> {
+    type Row = [Apart; LARGEST_SIZE];
+
+    type Sum = Sums;
+
+    ghost shape = { λ s. s.shape };
+
+    ghost ready = { λ s. Sizes s.shape.m s.shape.k s.shape.n (of_bounds s.al.now s.au.now) (of_bounds s.bl.now s.bu.now) (s.shape.m * s.shape.n) (s.shape.m * s.shape.n) };
+
+    ghost entry = { λ s. entry_at classical s.shape.k s.shape.n (of_bounds s.al.now s.au.now) (of_bounds s.bl.now s.bu.now) };
+
+    ghost place = { λ row. length row ≡ 32 };
+
+    ghost row_of = { λ s i row. (length row ≡ 32)
+        × ((l : ℕ) → l < s.shape.k → IsApart (get_or s.al.now (i * s.shape.k + l) 0) (get_or s.au.now (i * s.shape.k + l) 0) (get_or row l zero_apart)) };
+
+    ghost after = { λ s i j l t. SumsAfter s.shape.k s.shape.n (of_bounds s.al.now s.au.now) (of_bounds s.bl.now s.bu.now) i j l t };
+
+    fn shape(self) -> Shape {
+        self.shape
+    }
+
+    fn blank(self) -> [Apart; LARGEST_SIZE] {
+        [Apart::zero(); LARGEST_SIZE]
+    }
+
+    fn take_apart(self, i: usize, row: &mut [Apart; LARGEST_SIZE]) {
+        for l in 0..self.shape.k {
+            let c = i * self.shape.k + l;
+            row[l] = Apart::new(self.al[c], self.au[c]);
         }
     }
-    place
+
+    fn start(self) -> Sums {
+        Sums::new()
+    }
+
+    fn step(
+        self,
+        row: &[Apart; LARGEST_SIZE],
+        s: Sums,
+        _i: usize,
+        j: usize,
+        l: usize,
+    ) -> Option<Sums> {
+        let a = row[l];
+        if !a.is_nonzero() {
+            return Some(s);
+        }
+        let b = l * self.shape.n + j;
+        let y = self.bl[b];
+        let z = self.bu[b];
+        if !is_nonzero(y, z) {
+            return Some(s);
+        }
+        s.step::<1>(a, y, z).whole()
+    }
+
+    fn finish(self, _row: &[Apart; LARGEST_SIZE], s: Sums, _i: usize, _j: usize) -> Option<Sums> {
+        Some(s)
+    }
 }

@@ -1,133 +1,105 @@
 // Methods 3, 4, 5 and 7, from midpoints and radii: values that depend on one cell are computed first (derived.rt), then the entries.
-ghost use Rattle.std.specs.Prelude.{◌≡◌, ◌⊎◌, length};
+ghost use Rattle.std.specs.Prelude.{◌≡◌, length};
 ghost use Rattle.enclosure.specs.Methods.{three, four, five, seven};
-ghost use Rattle.matrices.specs.Checks.{chosen};
-ghost use Rattle.products.specs.Written.{Written};
-ghost use Rattle.products.specs.MidRad.{Sized, entry_from};
+ghost use Rattle.matrices.specs.declared.methods.Method.TheVariants.{Classical};
+ghost use Rattle.matrices.specs.Methods.{meant};
+ghost use Rattle.products.specs.MidRad.{EntriesOf, Fits};
 
-use crate::derived::{Kind, derive_all, raised};
+use crate::derived::{derive_all, outer, part, raised, raised_radius};
+use crate::entries::entries;
+use crate::five::Five;
+use crate::four::Four;
+use crate::operands::Operands;
+use crate::seven::Seven;
 use crate::sums::Place;
-use crate::{five, four, seven, three};
+use crate::three::Three;
+use matrices::methods::Method;
 use refusals::sizes::MOST_CELLS;
 
 // Method 3: vb has (c × |m|) + r and wb has |m| + r of B's cells.
-fn by_three(
-    m: usize,
-    k: usize,
-    n: usize,
-    ma: &[u32],
-    ra: &[u32],
-    mb: &[u32],
-    rb: &[u32],
-    lo: &mut [u32],
-    up: &mut [u32],
-) -> Option<Place>
-    requires { Sized m k n ma.now ra.now mb.now rb.now (length lo.old) (length up.old) }
-    ensures { Written (entry_from three k n ma.now ra.now mb.now rb.now)
-        m n lo.old up.old result lo.new up.new }
+fn by_three(of: Operands, lo: &mut [u32], up: &mut [u32]) -> Option<Place>
+    requires { Fits of (length lo.old) (length up.old) }
+    ensures { EntriesOf three of.entry lo.old up.old result lo.new up.new }
 {
     let mut vb = [0u32; MOST_CELLS];
     let mut wb = [0u32; MOST_CELLS];
-    derive_all(Kind::Raised(raised(k)), k * n, mb, rb, &mut vb);
-    derive_all(Kind::Outer, k * n, mb, rb, &mut wb);
-    three::entries(m, k, n, ma, ra, mb, rb, &vb, &wb, lo, up)
+    let c = raised(of.shape.k);
+    let cells = of.shape.k * of.shape.n;
+    derive_all(|m, r| raised_radius(c, m, r), cells, of.mb, of.rb, &mut vb);
+    derive_all(outer, cells, of.mb, of.rb, &mut wb);
+    let steps = Three {
+        of,
+        vb: &vb,
+        wb: &wb,
+    };
+    entries(steps, lo, up)
 }
 
 // Method 4: wb has |m| + r of B's cells.
-fn by_four(
-    m: usize,
-    k: usize,
-    n: usize,
-    ma: &[u32],
-    ra: &[u32],
-    mb: &[u32],
-    rb: &[u32],
-    lo: &mut [u32],
-    up: &mut [u32],
-) -> Option<Place>
-    requires { Sized m k n ma.now ra.now mb.now rb.now (length lo.old) (length up.old) }
-    ensures { Written (entry_from four k n ma.now ra.now mb.now rb.now)
-        m n lo.old up.old result lo.new up.new }
+fn by_four(of: Operands, lo: &mut [u32], up: &mut [u32]) -> Option<Place>
+    requires { Fits of (length lo.old) (length up.old) }
+    ensures { EntriesOf four of.entry lo.old up.old result lo.new up.new }
 {
     let mut wb = [0u32; MOST_CELLS];
-    derive_all(Kind::Outer, k * n, mb, rb, &mut wb);
-    four::entries(m, k, n, ma, ra, mb, rb, &wb, lo, up)
+    derive_all(outer, of.shape.k * of.shape.n, of.mb, of.rb, &mut wb);
+    entries(Four { of, wb: &wb }, lo, up)
 }
 
 // Method 5: wa and wb have |m| + r of A's and B's cells, pa and pb their parts.
-fn by_five(
-    m: usize,
-    k: usize,
-    n: usize,
-    ma: &[u32],
-    ra: &[u32],
-    mb: &[u32],
-    rb: &[u32],
-    lo: &mut [u32],
-    up: &mut [u32],
-) -> Option<Place>
-    requires { Sized m k n ma.now ra.now mb.now rb.now (length lo.old) (length up.old) }
-    ensures { Written (entry_from five k n ma.now ra.now mb.now rb.now)
-        m n lo.old up.old result lo.new up.new }
+fn by_five(of: Operands, lo: &mut [u32], up: &mut [u32]) -> Option<Place>
+    requires { Fits of (length lo.old) (length up.old) }
+    ensures { EntriesOf five of.entry lo.old up.old result lo.new up.new }
 {
     let mut wa = [0u32; MOST_CELLS];
     let mut pa = [0u32; MOST_CELLS];
     let mut wb = [0u32; MOST_CELLS];
     let mut pb = [0u32; MOST_CELLS];
-    derive_all(Kind::Outer, m * k, ma, ra, &mut wa);
-    derive_all(Kind::Part, m * k, ma, ra, &mut pa);
-    derive_all(Kind::Outer, k * n, mb, rb, &mut wb);
-    derive_all(Kind::Part, k * n, mb, rb, &mut pb);
-    five::entries(m, k, n, ma, ra, &wa, &pa, mb, rb, &wb, &pb, lo, up)
+    let a_cells = of.shape.m * of.shape.k;
+    let b_cells = of.shape.k * of.shape.n;
+    derive_all(outer, a_cells, of.ma, of.ra, &mut wa);
+    derive_all(part, a_cells, of.ma, of.ra, &mut pa);
+    derive_all(outer, b_cells, of.mb, of.rb, &mut wb);
+    derive_all(part, b_cells, of.mb, of.rb, &mut pb);
+    let steps = Five {
+        of,
+        wa: &wa,
+        pa: &pa,
+        wb: &wb,
+        pb: &pb,
+    };
+    entries(steps, lo, up)
 }
 
 // Method 7: pa and pb have the parts of A's and B's cells, wb has |m| + r of B's.
-fn by_seven(
-    m: usize,
-    k: usize,
-    n: usize,
-    ma: &[u32],
-    ra: &[u32],
-    mb: &[u32],
-    rb: &[u32],
-    lo: &mut [u32],
-    up: &mut [u32],
-) -> Option<Place>
-    requires { Sized m k n ma.now ra.now mb.now rb.now (length lo.old) (length up.old) }
-    ensures { Written (entry_from seven k n ma.now ra.now mb.now rb.now)
-        m n lo.old up.old result lo.new up.new }
+fn by_seven(of: Operands, lo: &mut [u32], up: &mut [u32]) -> Option<Place>
+    requires { Fits of (length lo.old) (length up.old) }
+    ensures { EntriesOf seven of.entry lo.old up.old result lo.new up.new }
 {
     let mut pa = [0u32; MOST_CELLS];
     let mut wb = [0u32; MOST_CELLS];
     let mut pb = [0u32; MOST_CELLS];
-    derive_all(Kind::Part, m * k, ma, ra, &mut pa);
-    derive_all(Kind::Outer, k * n, mb, rb, &mut wb);
-    derive_all(Kind::Part, k * n, mb, rb, &mut pb);
-    seven::entries(m, k, n, ma, ra, &pa, mb, rb, &wb, &pb, lo, up)
+    let b_cells = of.shape.k * of.shape.n;
+    derive_all(part, of.shape.m * of.shape.k, of.ma, of.ra, &mut pa);
+    derive_all(outer, b_cells, of.mb, of.rb, &mut wb);
+    derive_all(part, b_cells, of.mb, of.rb, &mut pb);
+    let steps = Seven {
+        of,
+        pa: &pa,
+        wb: &wb,
+        pb: &pb,
+    };
+    entries(steps, lo, up)
 }
 
-// Writes the entries by this method by rows until one is refused, and returns its row and column, or None.
-pub fn entries(
-    method: u32,
-    m: usize,
-    k: usize,
-    n: usize,
-    ma: &[u32],
-    ra: &[u32],
-    mb: &[u32],
-    rb: &[u32],
-    lo: &mut [u32],
-    up: &mut [u32],
-) -> Option<Place>
-    requires { ((method ≡ 3) ⊎ ((method ≡ 4) ⊎ ((method ≡ 5) ⊎ (method ≡ 7))))
-        × Sized m k n ma.now ra.now mb.now rb.now (length lo.old) (length up.old) }
-    ensures { Written (entry_from (chosen method) k n ma.now ra.now mb.now rb.now)
-        m n lo.old up.old result lo.new up.new }
+// Writes the entries by this method, which is not the classical one, by rows until one is refused, and returns its row and column, or None.
+pub fn converted(by: Method, of: Operands, lo: &mut [u32], up: &mut [u32]) -> Option<Place>
+    requires { (by ≡ Classical → ⊥) × Fits of (length lo.old) (length up.old) }
+    ensures { EntriesOf (meant by) of.entry lo.old up.old result lo.new up.new }
 {
-    match method {
-        3 => by_three(m, k, n, ma, ra, mb, rb, lo, up),
-        4 => by_four(m, k, n, ma, ra, mb, rb, lo, up),
-        5 => by_five(m, k, n, ma, ra, mb, rb, lo, up),
-        _ => by_seven(m, k, n, ma, ra, mb, rb, lo, up),
+    match by {
+        Method::Three => by_three(of, lo, up),
+        Method::Four => by_four(of, lo, up),
+        Method::Five => by_five(of, lo, up),
+        _ => by_seven(of, lo, up),
     }
 }

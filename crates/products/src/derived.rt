@@ -1,20 +1,12 @@
 // Values that methods 3, 4, 5 and 7 work out once for each cell, from its midpoint m and radius r, before the entries. Called by converted.rt.
-ghost use Rattle.std.specs.Prelude.{◌≡◌, ◌≤◌, length};
-ghost use Rattle.binary32.specs.Number.{held};
-ghost use Rattle.products.specs.declared.derived.Kind.TheVariants.{Part};
-ghost use Rattle.products.specs.Derived.{MidRad, MidRads, Derives, Derived, derived_of, raised_factor};
+ghost use Rattle.std.specs.Prelude.{ℕ, ◌≡◌, ◌≤◌, length};
+ghost use Rattle.std.proofs.Math.Option.{bind};
+ghost use Rattle.binary32.specs.Number.{value_of, held};
+ghost use Rattle.products.specs.Derived.{MidRad, MidRads, MadeOf, outer_of, raised_of, part_of, raised_factor};
 
 use binary32::direction::Up;
 use binary32::order::{least, magnitude, negate};
 use binary32::partial;
-
-// Outer: |m| + r. Raised(c): (c × |m|) + r, method 3's rB'. Part: sign(m) × min(|m|, r), p of methods 5 and 7.
-#[derive(Clone, Copy)]
-pub enum Kind {
-    Outer,
-    Raised(u32),
-    Part,
-}
 
 // The patterns of (k + 2) × 2^-24 for k from 0 to 32. Each is exact.
 const RAISED: [u32; 33] = [
@@ -61,10 +53,27 @@ pub fn raised(k: usize) -> u32
     RAISED[k]
 }
 
-// sign(m) × min(|m|, r)
-fn part_of(m: u32, r: u32) -> u32
+// |m| + r, rounded up; infinity where it overflows.
+#[tactic(auto, using(crate::proofs::Derivations::outer_held))]
+pub fn outer(m: u32, r: u32) -> u32
     requires { MidRad m r }
-    ensures { Derives Part m r result }
+    ensures { held result ≡ outer_of (value_of m) (value_of r) }
+{
+    partial::add::<Up>(magnitude(m), r)
+}
+
+// Method 3's rB': (c × |m|) + r, each step rounded up; infinity where one overflows.
+pub fn raised_radius(c: u32, m: u32, r: u32) -> u32
+    requires { MidRad m r }
+    ensures { held result ≡ bind (held c) λ f. raised_of f (value_of m) (value_of r) }
+{
+    partial::add::<Up>(partial::mul::<Up>(c, magnitude(m)), r)
+}
+
+// p of methods 5 and 7: sign(m) × min(|m|, r), which is exact.
+pub fn part(m: u32, r: u32) -> u32
+    requires { MidRad m r }
+    ensures { held result ≡ part_of (value_of m) (value_of r) }
 {
     let p = least(magnitude(m), r);
     if m < 0x8000_0000 {
@@ -73,26 +82,19 @@ fn part_of(m: u32, r: u32) -> u32
     negate(p)
 }
 
-// The value for one cell, each step rounded up; infinity where it overflows. A part is exact.
-pub fn derive(kind: Kind, m: u32, r: u32) -> u32
-    requires { MidRad m r }
-    ensures { Derives kind m r result }
+// What `of` makes of the first count cells, into the front of out.
+pub fn derive_all<F: Fn(u32, u32) -> u32>(
+    of: F,
+    count: usize,
+    m: &[u32],
+    r: &[u32],
+    out: &mut [u32],
+)
+    requires cells { MidRads count m.now r.now × (count ≤ length out.old) }
+    requires callable { (x y : ℕ) → MidRad x y → F.pre of x y }
+    ensures { MadeOf (F.post of) count m.now r.now out.new }
 {
-    match kind {
-        Kind::Outer => partial::add::<Up>(magnitude(m), r),
-        Kind::Raised(c) => partial::add::<Up>(partial::mul::<Up>(c, magnitude(m)), r),
-        Kind::Part => part_of(m, r),
-    }
-}
-
-// The values of the first count cells, into the front of out.
-pub fn derive_all(kind: Kind, count: usize, m: &[u32], r: &[u32], out: &mut [u32])
-    requires { MidRads count m.now r.now × (count ≤ length out.old) }
-    ensures { Derived (derived_of kind) count m.now r.now out.new }
-{
-    let mut c = 0;
-    while c < count {
-        out[c] = derive(kind, m[c], r[c]);
-        c += 1;
+    for c in 0..count {
+        out[c] = of(m[c], r[c]);
     }
 }

@@ -1,36 +1,27 @@
-// Method 5: computes the entries by rows up to the first that is refused. One centre C, rounded to nearest, serves both bounds. G, the sum of the
-// magnitudes of its terms, tells how large its error can be, and is taken from the radius. Each row of A is unpacked once for all its entries.
-ghost use Rattle.std.specs.Prelude.{◌≡◌, true, ◌*◌, ◌≤◌, neg_ℤ, length};
+// Method 5: one centre C, rounded to nearest, serves both bounds. G, the sum of the magnitudes of its terms, tells how large its error can be, and is taken
+// from the radius. Each row of A is unpacked once for all its entries.
+ghost use Rattle.std.specs.Prelude.{◌≡◌, ◌*◌, ◌≤◌, neg_ℤ, length};
 ghost use Rattle.rounding.specs.Rounding.{negate};
 ghost use Rattle.enclosure.specs.Methods.{five};
 ghost use Rattle.unpacked.specs.Number.{worth, IsNumber, Below, Holds};
-ghost use Rattle.products.specs.CentreSize.{Paired, radius_for, range_of};
+ghost use Rattle.products.specs.CentreSize.{radius_for};
 ghost use Rattle.products.specs.Continued.{Reaches};
 ghost use Rattle.products.specs.Derived.{Derived, outer_of, part_of};
-ghost use Rattle.products.specs.MidRad.{Sized, entry_from};
-ghost use Rattle.products.specs.Running.{refused_sums, HoldsRange};
-ghost use Rattle.products.specs.Written.{Written};
+ghost use Rattle.products.specs.MidRad.{Fits, entries_of};
+ghost use Rattle.products.specs.Row.{RowUnpacked};
 
 use crate::centre_size::sum_pairs;
+use crate::entries::{Shape, Steps};
 use crate::error::twice_error;
 use crate::number::opposite;
+use crate::operands::Operands;
 use crate::plus::plus;
 use crate::radius::outer;
 use crate::row::unpack_row;
-use crate::sums::{Place, Sums, ends};
+use crate::sums::{Sums, ends};
 use binary32::direction::Down;
 use refusals::sizes::LARGEST_SIZE;
-use unpacked::{Number, is_none, none, zero};
-
-// An entry that is refused: both bounds are none.
-fn refused_entry() -> Sums
-    ensures { refused_sums result ≡ true }
-{
-    Sums {
-        lower: none(),
-        opposed: none(),
-    }
-}
+use unpacked::{Number, is_none, zero};
 
 // The radius, negated: the sum of (|mA| + rA) × (|mB| + rB), then - G, then + 2 × E. size is -G.
 fn radius(size: Number, k: usize, n: usize, i: usize, j: usize, wa: &[u32], wb: &[u32]) -> Number
@@ -41,83 +32,81 @@ fn radius(size: Number, k: usize, n: usize, i: usize, j: usize, wa: &[u32], wb: 
     plus::<Down>(twice_error(size, k), less)
 }
 
-// The entry in row i and column j. xs and ps have row i of the midpoints and of the parts of A's cells, unpacked; mb and pb have those of B's cells,
-// wa and wb |m| + r.
-fn entry(
-    k: usize,
-    n: usize,
-    i: usize,
-    j: usize,
-    xs: &[u64],
-    mb: &[u32],
-    ps: &[u64],
-    pb: &[u32],
-    wa: &[u32],
-    wb: &[u32],
-) -> Sums
-    requires { (k ≤ 32) × Paired (record { k = k; n = n; j = j; row = xs.now; column = mb.now })
-        × Paired (record { k = k; n = n; j = j; row = ps.now; column = pb.now })
-        × Reaches (record { k = k; n = n; i = i; j = j; row = wa.now; column = wb.now }) }
-    ensures { HoldsRange (range_of (record { k = k; n = n; j = j; row = xs.now; column = mb.now })
-        (record { k = k; n = n; j = j; row = ps.now; column = pb.now })
-        (record { k = k; n = n; i = i; j = j; row = wa.now; column = wb.now })) result }
-{
-    let s = sum_pairs(zero(), zero(), k, n, j, xs, mb);
-    if s.refused() {
-        return refused_entry();
-    }
-    let t = sum_pairs(s.centre, s.size, k, n, j, ps, pb);
-    if t.refused() {
-        return refused_entry();
-    }
-    let r = radius(t.size, k, n, i, j, wa, wb);
-    if is_none(r) {
-        return refused_entry();
-    }
-    ends(t.centre, opposite(t.centre), r)
+// A row of A unpacked: the words of its midpoints and of its parts.
+#[derive(Clone, Copy)]
+pub struct Words {
+    pub mids: [u64; LARGEST_SIZE],
+    pub parts: [u64; LARGEST_SIZE],
 }
 
-// From midpoints and radii. wa and wb have |m| + r for each cell of A and of B, pa and pb the part p.
-pub fn entries(
-    m: usize,
-    k: usize,
-    n: usize,
-    ma: &[u32],
-    ra: &[u32],
-    wa: &[u32],
-    pa: &[u32],
-    mb: &[u32],
-    rb: &[u32],
-    wb: &[u32],
-    pb: &[u32],
-    lo: &mut [u32],
-    up: &mut [u32],
-) -> Option<Place>
-    requires { Sized m k n ma.now ra.now mb.now rb.now (length lo.old) (length up.old)
-        × Derived outer_of (m * k) ma.now ra.now wa.now
-        × Derived part_of (m * k) ma.now ra.now pa.now
-        × Derived outer_of (k * n) mb.now rb.now wb.now
-        × Derived part_of (k * n) mb.now rb.now pb.now }
-    ensures { Written (entry_from five k n ma.now ra.now mb.now rb.now)
-        m n lo.old up.old result lo.new up.new }
-{
-    let mut xs = [0u64; LARGEST_SIZE];
-    let mut ps = [0u64; LARGEST_SIZE];
-    let mut place = None;
-    let mut at = 0;
-    'search: for i in 0..m {
-        unpack_row(k, i, ma, &mut xs);
-        unpack_row(k, i, pa, &mut ps);
-        for j in 0..n {
-            let e = entry(k, n, i, j, &xs, mb, &ps, pb, wa, wb);
-            if e.refused() {
-                place = Some(Place { row: i, column: j });
-                break 'search;
-            }
-            lo[at] = e.lower();
-            up[at] = e.upper();
-            at += 1;
+// wa and wb have |m| + r for each cell of A and of B, pa and pb the part p.
+#[derive(Clone, Copy)]
+pub struct Five<'a> {
+    pub of: Operands<'a>,
+    pub wa: &'a [u32],
+    pub pa: &'a [u32],
+    pub wb: &'a [u32],
+    pub pb: &'a [u32],
+}
+
+impl<'a> Steps for Five<'a> {
+    type Row = Words;
+
+    type Sum = ();
+
+    ghost shape = { λ s. s.of.shape };
+
+    ghost ready = { λ s. Fits s.of (s.of.shape.m * s.of.shape.n) (s.of.shape.m * s.of.shape.n)
+        × Derived outer_of (s.of.shape.m * s.of.shape.k) s.of.ma.now s.of.ra.now s.wa.now
+        × Derived part_of (s.of.shape.m * s.of.shape.k) s.of.ma.now s.of.ra.now s.pa.now
+        × Derived outer_of (s.of.shape.k * s.of.shape.n) s.of.mb.now s.of.rb.now s.wb.now
+        × Derived part_of (s.of.shape.k * s.of.shape.n) s.of.mb.now s.of.rb.now s.pb.now };
+
+    ghost entry = { λ s. entries_of five s.of };
+
+    ghost place = { λ row. (length row.mids ≡ 32) × (length row.parts ≡ 32) };
+
+    ghost row_of = { λ s i row. RowUnpacked s.of.shape.k i s.of.ma.now row.mids × RowUnpacked s.of.shape.k i s.pa.now row.parts };
+
+    ghost after = { λ s i j l t. Unit {0} };
+
+    fn shape(self) -> Shape {
+        self.of.shape
+    }
+
+    fn blank(self) -> Words {
+        Words {
+            mids: [0; LARGEST_SIZE],
+            parts: [0; LARGEST_SIZE],
         }
     }
-    place
+
+    fn take_apart(self, i: usize, row: &mut Words) {
+        unpack_row(self.of.shape.k, i, self.of.ma, &mut row.mids);
+        unpack_row(self.of.shape.k, i, self.pa, &mut row.parts);
+    }
+
+    // The sums are worked out in the end, by functions of their own.
+    fn start(self) {}
+
+    fn step(self, _row: &Words, _s: (), _i: usize, _j: usize, _l: usize) -> Option<()> {
+        Some(())
+    }
+
+    fn finish(self, row: &Words, _s: (), i: usize, j: usize) -> Option<Sums> {
+        let Shape { k, n, .. } = self.of.shape;
+        let s = sum_pairs(zero(), zero(), k, n, j, &row.mids, self.of.mb);
+        if s.refused() {
+            return None;
+        }
+        let t = sum_pairs(s.centre, s.size, k, n, j, &row.parts, self.pb);
+        if t.refused() {
+            return None;
+        }
+        let r = radius(t.size, k, n, i, j, self.wa, self.wb);
+        if is_none(r) {
+            return None;
+        }
+        ends(t.centre, opposite(t.centre), r).whole()
+    }
 }

@@ -1,64 +1,73 @@
-// Method 4: computes the entries by rows up to the first that is refused. The centre is summed twice: down for the lower bound, up for the upper one.
-ghost use Rattle.std.specs.Prelude.{length, ◌*◌};
+// Method 4: the centre is summed twice, down for the lower bound and up for the upper one.
+ghost use Rattle.std.specs.Prelude.{◌*◌};
 ghost use Rattle.enclosure.specs.Methods.{four};
 ghost use Rattle.products.specs.Derived.{Derived, outer_of};
-ghost use Rattle.products.specs.MidRad.{Sized, entry_from};
-ghost use Rattle.products.specs.Written.{Written};
+ghost use Rattle.products.specs.MidRad.{Fits, entries_of};
+ghost use Rattle.products.specs.Spot.{MiddleSum, spot};
 
 use crate::centred::{Centred, is_nonzero};
+use crate::entries::{Shape, Steps};
+use crate::operands::Operands;
 use crate::radius::outer;
-use crate::sums::{Place, ends};
+use crate::sums::{Sums, ends};
 use unpacked::is_none;
 
-// From midpoints and radii. wb has |m| + r for each cell of B.
-pub fn entries(
-    m: usize,
-    k: usize,
-    n: usize,
-    ma: &[u32],
-    ra: &[u32],
-    mb: &[u32],
-    rb: &[u32],
-    wb: &[u32],
-    lo: &mut [u32],
-    up: &mut [u32],
-) -> Option<Place>
-    requires { Sized m k n ma.now ra.now mb.now rb.now (length lo.old) (length up.old)
-        × Derived outer_of (k * n) mb.now rb.now wb.now }
-    ensures { Written (entry_from four k n ma.now ra.now mb.now rb.now)
-        m n lo.old up.old result lo.new up.new }
-{
-    let mut place = None;
-    let mut at = 0;
-    'search: for i in 0..m {
-        for j in 0..n {
-            let mut s = Centred::new();
-            for l in 0..k {
-                let a = i * k + l;
-                let x = ma[a];
-                if is_nonzero(x) {
-                    let b = l * n + j;
-                    s = s.step_four(x, mb[b], rb[b]);
-                    if s.refused() {
-                        place = Some(Place { row: i, column: j });
-                        break 'search;
-                    }
-                }
-            }
-            let radius = outer(s.radius, k, n, i, j, ra, wb);
-            if is_none(radius) {
-                place = Some(Place { row: i, column: j });
-                break 'search;
-            }
-            let e = ends(s.lower, s.opposed, radius);
-            if e.refused() {
-                place = Some(Place { row: i, column: j });
-                break 'search;
-            }
-            lo[at] = e.lower();
-            up[at] = e.upper();
-            at += 1;
-        }
+// wb has |m| + r for each cell of B.
+#[derive(Clone, Copy)]
+pub struct Four<'a> {
+    pub of: Operands<'a>,
+    pub wb: &'a [u32],
+}
+
+impl<'a> Steps for Four<'a> {
+    type Row = ();
+
+    type Sum = Centred;
+
+    ghost shape = { λ s. s.of.shape };
+
+    ghost ready = { λ s. Fits s.of (s.of.shape.m * s.of.shape.n) (s.of.shape.m * s.of.shape.n)
+        × Derived outer_of (s.of.shape.k * s.of.shape.n) s.of.mb.now s.of.rb.now s.wb.now };
+
+    ghost entry = { λ s. entries_of four s.of };
+
+    ghost place = { λ row. Unit {0} };
+
+    ghost row_of = { λ s i row. Unit {0} };
+
+    ghost after = { λ s i j l t. MiddleSum (spot s.of i j) l t };
+
+    fn shape(self) -> Shape {
+        self.of.shape
     }
-    place
+
+    fn blank(self) {}
+
+    fn take_apart(self, _i: usize, _row: &mut ()) {}
+
+    fn start(self) -> Centred {
+        Centred::new()
+    }
+
+    fn step(self, _row: &(), s: Centred, i: usize, j: usize, l: usize) -> Option<Centred> {
+        let x = self.of.ma[i * self.of.shape.k + l];
+        if !is_nonzero(x) {
+            return Some(s);
+        }
+        let b = l * self.of.shape.n + j;
+        let t = s.step::<4>(x, self.of.mb[b], self.of.rb[b]);
+        if t.refused() {
+            return None;
+        }
+        Some(t)
+    }
+
+    fn finish(self, _row: &(), s: Centred, i: usize, j: usize) -> Option<Sums> {
+        let Shape { k, n, .. } = self.of.shape;
+        let radius = outer(s.radius, k, n, i, j, self.of.ra, self.wb);
+        if is_none(radius) {
+            return None;
+        }
+        ends(s.lower, s.opposed, radius).whole()
+    }
 }

@@ -7,8 +7,13 @@ ghost use Rattle.products.specs.Written.{InReach, Finished};
 ghost use Rattle.matrices.specs.Demand.{KeepsCalled};
 
 use cells::convert;
+use classical::Classical;
+use converted::converted;
+use entries::{Shape, entries};
 use intervals::slices::clear;
 use matrices::check_order::{Lent, check_all};
+use matrices::methods::Method;
+use operands::Operands;
 use refusals::Refusal;
 use refusals::reason::Reason;
 use sums::Place;
@@ -21,11 +26,13 @@ mod classical;
 mod converted;
 mod corners;
 mod derived;
+mod entries;
 mod error;
 mod five;
 mod four;
 mod nearest;
 mod number;
+mod operands;
 pub mod pair;
 mod pattern;
 mod plus;
@@ -83,6 +90,7 @@ pub fn product(
         ma.old ra.old mb.old rb.old lo.old up.old
         lo.new up.new }
 {
+    let by = Method::try_from(method)?;
     let lent = Lent {
         ma: ma.len(),
         ra: ra.len(),
@@ -95,21 +103,33 @@ pub fn product(
         method, a_rows, a_columns, b_rows, b_columns, al, au, bl, bu, lent,
     )?;
     let count = a_rows * b_columns;
-    if method == 1 {
-        finish(
-            classical::entries(a_rows, a_columns, b_columns, al, au, bl, bu, lo, up),
-            count,
-            lo,
-            up,
-        )
-    } else {
-        convert(a_rows * a_columns, al, au, ma, ra);
-        convert(b_rows * b_columns, bl, bu, mb, rb);
-        finish(
-            converted::entries(method, a_rows, a_columns, b_columns, ma, ra, mb, rb, lo, up),
-            count,
-            lo,
-            up,
-        )
+    let shape = Shape {
+        m: a_rows,
+        k: a_columns,
+        n: b_columns,
+    };
+    match by {
+        Method::Classical => {
+            let steps = Classical {
+                shape,
+                al,
+                au,
+                bl,
+                bu,
+            };
+            finish(entries(steps, lo, up), count, lo, up)
+        }
+        _ => {
+            convert(a_rows * a_columns, al, au, ma, ra);
+            convert(b_rows * b_columns, bl, bu, mb, rb);
+            let of = Operands {
+                shape,
+                ma,
+                ra,
+                mb,
+                rb,
+            };
+            finish(converted(by, of, lo, up), count, lo, up)
+        }
     }
 }

@@ -8,7 +8,7 @@ ghost use Rattle.unpacked.specs.Number.{worth, IsNumber};
 ghost use Rattle.products.specs.Apart.{Cells};
 ghost use Rattle.products.specs.Classical.{apart_cell, pattern_cell};
 ghost use Rattle.products.specs.Pair.{range_of};
-ghost use Rattle.products.specs.Running.{BothNumbers, HoldsRange, Ended, bounds_of, refused_sums, zero_sums};
+ghost use Rattle.products.specs.Running.{BothNumbers, HoldsRange, Ended, bounds_of, refused_sums, whole_of, zero_sums};
 
 use crate::apart::Apart;
 use crate::corners::{corner_by_sign, greater, lesser};
@@ -56,8 +56,9 @@ impl Sums {
     }
 
     // Adds a pair of cells, a of A and [bl, bu] of B: the least of their four corner products to the lower sum, all rounded down, and the greatest to the
-    // upper sum, all rounded up.
-    pub fn step(self, a: Apart, bl: u32, bu: u32) -> Sums
+    // upper sum, all rounded up. USE changes nothing of that: each caller gets a copy of its own. The compiler inlines a function with one caller, and a
+    // step is too large to be inlined twice.
+    pub fn step<const USE: u32>(self, a: Apart, bl: u32, bu: u32) -> Sums
         requires { BothNumbers self × Cells a bl bu }
         ensures { HoldsRange (add_pair (of binary32) (bounds_of self) (apart_cell a) (pattern_cell bl bu)) result }
     {
@@ -81,6 +82,16 @@ impl Sums {
             return true;
         }
         is_none(self.opposed)
+    }
+
+    // These sums, or None where one of them is none.
+    pub fn whole(self) -> Option<Sums>
+        ensures { result ≡ whole_of self }
+    {
+        if self.refused() {
+            return None;
+        }
+        Some(self)
     }
 
     // The pattern of the lower sum.

@@ -1,75 +1,85 @@
-// Method 3: computes the entries by rows up to the first that is refused. One centre, rounded to nearest, serves both bounds.
-ghost use Rattle.std.specs.Prelude.{length, ◌*◌};
+// Method 3: one centre, rounded to nearest, serves both bounds.
+ghost use Rattle.std.specs.Prelude.{◌*◌};
 ghost use Rattle.enclosure.specs.Methods.{three};
 ghost use Rattle.products.specs.Derived.{Derived, outer_of, raised_of, factor_of};
-ghost use Rattle.products.specs.MidRad.{Sized, entry_from};
-ghost use Rattle.products.specs.Written.{Written};
+ghost use Rattle.products.specs.MidRad.{Fits, entries_of};
+ghost use Rattle.products.specs.Spot.{FirstSum, spot};
 
 use crate::centred::adds;
+use crate::entries::{Shape, Steps};
 use crate::nearest::Nearest;
 use crate::number::opposite;
+use crate::operands::Operands;
 use crate::plus::plus_negative;
 use crate::radius::outer;
-use crate::sums::{Place, ends};
+use crate::sums::{Sums, ends};
 use binary32::direction::Down;
 use unpacked::{is_none, minus_tiny};
 
-// From midpoints and radii. vb has rB' for each cell of B, wb |m| + r. The radius gets 2^-125 between its two sums.
-pub fn entries(
-    m: usize,
-    k: usize,
-    n: usize,
-    ma: &[u32],
-    ra: &[u32],
-    mb: &[u32],
-    rb: &[u32],
-    vb: &[u32],
-    wb: &[u32],
-    lo: &mut [u32],
-    up: &mut [u32],
-) -> Option<Place>
-    requires { Sized m k n ma.now ra.now mb.now rb.now (length lo.old) (length up.old)
-        × Derived (raised_of (factor_of k)) (k * n) mb.now rb.now vb.now
-        × Derived outer_of (k * n) mb.now rb.now wb.now }
-    ensures { Written (entry_from three k n ma.now ra.now mb.now rb.now)
-        m n lo.old up.old result lo.new up.new }
-{
-    let mut place = None;
-    let mut at = 0;
-    'search: for i in 0..m {
-        for j in 0..n {
-            let mut s = Nearest::new();
-            for l in 0..k {
-                let b = l * n + j;
-                let x = ma[i * k + l];
-                let v = vb[b];
-                if adds(x, v) {
-                    s = s.step(x, mb[b], v);
-                    if s.refused() {
-                        place = Some(Place { row: i, column: j });
-                        break 'search;
-                    }
-                }
-            }
-            let inner = plus_negative::<Down>(s.radius, minus_tiny());
-            if is_none(inner) {
-                place = Some(Place { row: i, column: j });
-                break 'search;
-            }
-            let radius = outer(inner, k, n, i, j, ra, wb);
-            if is_none(radius) {
-                place = Some(Place { row: i, column: j });
-                break 'search;
-            }
-            let e = ends(s.centre, opposite(s.centre), radius);
-            if e.refused() {
-                place = Some(Place { row: i, column: j });
-                break 'search;
-            }
-            lo[at] = e.lower();
-            up[at] = e.upper();
-            at += 1;
-        }
+// vb has rB' for each cell of B, wb |m| + r.
+#[derive(Clone, Copy)]
+pub struct Three<'a> {
+    pub of: Operands<'a>,
+    pub vb: &'a [u32],
+    pub wb: &'a [u32],
+}
+
+impl<'a> Steps for Three<'a> {
+    type Row = ();
+
+    type Sum = Nearest;
+
+    ghost shape = { λ s. s.of.shape };
+
+    ghost ready = { λ s. Fits s.of (s.of.shape.m * s.of.shape.n) (s.of.shape.m * s.of.shape.n)
+        × Derived (raised_of (factor_of s.of.shape.k)) (s.of.shape.k * s.of.shape.n) s.of.mb.now s.of.rb.now s.vb.now
+        × Derived outer_of (s.of.shape.k * s.of.shape.n) s.of.mb.now s.of.rb.now s.wb.now };
+
+    ghost entry = { λ s. entries_of three s.of };
+
+    ghost place = { λ row. Unit {0} };
+
+    ghost row_of = { λ s i row. Unit {0} };
+
+    ghost after = { λ s i j l t. FirstSum (spot s.of i j) l t };
+
+    fn shape(self) -> Shape {
+        self.of.shape
     }
-    place
+
+    fn blank(self) {}
+
+    fn take_apart(self, _i: usize, _row: &mut ()) {}
+
+    fn start(self) -> Nearest {
+        Nearest::new()
+    }
+
+    fn step(self, _row: &(), s: Nearest, i: usize, j: usize, l: usize) -> Option<Nearest> {
+        let b = l * self.of.shape.n + j;
+        let x = self.of.ma[i * self.of.shape.k + l];
+        let v = self.vb[b];
+        if !adds(x, v) {
+            return Some(s);
+        }
+        let t = s.step(x, self.of.mb[b], v);
+        if t.refused() {
+            return None;
+        }
+        Some(t)
+    }
+
+    // The radius gets 2^-125 between its two sums.
+    fn finish(self, _row: &(), s: Nearest, i: usize, j: usize) -> Option<Sums> {
+        let Shape { k, n, .. } = self.of.shape;
+        let inner = plus_negative::<Down>(s.radius, minus_tiny());
+        if is_none(inner) {
+            return None;
+        }
+        let radius = outer(inner, k, n, i, j, self.of.ra, self.wb);
+        if is_none(radius) {
+            return None;
+        }
+        ends(s.centre, opposite(s.centre), radius).whole()
+    }
 }

@@ -5,7 +5,6 @@ use lib.Dec.{leb}
 use Prim.Native.Nat.{◌*◌, ◌^◌}
 use Rattle.binary32.specs.Order.{magnitude_of}
 use Rattle.products.specs.Centred.{adds_of}
-use borrow.Author.Rules.{rules}
 use Rattle.products.proofs.centred.adds.Goals as goal
 
 pub returns-then-is_nonzero : goal.returns-then-is_nonzero

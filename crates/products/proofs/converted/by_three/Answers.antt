@@ -1,17 +1,20 @@
 -- `products::converted::by_three` meets its contract: the two lists that are lent hold what the entries' function asks for.
+use mathlib.Core.Path.{◌∙◌}
 use borrow.Author.Rules.{rules}
-use Rattle.products.proofs.Derivations.{outers_derived, raiseds_derived}
+use Rattle.products.specs.Derived.{outer_of}
+use Rattle.products.proofs.Derivations.{fitting, derived, factor_held}
 use Rattle.refusals.proofs.SizeLaws.{small}
 use Rattle.products.proofs.converted.by_three.Goals as goal
 
-pub derive_all-requires : goal.derive_all-requires
-derive_all-requires c =
-    (c.requires.b, small c.args.k c.args.n c.requires.inner c.requires.columns)
+pub derive_all-requires-clause-cells : goal.derive_all-requires-clause-cells
+derive_all-requires-clause-cells c =
+    (c.requires.b, small c.args.of.shape.k c.args.of.shape.n c.requires.inner c.requires.columns)
 
-pub derive_all-requires-2 : goal.derive_all-requires-2
-derive_all-requires-2 c =
-    (c.requires.b, small c.args.k c.args.n c.requires.inner c.requires.columns)
+pub derive_all-requires-2-clause-cells : goal.derive_all-requires-2-clause-cells
+derive_all-requires-2-clause-cells c =
+    (c.requires.b, small c.args.of.shape.k c.args.of.shape.n c.requires.inner c.requires.columns)
 
 pub entries-requires : goal.entries-requires
 entries-requires c =
-    (c.requires, raiseds_derived c.raised.result c.args.k c.raised.ensures c.derive_all.ensures, outers_derived c.derive_all-2.ensures)
+    let z = c.requires in
+    ((fitting z, derived _ (λ x y p M e. search rules ∙ factor_held c.raised-c.result c.args.of.shape.k _ _ c.raised-c.ensures) z.b c.derive_all.ensures, derived outer_of (λ x y p M e. search rules) z.b c.derive_all-2.ensures), z.rows, z.columns, z.lowers, z.uppers)

@@ -18,8 +18,8 @@ use Rattle.products.proofs.pair.add_pair.Goals as goal
 pub of_bounds-requires : goal.of_bounds-requires
 of_bounds-requires c = (fault_tells _ _ _ (sym c.pair_fault.ensures ∙ c.in_ok-pair_fault.was)).sums_fine
 
-pub step_pair-s-requires : goal.step_pair-s-requires
-step_pair-s-requires c =
+pub step-s-requires : goal.step-s-requires
+step-s-requires c =
     let f = fault_tells _ _ _ (sym c.pair_fault.ensures ∙ c.in_ok-pair_fault.was) in
     (c.of_bounds.ensures.0, fine_cells _ _ _ _ c.new.result (fine_taken _ _ c.new.result f.a_fine c.new.ensures) f.b_fine)
 
@@ -33,10 +33,10 @@ holds s a b t r p e i k h =
 pub returns-then-refused : goal.returns-then-refused
 returns-then-refused c =
     let e = sym c.pair_fault.ensures ∙ c.in_ok-pair_fault.was in
-    added_refused _ _ _ c.step_pair-s.result e (holds _ _ _ _ _ _ e c.new.ensures c.of_bounds.ensures.1 c.step_pair-s.ensures) (sym c.refused.ensures ∙ c.if-refused.true)
+    added_refused _ _ _ c.step-s.result e (holds _ _ _ _ _ _ e c.new.ensures c.of_bounds.ensures.1 c.step-s.ensures) (sym c.refused.ensures ∙ c.if-refused.true)
 
 pub returns : goal.returns
 returns c =
     let e = sym c.pair_fault.ensures ∙ c.in_ok-pair_fault.was in
     ap₂ (λ (l u : ℕ). gives (l, u)) c.lower.ensures c.upper.ensures
-    ∙ added_given _ _ _ c.step_pair-s.result e (holds _ _ _ _ _ _ e c.new.ensures c.of_bounds.ensures.1 c.step_pair-s.ensures) (sym c.refused.ensures ∙ c.if-refused.false)
+    ∙ added_given _ _ _ c.step-s.result e (holds _ _ _ _ _ _ e c.new.ensures c.of_bounds.ensures.1 c.step-s.ensures) (sym c.refused.ensures ∙ c.if-refused.false)

@@ -1,5 +1,4 @@
 -- `products::radius::grown` meets its contract: the product of what is read from the magnitudes is exact, and the radius takes it, rounded up.
-use borrow.Author.Rules.{rules}
 use Rattle.rounding.specs.Rounding.{up, negate}
 use Rattle.binary32.specs.Operations.{mul, with₂}
 use Rattle.binary32.specs.Order.{magnitude_of}

@@ -6,7 +6,6 @@ use lib.IntN.{ℤ, pos, neg_ℤ, nat_abs, ◌-ℤ◌}
 use mir.Syntax.{w64}
 use mir.Val.{SFits, to_z, of_z}
 use mir.ValLaws.{to_z_pos}
-use borrow.Author.Rules.{rules}
 use Rattle.algebra.proofs.Absolute.{nat_abs_add}
 use Rattle.algebra.proofs.Machine.{fits_nat_abs}
 use Rattle.binary32.proofs.Ints.{read_small}

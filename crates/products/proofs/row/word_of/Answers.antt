@@ -8,7 +8,6 @@ use lib.IntN.{ℤ, pos, nat_abs, ◌+ℤ◌, ◌-ℤ◌}
 use lib.Signed.{non_neg}
 use mir.Syntax.{w64}
 use mir.Val.{SFits, Fits, to_z, of_z}
-use borrow.Author.Rules.{rules}
 use Rattle.algebra.specs.Absolute.{abs}
 use Rattle.algebra.proofs.Absolute.{neg_≼_abs, nat_abs_add}
 use Rattle.algebra.proofs.Linear.{reading, le, lin_le, lin_eq}

@@ -1,6 +1,5 @@
 -- `Centred::refused` meets its contract: the three tests in turn.
 use mathlib.Core.Path.{sym, ◌∙◌}
-use borrow.Author.Rules.{rules}
 use Rattle.products.proofs.Or.{or_here, or_next}
 use Rattle.products.proofs.centred.Centred.refused.Goals as goal
 

@@ -1,7 +1,6 @@
 -- `products::sums::Sums::of_bounds` meets its contract: the numbers of the two patterns, the upper one negated.
 use mathlib.Core.Path.{◌≡◌, ap, ap₂, ◌∙◌}
 use lib.IntN.{ℤ, neg_ℤ, neg_ℤ-neg_ℤ}
-use borrow.Author.Rules.{rules}
 use Rattle.enclosure.specs.Methods.{Range}
 use Rattle.binary32.specs.Number.{value_of}
 use Rattle.binary32.proofs.Held.{finites_first, finites_second}

@@ -2,7 +2,6 @@
 use mathlib.Core.Path.{sym, ap, ◌∙◌}
 use mathlib.Core.Bool.{true, cond}
 use lib.Dec.{ltb}
-use borrow.Author.Rules.{rules}
 use Rattle.products.proofs.sums.Sums.refused.Goals as goal
 
 pub returns-then-is_none : goal.returns-then-is_none

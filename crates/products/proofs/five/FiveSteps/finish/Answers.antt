@@ -1,0 +1,116 @@
+-- `Five::finish` meets its contract: the sums over midpoints, then over parts, the radius, and the bounds that they end in.
+use mathlib.Core.Path.{◌≡◌, refl, sym, ap, ◌∙◌, subst}
+use mathlib.Core.List.{List}
+use Prim.Native.Nat.{ℕ, ◌*◌, ◌<◌}
+use lib.IntN.{pos}
+use Rattle.unpacked.specs.declared.Number.{Number}
+use Rattle.unpacked.specs.Number.{worth, IsNumber, Below, zero_number}
+use Rattle.products.specs.declared.centre_size.CentreSize.{CentreSize}
+use Rattle.products.specs.Derived.{Derived, outer_of, part_of}
+use Rattle.products.specs.MidRad.{Sized}
+use Rattle.products.specs.Row.{RowUnpacked}
+use Rattle.products.specs.Spot.{Spot, spot}
+use Rattle.products.proofs.Carrying.{zero_runs, zero_below}
+use Rattle.products.proofs.FiveEntry.{Lists, Prepared, mids, parts, outers, five_none, five_holds, mids_paired, parts_paired, outers_reach}
+use Rattle.products.proofs.FiveRange.{first_none, second_none, radius_none, range_holds}
+use Rattle.products.proofs.Wholes.{whole_holds}
+use Rattle.products.proofs.five.FiveSteps.finish.Goals as goal
+
+-- what was worked out before
+abbrev lists : (xs ps wa pa wb pb : List ℕ) → Lists
+lists xs ps wa pa wb pb = record { xs = xs; ps = ps; wa = wa; pa = pa; wb = wb; pb = pb }
+
+prepared : (p : Spot) (q : Lists) (m : ℕ) {lo up : ℕ}
+    → Sized m p.k p.n p.ma p.ra p.mb p.rb lo up × Derived outer_of (m * p.k) p.ma p.ra q.wa × Derived part_of (m * p.k) p.ma p.ra q.pa × Derived outer_of (p.k * p.n) p.mb p.rb q.wb × Derived part_of (p.k * p.n) p.mb p.rb q.pb
+    → p.i < m → p.j < p.n → RowUnpacked p.k p.i p.ma q.xs × RowUnpacked p.k p.i q.pa q.ps → Prepared p q m lo up
+prepared p q m z row column r = record {
+  sized = z.0;
+  row = row;
+  column = column;
+  a_outers = z.1;
+  a_parts = z.2;
+  b_outers = z.3;
+  b_parts = z.4;
+  mid_row = r.0;
+  part_row = r.1;
+}
+
+-- the sums that it starts from
+abbrev start : (centre size : Number) → CentreSize
+start centre size = record { centre = centre; size = size }
+
+zero_worth : {x : Number} → x ≡ zero_number → worth x ≡ pos 0
+unfolding worth
+zero_worth e = ap worth e
+
+pub sum_pairs-s-requires : goal.sum_pairs-s-requires
+sum_pairs-s-requires c =
+    let p = spot c.args.self.of c.args.i c.args.j in
+    let q = lists c.args.row.now.mids c.args.row.now.parts c.args.self.wa.now c.args.self.pa.now c.args.self.wb.now c.args.self.pb.now in
+    let W = prepared p q c.args.self.of.shape.m c.requires.0 c.requires.1 c.requires.2 c.requires.3 in (
+      record { centre = subst IsNumber (sym c.zero.ensures) zero_runs.number; size = subst IsNumber (sym c.zero-2.ensures) zero_runs.number; below = subst Below (sym c.zero-2.ensures) zero_below },
+      mids_paired p q W,
+    )
+
+pub returns-then-refused : goal.returns-then-refused
+returns-then-refused c =
+    let p = spot c.args.self.of c.args.i c.args.j in
+    let q = lists c.args.row.now.mids c.args.row.now.parts c.args.self.wa.now c.args.self.pa.now c.args.self.wb.now c.args.self.pb.now in
+    let W = prepared p q c.args.self.of.shape.m c.requires.0 c.requires.1 c.requires.2 c.requires.3 in
+    let z = start c.zero.result c.zero-2.result in
+    let zc = zero_worth c.zero.ensures in
+    let zs = zero_worth c.zero-2.ensures in
+    five_none p q W _ refl (first_none (mids p q) (parts p q) (outers p q) z zc zs (c.sum_pairs-s.ensures.refused (sym c.refused.ensures ∙ c.if-refused.true)))
+
+pub sum_pairs-t-requires : goal.sum_pairs-t-requires
+sum_pairs-t-requires c =
+    let p = spot c.args.self.of c.args.i c.args.j in
+    let q = lists c.args.row.now.mids c.args.row.now.parts c.args.self.wa.now c.args.self.pa.now c.args.self.wb.now c.args.self.pb.now in
+    let W = prepared p q c.args.self.of.shape.m c.requires.0 c.requires.1 c.requires.2 c.requires.3 in
+    let S = c.sum_pairs-s.ensures.numbers (sym c.refused.ensures ∙ c.if-refused.false) in
+    (record { centre = S.centre.number; size = S.size.number; below = S.below }, parts_paired p q W)
+
+pub returns-then-refused-2 : goal.returns-then-refused-2
+returns-then-refused-2 c =
+    let p = spot c.args.self.of c.args.i c.args.j in
+    let q = lists c.args.row.now.mids c.args.row.now.parts c.args.self.wa.now c.args.self.pa.now c.args.self.wb.now c.args.self.pb.now in
+    let W = prepared p q c.args.self.of.shape.m c.requires.0 c.requires.1 c.requires.2 c.requires.3 in
+    let z = start c.zero.result c.zero-2.result in
+    let zc = zero_worth c.zero.ensures in
+    let zs = zero_worth c.zero-2.ensures in
+    let S = c.sum_pairs-s.ensures.numbers (sym c.refused.ensures ∙ c.if-refused.false) in
+    five_none p q W _ refl (second_none (mids p q) (parts p q) (outers p q) z zc zs c.sum_pairs-s.result S (c.sum_pairs-t.ensures.refused (sym c.refused-2.ensures ∙ c.if-refused-2.true)))
+
+pub radius-r-requires : goal.radius-r-requires
+radius-r-requires c =
+    let p = spot c.args.self.of c.args.i c.args.j in
+    let q = lists c.args.row.now.mids c.args.row.now.parts c.args.self.wa.now c.args.self.pa.now c.args.self.wb.now c.args.self.pb.now in
+    let W = prepared p q c.args.self.of.shape.m c.requires.0 c.requires.1 c.requires.2 c.requires.3 in
+    let T = c.sum_pairs-t.ensures.numbers (sym c.refused-2.ensures ∙ c.if-refused-2.false) in
+    (T.size.number, T.below, c.requires.0.0.inner, outers_reach p q W)
+
+pub returns-then-is_none : goal.returns-then-is_none
+returns-then-is_none c =
+    let p = spot c.args.self.of c.args.i c.args.j in
+    let q = lists c.args.row.now.mids c.args.row.now.parts c.args.self.wa.now c.args.self.pa.now c.args.self.wb.now c.args.self.pb.now in
+    let W = prepared p q c.args.self.of.shape.m c.requires.0 c.requires.1 c.requires.2 c.requires.3 in
+    let z = start c.zero.result c.zero-2.result in
+    let zc = zero_worth c.zero.ensures in
+    let zs = zero_worth c.zero-2.ensures in
+    let S = c.sum_pairs-s.ensures.numbers (sym c.refused.ensures ∙ c.if-refused.false) in
+    let T = c.sum_pairs-t.ensures.numbers (sym c.refused-2.ensures ∙ c.if-refused-2.false) in
+    five_none p q W _ refl (radius_none (mids p q) (parts p q) (outers p q) z zc zs c.sum_pairs-s.result S c.sum_pairs-t.result T c.radius-r.result c.radius-r.ensures (sym c.is_none.ensures ∙ c.if-is_none.true))
+
+pub returns : goal.returns
+returns c =
+    let p = spot c.args.self.of c.args.i c.args.j in
+    let q = lists c.args.row.now.mids c.args.row.now.parts c.args.self.wa.now c.args.self.pa.now c.args.self.wb.now c.args.self.pb.now in
+    let W = prepared p q c.args.self.of.shape.m c.requires.0 c.requires.1 c.requires.2 c.requires.3 in
+    let z = start c.zero.result c.zero-2.result in
+    let zc = zero_worth c.zero.ensures in
+    let zs = zero_worth c.zero-2.ensures in
+    let S = c.sum_pairs-s.ensures.numbers (sym c.refused.ensures ∙ c.if-refused.false) in
+    let T = c.sum_pairs-t.ensures.numbers (sym c.refused-2.ensures ∙ c.if-refused-2.false) in
+    whole_holds _ c.ends.result c.whole.result c.whole.ensures
+    (five_holds p q W _ refl c.ends.result
+    (range_holds (mids p q) (parts p q) (outers p q) z zc zs c.sum_pairs-s.result S c.sum_pairs-t.result T c.radius-r.result c.radius-r.ensures c.opposite.result c.ends.result (sym c.is_none.ensures ∙ c.if-is_none.false) c.opposite.ensures c.ends.ensures))

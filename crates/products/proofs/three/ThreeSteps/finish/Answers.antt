@@ -1,0 +1,56 @@
+-- `Three::finish` meets its contract: the radius, with 2^-125 between its two sums, and the entry.
+use mathlib.Core.Path.{refl, sym, ◌∙◌}
+use Rattle.unpacked.proofs.Opposites.{opposite_number}
+use Rattle.products.specs.Spot.{spot}
+use Rattle.products.proofs.FourEntry.{reaches}
+use Rattle.products.proofs.NearestSteps.{tiny_holds, tiny_below}
+use Rattle.products.proofs.ThreeSteps.{first_numbers, tiny_next, tiny_sum, tiny_number, tiny_none, three_tiny, three_outer, three_holds}
+use Rattle.products.proofs.Turns.{pair, radius_runs, radius_none}
+use Rattle.products.proofs.Wholes.{whole_holds}
+use Rattle.products.proofs.three.ThreeSteps.finish.Goals as goal
+
+pub plus_negative-inner-requires : goal.plus_negative-inner-requires
+plus_negative-inner-requires c =
+    let n = first_numbers (spot c.args.self.of c.args.i c.args.j) _ _ c.requires.4 in
+    let t = c.minus_tiny in
+    (n.radius, (tiny_holds t.result t.ensures).part, n.below, tiny_below t.result t.ensures)
+
+pub returns-then-is_none : goal.returns-then-is_none
+returns-then-is_none c =
+    let p = spot c.args.self.of c.args.i c.args.j in
+    let T = tiny_next p c.args.s c.minus_tiny.result c.plus_negative-inner.result c.requires.4 c.minus_tiny.ensures c.plus_negative-inner.ensures in
+    three_tiny p _ refl c.requires.2 (tiny_none p _ T (sym c.is_none.ensures ∙ c.if-is_none.true))
+
+pub outer-radius-requires : goal.outer-radius-requires
+outer-radius-requires c =
+    let p = spot c.args.self.of c.args.i c.args.j in
+    let T = tiny_next p c.args.s c.minus_tiny.result c.plus_negative-inner.result c.requires.4 c.minus_tiny.ensures c.plus_negative-inner.ensures in
+    let a = tiny_number p _ (tiny_sum p _ T (sym c.is_none.ensures ∙ c.if-is_none.false)) in
+    (a.0, a.1, reaches p _ _ _ (pair c.args.self.of.shape.m p c.requires.0.0 c.requires.1 c.requires.2) c.requires.0.0.a.rads c.requires.0.2.long)
+
+pub returns-then-is_none-2 : goal.returns-then-is_none-2
+returns-then-is_none-2 c =
+    let p = spot c.args.self.of c.args.i c.args.j in
+    let T = tiny_next p c.args.s c.minus_tiny.result c.plus_negative-inner.result c.requires.4 c.minus_tiny.ensures c.plus_negative-inner.ensures in
+    let Y = tiny_sum p _ T (sym c.is_none.ensures ∙ c.if-is_none.false) in
+    three_outer p _ refl c.requires.2 _ Y
+    (radius_none c.args.self.of.shape.m p c.requires.0.0 c.requires.1 c.requires.2 _ c.requires.0.2 c.plus_negative-inner.result _ c.outer-radius.ensures (sym c.is_none-2.ensures ∙ c.if-is_none-2.true))
+
+pub opposite-requires : goal.opposite-requires
+opposite-requires c = (first_numbers (spot c.args.self.of c.args.i c.args.j) _ _ c.requires.4).centre.normal
+
+pub ends-requires : goal.ends-requires
+ends-requires c =
+    let p = spot c.args.self.of c.args.i c.args.j in
+    let f = (first_numbers p _ _ c.requires.4).centre in
+    let R = radius_runs c.args.self.of.shape.m p c.requires.0.0 c.requires.1 c.requires.2 _ c.requires.0.2 c.plus_negative-inner.result _ c.outer-radius.ensures (sym c.is_none-2.ensures ∙ c.if-is_none-2.false) in
+    (f, opposite_number f c.opposite.ensures, R.number)
+
+pub returns : goal.returns
+returns c =
+    let p = spot c.args.self.of c.args.i c.args.j in
+    let T = tiny_next p c.args.s c.minus_tiny.result c.plus_negative-inner.result c.requires.4 c.minus_tiny.ensures c.plus_negative-inner.ensures in
+    let Y = tiny_sum p _ T (sym c.is_none.ensures ∙ c.if-is_none.false) in
+    let R = radius_runs c.args.self.of.shape.m p c.requires.0.0 c.requires.1 c.requires.2 _ c.requires.0.2 c.plus_negative-inner.result _ c.outer-radius.ensures (sym c.is_none-2.ensures ∙ c.if-is_none-2.false) in
+    whole_holds _ c.ends.result c.whole.result c.whole.ensures
+    (three_holds p _ refl c.requires.2 c.args.s _ c.opposite.result _ c.ends.result c.requires.4 Y c.opposite.ensures R c.ends.ensures)
