@@ -10,6 +10,9 @@ use lib.ListN.{length, get_or, length-append}
 use Rattle.std.specs.Fmt.{decimal as std_decimal, digits as std_digits, padded_integral, format_spec, digits_output, styled_digits_output, ◌++?◌}
 use Rattle.std.specs.Prelude.{Option, Some, option_map}
 use Rattle.refusals.specs.declared.Refusal.{Refusal}
+use Rattle.refusals.specs.declared.reason.Reason.{Reason}
+use Rattle.refusals.specs.declared.reason.Reason.TheVariants.{WrongSize, ShortSlice, NotFinite, Crossed, TooLarge, WrongLayout, Outside, NotRising, UnknownMethod, UnknownClass, NoRoom, WrongCount, WrongLoad, NegativeAmount}
+use Rattle.refusals.specs.Reason.{number_of}
 use Rattle.sheets.proofs.Counting.{div_lt, mod_lt}
 use Rattle.print_product.specs.Digits.{digit_count, decimal, hexadecimal}
 use Rattle.print_product.specs.Lines.{line, product, refused, product_line, cell_line, refused_line}
@@ -17,6 +20,23 @@ use Rattle.print_product.specs.Printed.{cell_lines, product_text}
 use Rattle.print_product.proofs.DigitLaws.{digits_length, digit_count_below, decimal_is, hexadecimal_is}
 
 -- ---- what is written of a line
+
+-- the number of a reason has at most two digits
+number_small : (n : Reason) → number_of n < 100
+number_small WrongSize = omega arith
+number_small ShortSlice = omega arith
+number_small NotFinite = omega arith
+number_small Crossed = omega arith
+number_small TooLarge = omega arith
+number_small WrongLayout = omega arith
+number_small Outside = omega arith
+number_small NotRising = omega arith
+number_small UnknownMethod = omega arith
+number_small UnknownClass = omega arith
+number_small NoRoom = omega arith
+number_small WrongCount = omega arith
+number_small WrongLoad = omega arith
+number_small NegativeAmount = omega arith
 
 field : {f f' r r' : List ℕ} → f ≡ f' → r ≡ r' → f ++ (32 ∷ r) ≡ (f' ++ (32 ∷ [])) ++ r'
 field {f' = f'} {r' = r'} p q = ap₂ (λ x y. x ++ (32 ∷ y)) p q ∙ sym (append_assoc f' (32 ∷ []) r')
@@ -40,11 +60,11 @@ pub cell_written : (i j l u : ℕ) {a b : Option (List ℕ)} → i < 2 ^ 64 → 
 unfolding cell_line
 cell_written i j l u h k m n = rw (m, n) (ap (λ t. Some t) (field (decimal_is i h) (field (decimal_is j k) (field refl (last refl)))))
 
-pub refused_written : (x : Refusal) → x.number < 2 ^ 64 → x.matrix < 2 ^ 64 → x.row < 2 ^ 64 → x.column < 2 ^ 64
-    → (refused ++ (32 ∷ [])) ++ (std_decimal x.number ++ (32 ∷ (std_decimal x.matrix ++ (32 ∷ (std_decimal x.row ++ (32 ∷ (std_decimal x.column ++ (10 ∷ [])))))))) ≡ refused_line x
+pub refused_written : (x : Refusal) → x.matrix < 2 ^ 64 → x.row < 2 ^ 64 → x.column < 2 ^ 64
+    → (refused ++ (32 ∷ [])) ++ (std_decimal (number_of x.reason) ++ (32 ∷ (std_decimal x.matrix ++ (32 ∷ (std_decimal x.row ++ (32 ∷ (std_decimal x.column ++ (10 ∷ [])))))))) ≡ refused_line x
 unfolding refused_line
-refused_written x h k l m =
-    ap (λ t. (refused ++ (32 ∷ [])) ++ t) (field (decimal_is x.number h) (field (decimal_is x.matrix k) (field (decimal_is x.row l) (last (decimal_is x.column m)))))
+refused_written x k l m =
+    ap (λ t. (refused ++ (32 ∷ [])) ++ t) (field (decimal_is (number_of x.reason) (omega (arith, number_small x.reason))) (field (decimal_is x.matrix k) (field (decimal_is x.row l) (last (decimal_is x.column m)))))
 
 -- one more cell
 pub cells_more : (front : List ℕ) (columns p : ℕ) (lo up : List ℕ)
@@ -85,7 +105,7 @@ product_fits m r c lo up h k some few =
     let wide : r * c ≤ 32 * c = mul-le-mul_right c k in
     omega (arith, length-append (product_line m r c) (cell_lines c lo up (r * c)), product_length m r c h (omega arith) (omega arith), cells_length c (r * c) lo up some few wide)
 
-pub refused_fits : (x : Refusal) → x.number < 256 → x.matrix < 256 → x.row < 256 → x.column < 256 → length (refused_line x) ≤ 24
+pub refused_fits : (x : Refusal) → x.matrix < 256 → x.row < 256 → x.column < 256 → length (refused_line x) ≤ 24
 unfolding refused_line
-refused_fits x h k l m =
-    simp length-append (omega (arith, digits_below 2 x.number (omega arith), digits_below 2 x.matrix (omega arith), digits_below 2 x.row (omega arith), digits_below 2 x.column (omega arith)))
+refused_fits x k l m =
+    simp length-append (omega (arith, digits_below 1 (number_of x.reason) (number_small x.reason), digits_below 2 x.matrix (omega arith), digits_below 2 x.row (omega arith), digits_below 2 x.column (omega arith)))

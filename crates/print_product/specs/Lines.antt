@@ -1,6 +1,7 @@
 -- The lines that are printed: fields one space apart, and a line feed at the end. Definitions only.
 use Rattle.std.specs.Prelude.{List, [], ◌∷◌, ◌++◌, ℕ}
 use Rattle.refusals.specs.declared.Refusal.{Refusal}
+use Rattle.refusals.specs.Reason.{number_of}
 use Rattle.print_product.specs.Digits.{decimal, hexadecimal}
 
 -- 10 is the line feed, 32 the space
@@ -26,4 +27,4 @@ cell_line i j l u = line (decimal i ∷ decimal j ∷ hexadecimal l ∷ hexadeci
 
 -- the line of a refusal: number, matrix, row, column
 unfoldable pub refused_line : Refusal → List ℕ
-refused_line x = line (refused ∷ decimal x.number ∷ decimal x.matrix ∷ decimal x.row ∷ decimal x.column ∷ [])
+refused_line x = line (refused ∷ decimal (number_of x.reason) ∷ decimal x.matrix ∷ decimal x.row ∷ decimal x.column ∷ [])

@@ -69,11 +69,12 @@ impl Display for Refused {
 
     fn fmt<W: fmt::Write>(&self, f: &mut fmt::Formatter<W>) -> fmt::Result {
         let Refusal {
-            number,
+            reason,
             matrix,
             row,
             column,
         } = self.0;
+        let number = reason.number();
         writeln!(f, "refused {number} {matrix} {row} {column}")
     }
 }

@@ -27,5 +27,5 @@ returns-in-Err c =
     let x = c.in-Err.refusal in
     record {
       text = subst (λ t. IfOk c.text_of-in-Err.result (λ x. inline_text x ≡ t)) e c.text_of-in-Err.ensures;
-      fits = subst (λ t. length t ≤ 24592) e (omega (arith, refused_fits x (omega arith) (omega arith) (omega arith) (omega arith)));
+      fits = subst (λ t. length t ≤ 24592) e (omega (arith, refused_fits x (omega arith) (omega arith) (omega arith)));
     }
