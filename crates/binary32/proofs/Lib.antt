@@ -1,14 +1,13 @@
 -- the machine's words, and a pattern taken apart
 pub mod Ints
 pub mod Values
--- rounding: a shifted magnitude, with its sign, from the signed shift and what it loses; then the pattern
+-- rounding: a shifted magnitude, with its sign, from the signed shift and what it loses
 pub mod Encodings
 pub mod Shifted
 pub mod Signs
 pub mod Rests
 pub mod LongShifts
 pub mod Cutting
-pub mod Packing
 -- exact values: products, sums, sums of numbers far apart
 pub mod Products
 pub mod Far

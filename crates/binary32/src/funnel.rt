@@ -6,11 +6,11 @@
 //     0 < r < 2^n / 2              c       c + 1    c
 //     r = 2^n / 2                  c       c + 1    c or c + 1, the even one
 //     2^n / 2 < r                  c       c + 1    c + 1
-ghost use Rattle.std.specs.Prelude.{◌≡◌, ◌^◌, ◌≤◌, ◌<◌, pos, nat_abs, ◌*ℤ◌};
+ghost use Rattle.std.specs.Prelude.{◌≡◌, ◌^◌, ◌≤◌, ◌<◌, nat_abs};
 ghost use Rattle.std.specs.Int.Signed.{shr_z};
 ghost use Rattle.rounding.specs.Quotient.{rem};
 ghost use Rattle.binary32.specs.Number.{hold};
-ghost use Rattle.binary32.specs.Steps.{packed, Split, IsCut, Small, Safe, exactly};
+ghost use Rattle.binary32.specs.Steps.{packed, Split, IsCut, Small, Safe, exactly, of};
 
 use crate::Binary32;
 use crate::direction::Direction;
@@ -63,12 +63,12 @@ const FULL: u32 = Binary32::SMALLEST_EXPONENT + Binary32::PRECISION;
 // The exponent of 2^61 units.
 const WIDE_UNITS: u32 = Binary32::SMALLEST_EXPONENT + WIDE;
 
-// s × 2^e × 2^-149 units, rounded in all three directions: to 24 bits from 2^24 units on, to whole units below (subnormal numbers).
-pub fn cut(s: i64, e: u32) -> Ways
-    requires { Small s e }
-    ensures { IsCut (s *ℤ pos (2 ^ e)) result }
+// x × 2^-149 units, rounded in all three directions: to 24 bits from 2^24 units on, to whole units below (subnormal numbers).
+pub fn cut(x: Parts) -> Ways
+    requires { Small x.sig x.exp }
+    ensures { IsCut (of x) result }
 {
-    if s == 0 {
+    if x.sig == 0 {
         return Ways {
             down: 0,
             up: 0,
@@ -76,9 +76,9 @@ pub fn cut(s: i64, e: u32) -> Ways
             shift: 0,
         };
     }
-    let zeros = s.unsigned_abs().leading_zeros();
-    let top = 64 - zeros + e;
-    let wide = s * power(zeros - 3);
+    let zeros = x.sig.unsigned_abs().leading_zeros();
+    let top = 64 - zeros + x.exp;
+    let wide = x.sig * power(zeros - 3);
     if FULL <= top {
         return split(wide, DROPPED, top - FULL);
     }
@@ -115,7 +115,7 @@ pub fn round<D: Direction>(x: Option<Parts>) -> u32
     ensures { result ≡ hold D.NONE (exactly D.way x) }
 {
     match x {
-        Some(x) => pattern::<D>(cut(x.sig, x.exp)),
+        Some(x) => pattern::<D>(cut(x)),
         None => D::NONE,
     }
 }

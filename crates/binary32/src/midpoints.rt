@@ -4,13 +4,11 @@ ghost use Rattle.std.specs.Prelude.{◌≡◌};
 ghost use Rattle.rounding.specs.Rounding.{up, near};
 ghost use Rattle.binary32.specs.Number.{hold_up, hold_near};
 ghost use Rattle.binary32.specs.Operations.{midpoint, with₂};
-ghost use Rattle.binary32.specs.Steps.{Small, exact};
 
 use crate::Binary32;
 use crate::direction::{Near, Up};
 use crate::exact::total;
 use crate::funnel::{cut, pattern};
-use crate::parts::Parts;
 
 // A value rounded to nearest and rounded up; infinity where there is no finite result.
 #[derive(Clone, Copy, Debug, PartialEq, Eq)]
@@ -19,29 +17,21 @@ pub struct NearUp {
     pub up: u32,
 }
 
-// x, rounded to nearest and rounded up. One cut serves both: two calls of `funnel::round` were tried and take 24 instructions more, a fifth.
-fn round(x: Parts) -> NearUp
-    requires { Small x.sig x.exp }
-    ensures nears { result.near ≡ hold_near (exact near x) }
-    ensures ups { result.up ≡ hold_up (exact up x) }
-{
-    let c = cut(x.sig, x.exp);
-    NearUp {
-        near: pattern::<Near>(c),
-        up: pattern::<Up>(c),
-    }
-}
-
 // The exact midpoint of a and b, rounded to nearest and rounded up; infinity where a pattern has exponent field 255.
+// One cut serves both: two calls of `funnel::round` were tried and take 24 instructions more, a fifth.
 pub fn near_up(a: u32, b: u32) -> NearUp
     ensures nears { result.near ≡ hold_near (with₂ (midpoint near) a b) }
     ensures ups { result.up ≡ hold_up (with₂ (midpoint up) a b) }
 {
-    match total(a, b, Binary32::SMALLEST_EXPONENT - 1) {
-        Some(x) => round(x),
-        None => NearUp {
+    let Some(x) = total(a, b, Binary32::SMALLEST_EXPONENT - 1) else {
+        return NearUp {
             near: Binary32::INFINITY,
             up: Binary32::INFINITY,
-        },
+        };
+    };
+    let c = cut(x);
+    NearUp {
+        near: pattern::<Near>(c),
+        up: pattern::<Up>(c),
     }
 }
