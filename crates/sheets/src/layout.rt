@@ -36,7 +36,9 @@ impl Record {
         let [u0, u1, u2, u3] = self.upper.to_le_bytes();
         let [w0, w1, w2, w3] = self.wear.to_le_bytes();
         let Record { row, column, .. } = self;
-        [n0, n1, row, column, l0, l1, l2, l3, u0, u1, u2, u3, w0, w1, w2, w3]
+        [
+            n0, n1, row, column, l0, l1, l2, l3, u0, u1, u2, u3, w0, w1, w2, w3,
+        ]
     }
 }
 
@@ -101,6 +103,10 @@ pub fn is_framed(s: &[u8]) -> bool
     ensures { result ≡ framed s.now }
 {
     let n = s.len();
-    n % 16 == 0 && n >= 16 && n <= 16400 && 16 * usize::from(u16_at(s, 4)) == n && s[6] == kind(s).byte()
+    n % 16 == 0
+        && n >= 16
+        && n <= 16400
+        && 16 * usize::from(u16_at(s, 4)) == n
+        && s[6] == kind(s).byte()
         && is_blank(s, 7, 9)
 }

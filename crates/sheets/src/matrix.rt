@@ -23,9 +23,9 @@ fn passed(rule: Rule, columns: usize, r: Record) -> Result<Cell, Refusal>
 {
     let i = r.row;
     let j = r.column;
-    let (lower, upper) = widen(r.lower, r.upper, rule.amount(r.wear)).map_err(
-        |x| Refusal::of_cell(x.number, x.matrix, i, j),
-    )?;
+    let (lower, upper) = widen(r.lower, r.upper, rule.amount(r.wear)).map_err(|x| Refusal::of_cell(
+        x.number, x.matrix, i, j,
+    ))?;
     Ok(Cell {
         next: usize::from(r.next),
         position: r.position(columns),

@@ -23,7 +23,12 @@ fn check(amounts: &[u32; 8], s: &[u8], lowers: usize, uppers: usize) -> Result<S
     let kind = layout::kind(s);
     check_fit(0, rows, columns, lowers, uppers)?;
     let sizes = Sizes { rows, columns };
-    follow(Rule { kind, amounts }, s, sizes, usize::from(layout::u16_at(s, 0)))?;
+    follow(
+        Rule { kind, amounts },
+        s,
+        sizes,
+        usize::from(layout::u16_at(s, 0)),
+    )?;
     Ok(sizes)
 }
 

@@ -4,7 +4,7 @@ use Prim.Native.Nat.{ℕ, ◌+◌, ◌*◌, ◌≤◌, ◌<◌}
 use native.Mathlib.Omega.{arith}
 use lib.ListN.{length, take}
 use Rattle.sheets.specs.Sheet.{cell_at, tally, count_to}
-use Rattle.sheets.proofs.Counting.{start, div_lt, mod_lt, count_none, count_room, count_le, cells_more}
+use Rattle.sheets.proofs.Counting.{start, count_none, count_room, count_le, cells_more}
 use Rattle.sheets.proofs.records.put_cells.Goals as goal
 
 pub loop-p-init : goal.loop-p-init
