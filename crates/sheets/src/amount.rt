@@ -1,5 +1,5 @@
 // The wear amount of one cell, by the kind of its sheet.
-ghost use Rattle.std.specs.Prelude.{◌≡◌, ◌<◌};
+ghost use Rattle.std.specs.Prelude.{◌≡◌};
 ghost use Rattle.refusals.specs.Answer.{done};
 ghost use Rattle.sheets.specs.Kind.{byte_of};
 ghost use Rattle.sheets.specs.Amount.{below_zero, check_wear, wear_amount};
@@ -41,11 +41,8 @@ fn is_below_zero(p: u32) -> bool
 // below zero.
 #[tactic(auto, unfolding(crate::specs::Amount::check_wear))]
 pub fn check_wear(kind: Kind, r: Record) -> Result<(), Refusal>
-    requires { (r.row < 256) × (r.column < 256) }
     ensures { result ≡ check_wear kind r }
 {
-    let row = r.row as u8;
-    let column = r.column as u8;
     match kind {
         Kind::Classes => {
             if r.wear <= 7 {
@@ -54,11 +51,11 @@ pub fn check_wear(kind: Kind, r: Record) -> Result<(), Refusal>
             if r.wear > 255 {
                 return Err(Refusal::of_matrix(Reason::WrongLayout, 0));
             }
-            Err(Refusal::of_cell(Reason::UnknownClass, 0, row, column))
+            Err(Refusal::of_cell(Reason::UnknownClass, 0, r.row, r.column))
         }
         Kind::Amounts => {
             if is_below_zero(r.wear) {
-                return Err(Refusal::of_cell(Reason::NegativeAmount, 0, row, column));
+                return Err(Refusal::of_cell(Reason::NegativeAmount, 0, r.row, r.column));
             }
             Ok(())
         }

@@ -27,22 +27,20 @@ fn judge(rule: Rule, sizes: Sizes, least: usize, r: Record) -> Result<(), Refusa
     ensures { result ≡ then (judge_of (cell_amount rule.entry.kind rule.entry.amounts.now) sizes.rows sizes.columns least r) done }
 {
     let Sizes { rows, columns } = sizes;
-    let row = r.row;
-    let column = r.column;
+    let row = usize::from(r.row);
+    let column = usize::from(r.column);
     if row >= rows {
         return Err(Refusal::of_matrix(Reason::Outside, 0));
     }
     if column >= columns {
         return Err(Refusal::of_matrix(Reason::Outside, 0));
     }
-    let position = row * columns + column;
+    let position = r.position(columns);
     if position < least {
         return Err(Refusal::of_matrix(Reason::NotRising, 0));
     }
-    let i = row as u8;
-    let j = column as u8;
     check_wear(rule.kind, r)?;
-    check_worn(r.lower, r.upper, rule.amount(r)).map_err(|reason| Refusal::of_cell(reason, 0, i, j))
+    check_worn(r.lower, r.upper, rule.amount(r)).map_err(|reason| Refusal::of_cell(reason, 0, r.row, r.column))
 }
 
 // Checks the whole chain, whose first record has the index `first`. Index 0 ends the chain.
@@ -59,8 +57,8 @@ pub fn follow(rule: Rule, s: &[u8], sizes: Sizes, first: usize) -> Result<(), Re
         }
         let r = record_at(s, index);
         judge(rule, sizes, least, r)?;
-        index = r.next;
-        least = r.row * sizes.columns + r.column + 1;
+        index = usize::from(r.next);
+        least = r.position(sizes.columns) + 1;
     }
     Ok(())
 }

@@ -12,5 +12,5 @@ pub fn first_length(s: &[u8]) -> usize
     if s.len() < 6 {
         return s.len();
     }
-    s.len().min(16 * u16_at(s, 4))
+    s.len().min(16 * usize::from(u16_at(s, 4)))
 }

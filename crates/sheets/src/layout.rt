@@ -2,6 +2,7 @@
 ghost use Rattle.std.specs.Prelude.{◌≡◌, ◌+◌, ◌*◌, ◌≤◌, ◌<◌, length, get_or};
 ghost use Rattle.sheets.specs.Kind.{kind_of};
 ghost use Rattle.sheets.specs.Layout.{u16_at, u32_at, blank, record_of, framed};
+ghost use Rattle.sheets.specs.Chain.{position_of};
 ghost use Rattle.sheets.specs.Sheet.{bytes_of};
 
 use crate::amount::Kind;
@@ -9,45 +10,45 @@ use crate::amount::Kind;
 // A record read as a cell. `wear`, its last four bytes, is a wear class or a wear amount, by the kind of the sheet.
 #[derive(Clone, Copy)]
 pub struct Record {
-    pub next: usize,
-    pub row: usize,
-    pub column: usize,
+    pub next: u16,
+    pub row: u8,
+    pub column: u8,
     pub lower: u32,
     pub upper: u32,
     pub wear: u32,
 }
 
 impl Record {
+    // The position of its cell, by rows, in a matrix with this many columns.
+    pub fn position(self, columns: usize) -> usize
+        requires { columns ≤ 32 }
+        ensures { result ≡ position_of columns self }
+    {
+        usize::from(self.row) * columns + usize::from(self.column)
+    }
+
     // Its 16 bytes.
     pub fn bytes(self) -> [u8; 16]
-        requires { (self.row < 256) × (self.column < 256) }
         ensures { result ≡ bytes_of self }
     {
-        let [n0, n1] = ((self.next % 65536) as u16).to_le_bytes();
+        let [n0, n1] = self.next.to_le_bytes();
         let [l0, l1, l2, l3] = self.lower.to_le_bytes();
         let [u0, u1, u2, u3] = self.upper.to_le_bytes();
         let [w0, w1, w2, w3] = self.wear.to_le_bytes();
-        let row = self.row as u8;
-        let column = self.column as u8;
-        [n0, n1, row, column, l0, l1, l2, l3, u0, u1, u2, u3, w0, w1, w2, w3]
+        let Record { row, column, .. } = self;
+        [
+            n0, n1, row, column, l0, l1, l2, l3, u0, u1, u2, u3, w0, w1, w2, w3,
+        ]
     }
-}
-
-// Byte p of s.
-pub fn byte(s: &[u8], p: usize) -> usize
-    requires { p < length s.now }
-    ensures { (result ≡ get_or s.now p 0) × (result < 256) }
-{
-    usize::from(s[p])
 }
 
 // The two-byte number at byte p.
 #[tactic(auto, unfolding(crate::specs::Layout::u16_at))]
-pub fn u16_at(s: &[u8], p: usize) -> usize
+pub fn u16_at(s: &[u8], p: usize) -> u16
     requires { p + 1 < length s.now }
-    ensures { (result ≡ u16_at s.now p) × (result < 65536) }
+    ensures { result ≡ u16_at s.now p }
 {
-    usize::from(u16::from_le_bytes([s[p], s[p + 1]]))
+    u16::from_le_bytes([s[p], s[p + 1]])
 }
 
 // The four-byte number at byte p.
@@ -77,8 +78,8 @@ pub fn record_at(s: &[u8], i: usize) -> Record
     let at = 16 * i;
     Record {
         next: u16_at(s, at),
-        row: byte(s, at + 2),
-        column: byte(s, at + 3),
+        row: s[at + 2],
+        column: s[at + 3],
         lower: u32_at(s, at + 4),
         upper: u32_at(s, at + 8),
         wear: u32_at(s, at + 12),
@@ -102,6 +103,10 @@ pub fn is_framed(s: &[u8]) -> bool
     ensures { result ≡ framed s.now }
 {
     let n = s.len();
-    n % 16 == 0 && n >= 16 && n <= 16400 && 16 * u16_at(s, 4) == n && s[6] == kind(s).byte()
+    n % 16 == 0
+        && n >= 16
+        && n <= 16400
+        && 16 * usize::from(u16_at(s, 4)) == n
+        && s[6] == kind(s).byte()
         && is_blank(s, 7, 9)
 }

@@ -93,7 +93,13 @@ pub fn put(
 {
     let n = check_write(rows, columns, lowers, uppers, out.len())?;
     let total = n / 16 - 1;
-    records::put_head(out, records::next_of(total, 0), rows, columns, total + 1);
+    records::put_head(
+        out,
+        records::next_of(total, 0),
+        rows as u8,
+        columns as u8,
+        (total + 1) as u16,
+    );
     records::put_cells(out, columns, rows * columns, total, lowers, uppers);
     Ok(n)
 }

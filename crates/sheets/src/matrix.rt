@@ -21,16 +21,12 @@ fn passed(rule: Rule, columns: usize, r: Record) -> Result<Cell, Refusal>
         × (worn_fault r.lower r.upper (wear_amount rule.kind rule.amounts.now r.wear) ≡ done) }
     ensures { result ≡ worn_cell columns r (wear_amount rule.entry.kind rule.entry.amounts.now r.wear) }
 {
-    let row = r.row;
-    let column = r.column;
-    let i = row as u8;
-    let j = column as u8;
     let (lower, upper) = widen(r.lower, r.upper, rule.amount(r)).map_err(
-        |reason| Refusal::of_cell(reason, 0, i, j),
+        |reason| Refusal::of_cell(reason, 0, r.row, r.column),
     )?;
     Ok(Cell {
-        next: r.next,
-        position: row * columns + column,
+        next: usize::from(r.next),
+        position: r.position(columns),
         lower,
         upper,
     })

@@ -19,12 +19,17 @@ fn check(amounts: &[u32; 8], s: &[u8], lowers: usize, uppers: usize) -> Result<S
     if !layout::is_framed(s) {
         return Err(Refusal::of_matrix(Reason::WrongLayout, 0));
     }
-    let rows = layout::byte(s, 2);
-    let columns = layout::byte(s, 3);
+    let rows = usize::from(s[2]);
+    let columns = usize::from(s[3]);
     let kind = layout::kind(s);
     check_fit(0, rows, columns, lowers, uppers)?;
     let sizes = Sizes { rows, columns };
-    follow(Rule { kind, amounts }, s, sizes, layout::u16_at(s, 0))?;
+    follow(
+        Rule { kind, amounts },
+        s,
+        sizes,
+        usize::from(layout::u16_at(s, 0)),
+    )?;
     Ok(sizes)
 }
 
@@ -48,7 +53,7 @@ pub fn read(
         Rule { kind, amounts },
         s,
         sizes,
-        layout::u16_at(s, 0),
+        usize::from(layout::u16_at(s, 0)),
         lowers,
         uppers,
     );

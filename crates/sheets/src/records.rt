@@ -9,7 +9,7 @@ use crate::layout::Record;
 
 // Writes the 16 bytes of a record from index `at` on.
 pub fn put_record(out: &mut [u8], at: usize, r: Record)
-    requires { (at + 16 ≤ length out.old) × (r.row < 256) × (r.column < 256) }
+    requires { at + 16 ≤ length out.old }
     ensures { out.new ≡ over at (bytes_of r) out.old }
 {
     let bytes = r.bytes();
@@ -22,8 +22,8 @@ pub fn put_record(out: &mut [u8], at: usize, r: Record)
 // Writes the head of a sheet of `count` records, the head counted. What is written is an amount sheet: its kind is in byte 6, the third of the four that
 // a cell has its lower bound in.
 #[tactic(auto, unfolding(crate::specs::Sheet::record_bytes))]
-pub fn put_head(out: &mut [u8], first: usize, rows: usize, columns: usize, count: usize)
-    requires { (16 ≤ length out.old) × (rows < 256) × (columns < 256) × (count < 65536) }
+pub fn put_head(out: &mut [u8], first: u16, rows: u8, columns: u8, count: u16)
+    requires { 16 ≤ length out.old }
     ensures { out.new ≡ over 0 (head_bytes first rows columns count) out.old }
 {
     let kind = u32::from(Kind::Amounts.byte());
@@ -31,7 +31,7 @@ pub fn put_head(out: &mut [u8], first: usize, rows: usize, columns: usize, count
         next: first,
         row: rows,
         column: columns,
-        lower: count as u32 + 65536 * kind,
+        lower: u32::from(count) + 65536 * kind,
         upper: 0,
         wear: 0,
     };
@@ -40,11 +40,11 @@ pub fn put_head(out: &mut [u8], first: usize, rows: usize, columns: usize, count
 
 // The next index in record k of a chain of records 1 to `total`: k + 1, or 0 in the last record.
 #[tactic(auto, unfolding(crate::specs::Sheet::next_of))]
-pub fn next_of(total: usize, k: usize) -> usize
+pub fn next_of(total: usize, k: usize) -> u16
     requires { k ≤ 1024 }
     ensures { result ≡ next_of total k }
 {
-    if k < total { k + 1 } else { 0 }
+    if k < total { (k + 1) as u16 } else { 0 }
 }
 
 // Writes a cell as record k + 1, unless it is [0, 0]; returns the number of cells written so far.
@@ -53,12 +53,12 @@ fn put_cell(
     out: &mut [u8],
     k: usize,
     total: usize,
-    row: usize,
-    column: usize,
+    row: u8,
+    column: u8,
     lower: u32,
     upper: u32,
 ) -> usize
-    requires { (16 * (k + 1) + 16 * tally (handed_of lower upper) ≤ length out.old) × (k ≤ 1023) × (row < 256) × (column < 256) }
+    requires { (16 * (k + 1) + 16 * tally (handed_of lower upper) ≤ length out.old) × (k ≤ 1023) }
     ensures { (result ≡ k + tally (handed_of lower upper))
         × (out.new ≡ over (16 * (k + 1)) (cell_bytes (next_of total (k + 1)) row column (handed_of lower upper)) out.old) }
 {
@@ -101,8 +101,8 @@ pub fn put_cells(
             out,
             k,
             total,
-            p / columns,
-            p % columns,
+            (p / columns) as u8,
+            (p % columns) as u8,
             lowers[p],
             uppers[p],
         );

@@ -37,7 +37,9 @@ const HALF: u32 = 0x7F00_0000;
 pub fn check_worn(lower: u32, upper: u32, amount: u32) -> Result<(), Reason>
     ensures { result ≡ then (widened_of lower upper amount) done }
 {
-    if amount < HALF && magnitude(lower) < HALF && magnitude(upper) < HALF
+    if amount < HALF
+        && magnitude(lower) < HALF
+        && magnitude(upper) < HALF
         && at_most(lower, upper)
     {
         return Ok(());

@@ -31,20 +31,8 @@ turned rule s rows columns index least v inv r z e f g h k n i =
     let j = turn_passed rule s rows columns inv.0 (inv.0 - 1) index least (omega (arith, inv.1, inv.2)) n r _ i e f g in
     (j.1.free, digits_lt j.1.row j.1.column, small rows columns h k, inv.3 ∙ j.2)
 
-pub overflow_mul-least : goal.overflow_mul-least
-overflow_mul-least c =
-    let h = c.loop-index in
-    let j = turned _ _ _ _ h.index h.least _ h.invariant _ _ c.record_at-r.ensures c.judge.ensures c.in_ok-judge.was c.requires.0 c.requires.1 (omega arith) (omega arith) in
-    omega arith
-
 pub overflow_add-least : goal.overflow_add-least
 overflow_add-least c =
-    let h = c.loop-index in
-    let j = turned _ _ _ _ h.index h.least _ h.invariant _ _ c.record_at-r.ensures c.judge.ensures c.in_ok-judge.was c.requires.0 c.requires.1 (omega arith) (omega arith) in
-    omega arith
-
-pub overflow_add-least-in-loop-index : goal.overflow_add-least-in-loop-index
-overflow_add-least-in-loop-index c =
     let h = c.loop-index in
     let j = turned _ _ _ _ h.index h.least _ h.invariant _ _ c.record_at-r.ensures c.judge.ensures c.in_ok-judge.was c.requires.0 c.requires.1 (omega arith) (omega arith) in
     omega arith
@@ -59,7 +47,7 @@ pub loop-index-preserved : goal.loop-index-preserved
 loop-index-preserved c =
     let h = c.loop-index in
     let j = turned _ _ _ _ h.index h.least _ h.invariant _ _ c.record_at-r.ensures c.judge.ensures c.in_ok-judge.was c.requires.0 c.requires.1 (omega arith) (omega arith) in
-    (h.invariant.0 - 1, omega arith, omega arith, j.3)
+    (h.invariant.0 - 1, omega arith, omega arith, rw (c.from-index.ensures, c.position-least.ensures) j.3)
 
 pub returns-in_err-judge : goal.returns-in_err-judge
 returns-in_err-judge c =

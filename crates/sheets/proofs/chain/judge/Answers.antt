@@ -2,6 +2,7 @@
 use mathlib.Core.Path.{◌≡◌, refl, sym, ap, ◌∙◌}
 use mathlib.Core.Bool.{true, false}
 use mathlib.Core.List.{List}
+use native.Mathlib.Omega.{arith}
 use Prim.Native.Nat.{ℕ, ◌≤◌, ◌<◌}
 use borrow.Author.Rules.{rules}
 use borrow.Author.Tests.{le-leb, lt-leb, lt-ltb}
@@ -24,16 +25,16 @@ placing_is columns r (gives x) = refl
 placing_is columns r (refuses x) = refl
 
 pub returns-then-row-rows : goal.returns-then-row-rows
-returns-then-row-rows c = ap refuses c.of_matrix.ensures ∙ ap verdict (judge_by _ _ _ _ _ true _ _ (le-leb _ _ c.if-row-rows.true) refl refl)
+returns-then-row-rows c = ap refuses c.of_matrix.ensures ∙ ap verdict (judge_by _ _ _ _ _ true _ _ (le-leb c.args.sizes.rows c.args.r.row (omega arith)) refl refl)
 
 pub returns-then-column-columns : goal.returns-then-column-columns
 returns-then-column-columns c =
-    ap refuses c.of_matrix-then-column-columns.ensures ∙ ap verdict (judge_by _ _ _ _ _ false true _ (lt-leb _ _ c.if-row-rows.false) (le-leb _ _ c.if-column-columns.true) refl)
+    ap refuses c.of_matrix-then-column-columns.ensures ∙ ap verdict (judge_by _ _ _ _ _ false true _ (lt-leb c.args.sizes.rows c.args.r.row (omega arith)) (le-leb c.args.sizes.columns c.args.r.column (omega arith)) refl)
 
 pub returns-then-position-least : goal.returns-then-position-least
 returns-then-position-least c =
     ap refuses c.of_matrix-then-position-least.ensures
-    ∙ ap verdict (judge_by _ _ _ _ _ false false true (lt-leb _ _ c.if-row-rows.false) (lt-leb _ _ c.if-column-columns.false) (lt-ltb _ _ c.if-position-least.true))
+    ∙ ap verdict (judge_by _ _ _ _ _ false false true (lt-leb c.args.sizes.rows c.args.r.row (omega arith)) (lt-leb c.args.sizes.columns c.args.r.column (omega arith)) (lt-ltb (position_of c.args.sizes.columns c.args.r) c.args.least (omega arith)))
 
 module _ (kind : Kind) (amounts : List ℕ) (rows columns least : ℕ) (r : Record) (h : r.row < rows) (k : r.column < columns) (l : least ≤ position_of columns r) where
   -- 7 and 8 have passed: by the amount x
@@ -50,7 +51,7 @@ returns-in_err-check_wear c =
     let a = c.args in
     let e : c.from_residual.result ≡ refuses c.in_err-check_wear.field-0.0 = search rules in
     e
-    ∙ amounted a.rule.kind a.rule.amounts.now a.sizes.rows a.sizes.columns a.least a.r c.if-row-rows.false c.if-column-columns.false c.if-position-least.false _
+    ∙ amounted a.rule.kind a.rule.amounts.now a.sizes.rows a.sizes.columns a.least a.r (omega arith) (omega arith) (omega arith) _
     (amount_refused _ _ _ _ (sym c.check_wear.ensures ∙ c.in_err-check_wear.was))
 
 pub amount-requires : goal.amount-requires
@@ -61,5 +62,5 @@ returns c =
     let a = c.args in
     let e : c.map_err.result ≡ at_cell 0 a.r.row a.r.column c.check_worn.result = search rules in
     e
-    ∙ worn a.rule.kind a.rule.amounts.now a.sizes.rows a.sizes.columns a.least a.r c.if-row-rows.false c.if-column-columns.false c.if-position-least.false _ _
+    ∙ worn a.rule.kind a.rule.amounts.now a.sizes.rows a.sizes.columns a.least a.r (omega arith) (omega arith) (omega arith) _ _
     (ap gives c.amount.ensures ∙ amount_given _ _ _ (sym c.check_wear.ensures ∙ c.in_ok-check_wear.was)) c.check_worn.ensures

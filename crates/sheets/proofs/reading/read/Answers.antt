@@ -22,15 +22,15 @@ fill-requires c =
       (framed_tells _ a.frame).1,
       omega arith,
       omega arith,
-      ap (λ (w : Walk). w.verdict) (accepted_walk _ _ _ _ _ _ _ _ a c.kind-kind.ensures c.u16_at.ensures.0) ∙ a.passed,
+      ap (λ (w : Walk). w.verdict) (accepted_walk _ _ _ _ _ _ _ _ a c.kind-kind.ensures (c.from.ensures ∙ c.u16_at.ensures)) ∙ a.passed,
     )
 
 pub returns-clause-below : goal.returns-clause-below
 returns-clause-below c =
     let a = accepted_by _ _ _ _ _ _ (sym c.check.ensures ∙ c.in_ok-sizes.was) in
-    slice_done _ cell_lower _ _ _ _ _ _ _ _ _ _ a c.kind-kind.ensures c.u16_at.ensures.0 a.sized.lowers c.clear.ensures c.fill.ensures.0
+    slice_done _ cell_lower _ _ _ _ _ _ _ _ _ _ a c.kind-kind.ensures (c.from.ensures ∙ c.u16_at.ensures) a.sized.lowers c.clear.ensures c.fill.ensures.0
 
 pub returns-clause-above : goal.returns-clause-above
 returns-clause-above c =
     let a = accepted_by _ _ _ _ _ _ (sym c.check.ensures ∙ c.in_ok-sizes.was) in
-    slice_done _ cell_upper _ _ _ _ _ _ _ _ _ _ a c.kind-kind.ensures c.u16_at.ensures.0 a.sized.uppers c.clear-2.ensures c.fill.ensures.1
+    slice_done _ cell_upper _ _ _ _ _ _ _ _ _ _ a c.kind-kind.ensures (c.from.ensures ∙ c.u16_at.ensures) a.sized.uppers c.clear-2.ensures c.fill.ensures.1

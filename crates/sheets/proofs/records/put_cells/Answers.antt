@@ -4,7 +4,7 @@ use Prim.Native.Nat.{ℕ, ◌+◌, ◌*◌, ◌≤◌, ◌<◌}
 use native.Mathlib.Omega.{arith}
 use lib.ListN.{length, take}
 use Rattle.sheets.specs.Sheet.{cell_at, tally, count_to}
-use Rattle.sheets.proofs.Counting.{start, div_lt, mod_lt, count_none, count_room, count_le, cells_more}
+use Rattle.sheets.proofs.Counting.{start, count_none, count_room, count_le, cells_more}
 use Rattle.sheets.proofs.records.put_cells.Goals as goal
 
 pub loop-p-init : goal.loop-p-init
@@ -23,10 +23,8 @@ put_cell-k-requires c =
     let a = c.args in
     let h = c.loop-p in
     let r = roomy a.lowers.now a.uppers.now h.p h.k a.cells a.total (length a.out.now) (omega arith) (omega arith) h.invariant.0 c.requires.5 c.requires.6 in
-    let row = div_lt h.p a.columns 32 (omega arith) (omega arith) in
-    let column = mod_lt h.p a.columns (omega arith) in
     let long = h.invariant.1.long in
-    (omega arith, omega arith, omega arith, omega arith)
+    (omega arith, omega arith)
 
 pub loop-p-preserved : goal.loop-p-preserved
 loop-p-preserved c =
