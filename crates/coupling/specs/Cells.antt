@@ -20,7 +20,7 @@ abbrev pub Short : Answer ℕ → Type 0
 Short (gives n) = n ≤ 16400
 Short (refuses r) = Unit {0}
 
--- a product with the arguments g: returns 0 or the refusal's code, leaves the lent slices as `Left` says, and its result meets demand 3 (enclosure, width)
+-- a product with the arguments g: returns 0 or the refusal's code, leaves the lent slices as `Left` says, and its result encloses each product and keeps the bound on the width
 pub record Answered (g : Given) (ma ra mb rb lo up : List ℕ) (r : ℕ) (ma' ra' mb' rb' lo' up' : List ℕ) : Type 0 where
   pub code : r ≡ coded (λ v. 0) (product_of g)
   pub left : Left g ma ra mb rb lo up (product_of g) ma' ra' mb' rb' lo' up'

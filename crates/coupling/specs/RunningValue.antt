@@ -1,4 +1,4 @@
--- The running entry in a lent slice, for a caller in C: its value is the first 11 numbers. Definitions only (02, P7).
+-- The running entry in a lent slice, for a caller in C: its value is the first 11 numbers. Definitions only.
 use Rattle.std.specs.Prelude.{◌≡◌, List, [], ◌∷◌, ◌++◌, ℕ, ◌+◌, ◌≤◌, leb, length, get_or, drop}
 use Rattle.refusals.specs.Refusal.{of_matrix}
 use Rattle.refusals.specs.Answer.{Answer, gives, refuses, unless, then}
