@@ -57,24 +57,9 @@ module _ (v : Running) (n : length v.amounts ≡ 8) where
 in_slice_is : (d : List ℕ) (n : Answer Running) → 11 ≤ length d → in_slice d n ≡ n
 in_slice_is d n h = rw (le-leb 11 (length d) h)
 
--- ---- a call with the answer n on a slice that holds d, of which P is promised
-module _ (d : List ℕ) (n : Answer Running) (P : List ℕ → Type 0) (p : P (words_after (in_slice d n) d)) where
-  abbrev Promised : ℕ → List ℕ → Type 0
-  Promised r w = (r ≡ coded (λ _. 0) (in_slice d n)) × ((w ≡ words_after (in_slice d n) d) × P w)
-
-  promised : {r : ℕ} {w : List ℕ} → r ≡ coded (λ _. 0) (in_slice d n) → w ≡ words_after (in_slice d n) d → Promised r w
-  promised e f = (e, (f, subst P (sym f) p))
-
-  -- a slice that is too short
-  pub short_left : {r : ℕ} → length d < 11 → r ≡ code_of (of_matrix ShortSlice 0) → Promised r d
-  short_left h e =
-      let s : in_slice d n ≡ refuse ShortSlice = rw (lt-leb 11 (length d) h) in
-      promised (e ∙ ap (coded (λ _. 0)) (sym s)) (ap (λ m. words_after m d) (sym s))
-
-  -- one that is long enough
-  module _ (h : 11 ≤ length d) where
-    pub long_left : {r : ℕ} {w : List ℕ} → r ≡ coded (λ _. 0) n → w ≡ words_after n d → Promised r w
-    long_left e f = promised (e ∙ ap (coded (λ _. 0)) (sym (in_slice_is d n h))) (f ∙ ap (λ m. words_after m d) (sym (in_slice_is d n h)))
+-- ---- what holds of the numbers that the answer n leaves holds of the slice w, where a call's answer is v
+pub left_by : (P : List ℕ → Type 0) (d : List ℕ) {v n : Answer Running} {w : List ℕ} → w ≡ words_after v d → v ≡ n → P (words_after n d) → P w
+left_by P d e f = subst P (sym (e ∙ ap (λ m. words_after m d) f))
 
 -- ---- a start
 pub start_begins : (d : List ℕ) → Begins d (words_after (start_in d) d)

@@ -7,6 +7,22 @@ ghost use Rattle.coupling.specs.Conversions.{first_after, second_after, OptimalW
 
 use intervals::{to_bounds, to_midrad};
 use refusals::Refusal;
+use refusals::reason::Reason;
+
+// Writes the two numbers of an answer, unless it is a refusal. Returns 0 or the refusal's code.
+fn put_two(answer: Result<(u32, u32), Reason>, first: &mut u32, second: &mut u32) -> u32
+    ensures answer { result ≡ coded (λ _. 0) (unplaced answer) }
+    ensures first { first.new ≡ first_after answer first.old }
+    ensures second { second.new ≡ second_after answer second.old }
+{
+    match answer {
+        Ok(pair) => {
+            (*first, *second) = pair;
+            0
+        }
+        Err(reason) => Refusal::from(reason).code(),
+    }
+}
 
 // Bounds to midpoint and radius. No pair of binary32 numbers that encloses the range has a smaller radius.
 pub fn coupling_to_midrad(lower: u32, upper: u32, mid: &mut u32, rad: &mut u32) -> u32
@@ -15,14 +31,7 @@ pub fn coupling_to_midrad(lower: u32, upper: u32, mid: &mut u32, rad: &mut u32) 
     ensures second { rad.new ≡ second_after (midrad_of lower upper) rad.old }
     ensures optimal { OptimalWords lower upper (midrad_of lower upper) mid.new rad.new }
 {
-    match to_midrad(lower, upper) {
-        Ok((m, r)) => {
-            *mid = m;
-            *rad = r;
-            0
-        }
-        Err(reason) => Refusal::from(reason).code(),
-    }
+    put_two(to_midrad(lower, upper), mid, rad)
 }
 
 // Midpoint and radius to bounds.
@@ -31,12 +40,5 @@ pub fn coupling_to_bounds(mid: u32, rad: u32, lower: &mut u32, upper: &mut u32) 
     ensures first { lower.new ≡ first_after (bounds_of mid rad) lower.old }
     ensures second { upper.new ≡ second_after (bounds_of mid rad) upper.old }
 {
-    match to_bounds(mid, rad) {
-        Ok((lo, hi)) => {
-            *lower = lo;
-            *upper = hi;
-            0
-        }
-        Err(reason) => Refusal::from(reason).code(),
-    }
+    put_two(to_bounds(mid, rad), lower, upper)
 }

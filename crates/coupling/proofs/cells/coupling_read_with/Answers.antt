@@ -1,17 +1,8 @@
--- `cells::coupling_read_with` meets its contract: the reader's, with its answer as one number.
+-- `cells::coupling_read_with` makes a number of sizes that are small.
 use mathlib.Core.Path.{sym}
-use Rattle.sheets.specs.Reading.{lowers_with, uppers_with}
 use Rattle.sheets.proofs.Loads.{with_tells}
-use Rattle.coupling.proofs.Calls.{read_is, small_sizes}
+use Rattle.coupling.proofs.Calls.{small_sizes}
 use Rattle.coupling.proofs.cells.coupling_read_with.Goals as goal
 
 pub sizes_code-requires : goal.sizes_code-requires
 sizes_code-requires c = let r = c.read_with in small_sizes r.result r.ensures.answer (λ m n e. (with_tells _ _ _ _ m n (sym e)).1.sized)
-
-pub returns : goal.returns
-returns c =
-    let a = c.args in
-    let d = a.amounts.now in
-    let e = c.read_with.ensures in
-    let t = read_is (lowers_with d a.sheet.now) (uppers_with d a.sheet.now) a.lowers.now a.uppers.now c.sizes_code.ensures (e.answer, (e.below, e.above)) in
-    record { answer = t.0; below = t.1.0; above = t.1.1 }
