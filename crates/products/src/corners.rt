@@ -14,7 +14,7 @@ fn rank(sig: i64, exp: u32) -> i64
     requires { (nat_abs sig ≤ 2 ^ 48) × (exp ≤ 5000) }
     ensures { result ≡ rank_of sig exp }
 {
-    let k = exp as i64 * RANK_STEP;
+    let k = i64::from(exp) * RANK_STEP;
     if sig < 0 { sig - k } else { sig + k }
 }
 
@@ -42,22 +42,17 @@ pub fn corner_by_sign(x: Number, y: Number, z: Number) -> Corner
     }
 }
 
+// Of two products with one rank `lesser` is the first and `greater` the second, as their definitions say, so these two lines stay two functions.
 // The lesser of two products.
 pub fn lesser(x: Corner, y: Corner) -> Corner
     ensures { result ≡ lesser_of x y }
 {
-    if x.rank <= y.rank {
-        return x;
-    }
-    y
+    if x.rank <= y.rank { x } else { y }
 }
 
 // The greater of two products.
 pub fn greater(x: Corner, y: Corner) -> Corner
     ensures { result ≡ greater_of x y }
 {
-    if x.rank <= y.rank {
-        return y;
-    }
-    x
+    if x.rank <= y.rank { y } else { x }
 }
