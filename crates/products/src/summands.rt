@@ -1,4 +1,4 @@
-// Two summands brought to the larger of their exponents and added, before the sum is rounded. Called by plus.rt and near.rt.
+// Two summands brought to the larger of their exponents and added, before the sum is rounded. Called by plus.rt.
 ghost use Rattle.std.specs.Prelude.{◌≡◌, ◌^◌, ltb, pos, nat_abs};
 ghost use Rattle.algebra.specs.Order.{◌≼◌};
 ghost use Rattle.unpacked.specs.Cuts.{Summands, AlignedIs, earlier, later};

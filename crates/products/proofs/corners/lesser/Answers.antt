@@ -25,9 +25,9 @@ returns-then-x-y c =
     let y = c.args.y in
     ap (λ t. cond t x y) (sym c.if-x-y.true ∙ ap₂ le_z (read x.rank (x_fits c.before.before.before.before.before)) (read y.rank (y_fits c.before.before.before.before.before)))
 
-pub returns-else-x-y : goal.returns-else-x-y
+pub returns : goal.returns
 unfolding lesser_of
-returns-else-x-y c =
+returns c =
     let x = c.args.x in
     let y = c.args.y in
     ap (λ t. cond t x y) (sym c.if-x-y.false ∙ ap₂ le_z (read x.rank (x_fits c.before.before.before.before.before)) (read y.rank (y_fits c.before.before.before.before.before)))
