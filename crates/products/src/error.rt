@@ -6,7 +6,7 @@ ghost use Rattle.products.specs.CentreSize.{TwiceError};
 
 use crate::number::{PAST_LARGEST, scaled, whole};
 use crate::plus::plus_negative;
-use crate::shifts::{size, with_sign};
+use crate::shifts::with_sign;
 use binary32::direction::Down;
 use unpacked::{BIAS, Number};
 
@@ -21,7 +21,7 @@ fn spacing_exponent(x: Number) -> u32
     if x.exp < BIAS {
         return 0;
     }
-    if size(x.sig) < PAST_LARGEST {
+    if x.sig.unsigned_abs() < PAST_LARGEST {
         return x.exp - BIAS;
     }
     x.exp - BIAS + 1

@@ -5,7 +5,7 @@ ghost use Rattle.rounding.specs.Format.{binary32, MAX};
 ghost use Rattle.unpacked.specs.Number.{worth, Normal, Holds, Opposite, Absolute, Negative, Scaled};
 ghost use Rattle.unpacked.specs.Cuts.{Cut, OrLow};
 
-use crate::shifts::{GUARD, digits, raised, size, widened};
+use crate::shifts::{GUARD, digits, raised, widened};
 use crate::short::Short;
 use binary32::direction::Down;
 use unpacked::{BIAS, LARGEST_EXPONENT, Number, ZERO_EXPONENT};
@@ -30,7 +30,7 @@ pub fn fits(x: Number) -> bool
     if LARGEST_EXPONENT < x.exp {
         return false;
     }
-    size(x.sig) < PAST_LARGEST
+    x.sig.unsigned_abs() < PAST_LARGEST
 }
 
 // -x

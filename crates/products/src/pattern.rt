@@ -5,14 +5,9 @@ ghost use Rattle.unpacked.specs.Number.{worth, IsNumber, Unpacked};
 ghost use Rattle.unpacked.specs.Cuts.{fields_of};
 
 use crate::number::whole;
-use crate::shifts::{cap, size, with_sign};
+use crate::shifts::{ALL, with_sign};
+use binary32::Binary32;
 use unpacked::{BIAS, Number, none};
-
-// The sign bit of a pattern.
-const SIGN: u32 = 0x8000_0000;
-
-// 2^23: the implicit leading bit of a significand, and 1 in the exponent field.
-const LEADING: u32 = 0x80_0000;
 
 // The exponent field of infinities and NaNs.
 const NOT_FINITE: u32 = 255;
@@ -25,9 +20,9 @@ fn unpack_other(p: u32) -> Number
     requires { (p % 2 ^ 31 < 2 ^ 23) ⊎ (255 * 2 ^ 23 ≤ p % 2 ^ 31) }
     ensures { Unpacked p result }
 {
-    let t = p % SIGN;
-    if t < LEADING {
-        return whole(with_sign(SIGN <= p, t as u64));
+    let t = p % Binary32::SIGN;
+    if t < Binary32::HIDDEN {
+        return whole(with_sign(Binary32::SIGN <= p, u64::from(t)));
     }
     none()
 }
@@ -46,11 +41,11 @@ fn is_normal(e: u32) -> bool
 pub fn unpack(p: u32) -> Number
     ensures { Unpacked p result }
 {
-    let t = p % SIGN;
-    let e = t / LEADING;
+    let t = p % Binary32::SIGN;
+    let e = t / Binary32::HIDDEN;
     if is_normal(e) {
         return Number {
-            sig: with_sign(SIGN <= p, (t % LEADING + LEADING) as u64),
+            sig: with_sign(Binary32::SIGN <= p, u64::from(t % Binary32::HIDDEN + Binary32::HIDDEN)),
             exp: e + FIELD_TO_EXPONENT,
         };
     }
@@ -63,9 +58,9 @@ fn fields(m: u64, exp: u32) -> u32
     ensures { result ≡ fields_of m exp }
 {
     if BIAS <= exp {
-        return (exp - BIAS) * LEADING + m as u32;
+        return (exp - BIAS) * Binary32::HIDDEN + m as u32;
     }
-    (m >> cap(BIAS - exp)) as u32
+    (m >> (BIAS - exp).min(ALL)) as u32
 }
 
 // The pattern of a number.
@@ -73,9 +68,9 @@ pub fn pack(x: Number) -> u32
     requires { IsNumber x }
     ensures { result ≡ pattern_of (worth x) }
 {
-    let t = fields(size(x.sig), x.exp);
+    let t = fields(x.sig.unsigned_abs(), x.exp);
     if x.sig < 0 {
-        return SIGN + t;
+        return Binary32::SIGN + t;
     }
     t
 }

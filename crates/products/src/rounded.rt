@@ -5,7 +5,7 @@ ghost use Rattle.unpacked.specs.Number.{Holds};
 ghost use Rattle.unpacked.specs.Exact.{Exact, Formed, Rounded, RoundedUp};
 
 use crate::number::whole;
-use crate::shifts::cap;
+use crate::shifts::ALL;
 use crate::short::Short;
 use crate::times::{LARGEST_PRODUCT, PRODUCT_BIAS, WHOLE, is_usual, shortened, turned};
 use binary32::direction::Down;
@@ -16,7 +16,7 @@ fn small<D: Short>(p: Product) -> Number
     requires { (nat_abs p.sig ≤ 2 ^ 48) × (p.exp < 926) }
     ensures { (X : ℤ) → Exact X p → Holds (D.way binary32 (2 ^ 149) X) result }
 {
-    whole(D::shorten(p.sig, cap(PRODUCT_BIAS - p.exp)))
+    whole(D::shorten(p.sig, (PRODUCT_BIAS - p.exp).min(ALL)))
 }
 
 // A product that is subnormal, zero, near the largest number or above it, or that has a factor none, rounded.

@@ -1,5 +1,5 @@
 // Shifts, products and roundings of 64-bit integers: each function's contract is the exact integer that it returns.
-ghost use Rattle.std.specs.Prelude.{◌≡◌, ◌-◌, ◌*◌, ◌^◌, ◌≤◌, ◌<◌, min, pos, nat_abs, ◌+ℤ◌, ◌*ℤ◌};
+ghost use Rattle.std.specs.Prelude.{◌≡◌, ◌-◌, ◌*◌, ◌^◌, ◌≤◌, ◌<◌, pos, nat_abs, ◌+ℤ◌, ◌*ℤ◌};
 ghost use Rattle.std.specs.Int.Signed.{mag, shr_z};
 ghost use Rattle.rounding.specs.Quotient.{rem};
 ghost use Rattle.binary32.specs.Number.{signed_by};
@@ -9,22 +9,14 @@ ghost use Rattle.unpacked.specs.Cuts.{nearest_of};
 pub const GUARD: u32 = 36;
 
 // A shift by this many places loses all bits of a significand with its guard bits: 0 or -1 remains.
-const ALL: u32 = 61;
+pub const ALL: u32 = 61;
 
 // 2^n
 fn power(n: u32) -> i64
     requires { n ≤ 62 }
     ensures { result ≡ pos (2 ^ n) }
 {
-    (1u64 << n) as i64
-}
-
-// |x|
-pub fn size(x: i64) -> u64
-    requires { nat_abs x ≤ 2 ^ 24 }
-    ensures { result ≡ nat_abs x }
-{
-    if x < 0 { (-x) as u64 } else { x as u64 }
+    1 << n
 }
 
 // m, or -m where neg is set.
@@ -34,13 +26,6 @@ pub fn with_sign(neg: bool, m: u64) -> i64
 {
     let s = m as i64;
     if neg { -s } else { s }
-}
-
-// d, or 61 where d is more.
-pub fn cap(d: u32) -> u32
-    ensures { result ≡ min d 61 }
-{
-    if d <= ALL { d } else { ALL }
 }
 
 // s × 2^36: s with its guard bits.

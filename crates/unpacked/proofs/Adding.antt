@@ -1,4 +1,4 @@
--- Sums: what `add_down` computes is the sum, rounded down to 24 digits. Up to 36 places apart the sum is exact; beyond that two roundings down are one.
+-- Sums: what `add` computes is the sum, rounded down to 24 digits. Up to 36 places apart the sum is exact; beyond that two roundings down are one.
 use mathlib.Core.Path.{◌≡◌, sym, ap, ◌∙◌, subst}
 use mathlib.Core.List.{[], ◌∷◌}
 use mathlib.Core.Logic.{◌⊎◌, inl, inr, ⊎_elim}

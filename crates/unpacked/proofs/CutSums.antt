@@ -1,4 +1,4 @@
--- What `cut_down` computes of a sum that is exact, or rounded down and long: the sum rounded down to 24 digits.
+-- What `cut` computes of a sum that is exact, or rounded down and long: the sum rounded down to 24 digits.
 use mathlib.Core.Path.{◌≡◌, sym, ap, ◌∙◌, subst}
 use mathlib.Core.List.{[], ◌∷◌}
 use mathlib.Core.Logic.{⊎_elim}
@@ -60,7 +60,7 @@ module _ (X c : ℤ) (K E Z M : ℕ) (p : 0 < Z) (e : E * 4 ≡ M * Z) where
       cancel_lt {c = pos (2 ^ 36 * Z)} (of_lt (omega arith))
       (lin_lt (X ∷ c ∷ pos K ∷ pos E ∷ pos Z ∷ pos M ∷ []) (lt l ∷ eq (ap (λ t. (c +ℤ pos 1) *ℤ pos t) e) ∷ []) (search reading depth 40) (omega arith))
 
--- ---- what the code of `cut_down` found, of w that is 36 places above X
+-- ---- what the code of `cut`, rounding down, found, of w that is 36 places above X
 module _ (X w : ℤ) (be : ℕ) (short : nat_abs w ≤ 2 ^ 61) where
   abbrev z : ℕ
   z = room w

@@ -1,4 +1,4 @@
--- What the code of `cut_down`, `cut_near` and `cut_near_negative` found.
+-- What the code of `cut` and `cut_negative` found.
 use mathlib.Core.Path.{◌≡◌, refl, sym, ap, ◌∙◌}
 use Prim.Native.Nat.{ℕ, zero, suc, ◌+◌, ◌-◌, ◌*◌, ◌^◌, ◌≤◌, ◌<◌}
 use native.Mathlib.Omega.{arith}
@@ -14,15 +14,7 @@ pub room_is : (w : ℤ) (m : ℕ) → m ≡ mag w → count_leading_zeros 64 (m 
 unfolding room
 room_is w m e = ap (λ (n : ℕ). count_leading_zeros 64 (n * 4 + 3)) e
 
-pub cut_found : (w : ℤ) (exp z : ℕ) (v c : ℤ) (e : ℕ) → z ≡ room w → room w ≤ 62 → 64 ≤ exp → v ≡ w *ℤ pos (2 ^ z) → c ≡ shr_z v (2 ^ 38) → OrLow w (exp + 2 - z) e
-    → CutDown w exp (record { sig = c; exp = e })
-cut_found w exp z v c e ez low h ev ec o = record {
-  sigs = ec ∙ ap (λ (t : ℤ). shr_z t (2 ^ 38)) (ev ∙ ap (λ (n : ℕ). w *ℤ pos (2 ^ n)) ez);
-  none = o.none;
-  some = λ p. omega (arith, o.some p);
-}
-
--- of `cut_near`
+-- of `cut` to nearest
 wide_long : (w : ℤ) (z : ℕ) → Lead (mag w) z → 0 < nat_abs w → 2 ^ 61 ≤ nat_abs w * 2 ^ z
 wide_long (pos n) z l p = l.lower p
 wide_long (negsuc n) z l p = go n l.lower l.lone
@@ -42,7 +34,7 @@ near_cut_found w exp z v c e l h ev ec o = record {
   some = λ p. omega (arith, o.some p, l.low);
 }
 
--- of `cut_near_negative`, with a carry and without
+-- of `cut_negative` to nearest, with a carry and without
 module _ (w : ℤ) (exp : ℕ) (f : Filled w exp) (c : ℤ) where
   pub near_carry_found : 2 ^ 60 < nat_abs w → c ≡ nearest_of w (2 ^ 37) → CutNear w exp (record { sig = c; exp = exp + 1 })
   near_carry_found h e = record {

@@ -1,4 +1,4 @@
--- What the code of `add_down`, `add_negative`, `add_near` and `add_near_negative` found, with the summands put in order.
+-- What the code of `add` and `add_negative` found, down and to nearest, with the summands put in order.
 use mathlib.Core.Path.{◌≡◌, refl, sym, subst}
 use mathlib.Core.Bool.{Bool, true, false}
 use Prim.Native.Nat.{◌^◌, ◌≤◌}

@@ -1,4 +1,4 @@
--- Sums to nearest: what `add_near` computes is the sum, rounded to nearest. A summand that loses bits by its shift is so small that the sum rounds to the
+-- Sums to nearest: what `add` computes is the sum, rounded to nearest. A summand that loses bits by its shift is so small that the sum rounds to the
 -- other one, and so does the sum that was computed.
 use mathlib.Core.Path.{◌≡◌, refl, sym, ap, ◌∙◌, subst}
 use mathlib.Core.List.{[], ◌∷◌}

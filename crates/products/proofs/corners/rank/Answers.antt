@@ -22,11 +22,11 @@ unfolding rank_of
 rank_size (pos n) e = refl
 rank_size (negsuc n) e = ap nat_abs (rank_neg n e) ∙ nat_abs_neg (pos (suc n + e * 2 ^ 47))
 
-module _ (s : ℤ) (e : ℕ) (few : nat_abs s ≤ 2 ^ 48) (low : e ≤ 5000) where
-  shift_is : to_z w64 e *ℤ pos (2 ^ 47) ≡ pos (e * 2 ^ 47)
-  shift_is = ap (λ z. z *ℤ pos (2 ^ 47)) (to_z_pos w64 e (omega arith))
+module _ (s : ℤ) (e : ℕ) (few : nat_abs s ≤ 2 ^ 48) (low : e ≤ 5000) (f : ℤ) (is : f ≡ pos e) where
+  shift_is : to_z w64 (of_z w64 f) *ℤ pos (2 ^ 47) ≡ pos (e * 2 ^ 47)
+  shift_is = ap (λ z. to_z w64 (of_z w64 z) *ℤ pos (2 ^ 47)) is ∙ ap (λ z. z *ℤ pos (2 ^ 47)) (to_z_pos w64 e (omega arith))
 
-  shift_fits : SFits w64 (to_z w64 e *ℤ pos (2 ^ 47))
+  shift_fits : SFits w64 (to_z w64 (of_z w64 f) *ℤ pos (2 ^ 47))
   shift_fits = subst (SFits w64) (sym shift_is) (fits_nat_abs (pos (e * 2 ^ 47)) (omega arith))
 
   rank_fits : SFits w64 (rank_of s e)
@@ -35,11 +35,11 @@ module _ (s : ℤ) (e : ℕ) (few : nat_abs s ≤ 2 ^ 48) (low : e ≤ 5000) whe
   sig_read : to_z w64 (of_z w64 s) ≡ s
   sig_read = read_small s (omega arith)
 
-  shift_read : to_z w64 (of_z w64 (to_z w64 e *ℤ pos (2 ^ 47))) ≡ pos (e * 2 ^ 47)
-  shift_read = to_z-of_z w64 (to_z w64 e *ℤ pos (2 ^ 47)) shift_fits ∙ shift_is
+  shift_read : to_z w64 (of_z w64 (to_z w64 (of_z w64 f) *ℤ pos (2 ^ 47))) ≡ pos (e * 2 ^ 47)
+  shift_read = to_z-of_z w64 (to_z w64 (of_z w64 f) *ℤ pos (2 ^ 47)) shift_fits ∙ shift_is
 
   below : lt_z (to_z w64 (of_z w64 s)) (to_z w64 0) ≡ true
-      → to_z w64 (of_z w64 s) -ℤ to_z w64 (of_z w64 (to_z w64 e *ℤ pos (2 ^ 47))) ≡ rank_of s e
+      → to_z w64 (of_z w64 s) -ℤ to_z w64 (of_z w64 (to_z w64 (of_z w64 f) *ℤ pos (2 ^ 47))) ≡ rank_of s e
   unfolding rank_of
   below t = ap₂ ◌-ℤ◌ sig_read shift_read ∙ go s (test s (fits_nat_abs s (omega arith)) true t)
     where
@@ -51,7 +51,7 @@ module _ (s : ℤ) (e : ℕ) (few : nat_abs s ≤ 2 ^ 48) (low : e ≤ 5000) whe
       go (negsuc n) u = refl
 
   above : lt_z (to_z w64 (of_z w64 s)) (to_z w64 0) ≡ false
-      → to_z w64 (of_z w64 s) +ℤ to_z w64 (of_z w64 (to_z w64 e *ℤ pos (2 ^ 47))) ≡ rank_of s e
+      → to_z w64 (of_z w64 s) +ℤ to_z w64 (of_z w64 (to_z w64 (of_z w64 f) *ℤ pos (2 ^ 47))) ≡ rank_of s e
   unfolding rank_of
   above t = ap₂ ◌+ℤ◌ sig_read shift_read ∙ go s (test s (fits_nat_abs s (omega arith)) false t)
     where
@@ -63,20 +63,20 @@ module _ (s : ℤ) (e : ℕ) (few : nat_abs s ≤ 2 ^ 48) (low : e ≤ 5000) whe
   kept h = ap (λ z. to_z w64 (of_z w64 z)) h ∙ to_z-of_z w64 (rank_of s e) rank_fits
 
 pub overflow_mul-k : goal.overflow_mul-k
-overflow_mul-k c = shift_fits c.args.sig c.args.exp c.requires.0 c.requires.1
+overflow_mul-k c = shift_fits c.args.sig c.args.exp c.requires.0 c.requires.1 c.from-k.result c.from-k.ensures
 
 pub overflow_sub-result : goal.overflow_sub-result
 overflow_sub-result c =
-    subst (SFits w64) (sym (below c.args.sig c.args.exp c.requires.0 c.requires.1 c.if-sig-lt0.true)) (rank_fits c.args.sig c.args.exp c.requires.0 c.requires.1)
+    subst (SFits w64) (sym (below c.args.sig c.args.exp c.requires.0 c.requires.1 c.from-k.result c.from-k.ensures c.if-sig-lt0.true)) (rank_fits c.args.sig c.args.exp c.requires.0 c.requires.1 c.from-k.result c.from-k.ensures)
 
 pub overflow_add-result : goal.overflow_add-result
 overflow_add-result c =
-    subst (SFits w64) (sym (above c.args.sig c.args.exp c.requires.0 c.requires.1 c.if-sig-lt0.false)) (rank_fits c.args.sig c.args.exp c.requires.0 c.requires.1)
+    subst (SFits w64) (sym (above c.args.sig c.args.exp c.requires.0 c.requires.1 c.from-k.result c.from-k.ensures c.if-sig-lt0.false)) (rank_fits c.args.sig c.args.exp c.requires.0 c.requires.1 c.from-k.result c.from-k.ensures)
 
 pub returns-then-sig-lt0 : goal.returns-then-sig-lt0
 returns-then-sig-lt0 c =
-    kept c.args.sig c.args.exp c.requires.0 c.requires.1 (below c.args.sig c.args.exp c.requires.0 c.requires.1 c.if-sig-lt0.true)
+    kept c.args.sig c.args.exp c.requires.0 c.requires.1 c.from-k.result c.from-k.ensures (below c.args.sig c.args.exp c.requires.0 c.requires.1 c.from-k.result c.from-k.ensures c.if-sig-lt0.true)
 
 pub returns-else-sig-lt0 : goal.returns-else-sig-lt0
 returns-else-sig-lt0 c =
-    kept c.args.sig c.args.exp c.requires.0 c.requires.1 (above c.args.sig c.args.exp c.requires.0 c.requires.1 c.if-sig-lt0.false)
+    kept c.args.sig c.args.exp c.requires.0 c.requires.1 c.from-k.result c.from-k.ensures (above c.args.sig c.args.exp c.requires.0 c.requires.1 c.from-k.result c.from-k.ensures c.if-sig-lt0.false)

@@ -19,4 +19,4 @@ returns-then-x-gt-LARGEST_EXPONENT c =
 pub returns : goal.returns
 returns c =
     let last : c.args.x.exp ≡ 653 = omega (arith, c.if-x-gt-LARGEST_EXPONENT.false, c.if-x-lt-LARGEST_EXPONENT.false) in
-    ap (λ (n : ℕ). ltb n (2 ^ 24)) (c.size.ensures ∙ ap nat_abs (read_small c.args.x.sig (omega (arith, c.requires.few)))) ∙ fits_last c.args.x c.requires last
+    ap (λ (n : ℕ). ltb n (2 ^ 24)) (c.unsigned_abs.ensures.value ∙ ap nat_abs (read_small c.args.x.sig (omega (arith, c.requires.few)))) ∙ fits_last c.args.x c.requires last

@@ -12,8 +12,8 @@ returns-then-exp-ge-BIAS c = fields_high c.args.m c.args.exp c.if-exp-ge-BIAS.tr
 
 pub overflow_cast-result-3 : goal.overflow_cast-result-3
 overflow_cast-result-3 c =
-    record { fits = omega (arith, div-le_self c.args.m (2 ^ c.cap.result), c.requires.0) }
+    record { fits = omega (arith, div-le_self c.args.m (2 ^ c.min.result), c.requires.0) }
 
 pub returns : goal.returns
 returns c =
-    ap (λ (n : ℕ). c.args.m / 2 ^ n) c.cap.ensures ∙ fields_capped c.args.m c.args.exp c.requires.0 c.if-exp-ge-BIAS.false
+    ap (λ (n : ℕ). c.args.m / 2 ^ n) c.min.ensures ∙ fields_capped c.args.m c.args.exp c.requires.0 c.if-exp-ge-BIAS.false

@@ -23,24 +23,24 @@ fields_is x n t h e f = f ∙ ap (λ (m : ℕ). fields_of m x.exp) (size_is x.si
 pub fields-t-requires : goal.fields-t-requires
 fields-t-requires c =
     let x = c.args.x in
-    (omega (arith, size_is x.sig _ c.requires.normal.few c.size.ensures, c.requires.normal.few), exp_low x c.requires.normal, exp_high x c.requires)
+    (omega (arith, size_is x.sig _ c.requires.normal.few c.unsigned_abs.ensures.value, c.requires.normal.few), exp_low x c.requires.normal, exp_high x c.requires)
 
 pub overflow_add-result : goal.overflow_add-result
 overflow_add-result c =
     let x = c.args.x in
     let few : c.fields-t.result ≤ 255 * 2 ^ 23 =
-    subst (λ (t : ℕ). t ≤ 255 * 2 ^ 23) (sym (fields_is x _ _ c.requires.normal.few c.size.ensures c.fields-t.ensures))
+    subst (λ (t : ℕ). t ≤ 255 * 2 ^ 23) (sym (fields_is x _ _ c.requires.normal.few c.unsigned_abs.ensures.value c.fields-t.ensures))
     (fields_less (nat_abs x.sig) x.exp c.requires.normal.few (exp_high x c.requires)) in
     record { fits = omega arith }
 
 pub returns-then-x-lt0 : goal.returns-then-x-lt0
 returns-then-x-lt0 c =
     let x = c.args.x in
-    pack_below x c.requires.normal c.fields-t.result (fields_is x _ _ c.requires.normal.few c.size.ensures c.fields-t.ensures)
+    pack_below x c.requires.normal c.fields-t.result (fields_is x _ _ c.requires.normal.few c.unsigned_abs.ensures.value c.fields-t.ensures)
     (test x.sig (fits_nat_abs x.sig (omega (arith, c.requires.normal.few))) true c.if-x-lt0.true)
 
 pub returns : goal.returns
 returns c =
     let x = c.args.x in
-    pack_above x c.requires.normal c.fields-t.result (fields_is x _ _ c.requires.normal.few c.size.ensures c.fields-t.ensures)
+    pack_above x c.requires.normal c.fields-t.result (fields_is x _ _ c.requires.normal.few c.unsigned_abs.ensures.value c.fields-t.ensures)
     (test x.sig (fits_nat_abs x.sig (omega (arith, c.requires.normal.few))) false c.if-x-lt0.false)

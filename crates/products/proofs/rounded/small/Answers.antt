@@ -19,14 +19,14 @@ units_are part s v d n h k t e = read v t ∙ e ∙ ap₂ (λ (a : ℤ) (b : ℕ
 
 pub shorten-requires : goal.shorten-requires
 shorten-requires g c =
-    (subst (λ (t : ℤ). nat_abs t ≤ 2 ^ 62) (sym (read_small c.args.p.sig (omega (arith, c.requires.0)))) (omega (arith, c.requires.0)), omega (arith, c.cap.ensures, c.requires.1), omega (arith, c.cap.ensures))
+    (subst (λ (t : ℤ). nat_abs t ≤ 2 ^ 62) (sym (read_small c.args.p.sig (omega (arith, c.requires.0)))) (omega (arith, c.requires.0)), omega (arith, c.min.ensures, c.requires.1), omega (arith, c.min.ensures))
 
 pub whole-requires : goal.whole-requires
 whole-requires g c =
-    let is = units_are g.D.Short.part c.args.p.sig c.shorten.result c.cap.result _ c.requires.0 c.cap.ensures c.shorten.type_inv c.shorten.ensures in
+    let is = units_are g.D.Short.part c.args.p.sig c.shorten.result c.min.result _ c.requires.0 c.min.ensures c.shorten.type_inv c.shorten.ensures in
     subst (λ (t : ℤ). nat_abs t ≤ 2 ^ 24) (sym is) (g.met.D.Short.laws.few c.args.p c.requires.0 c.requires.1)
 
 pub returns : goal.returns
 returns g c = λ X i.
-    let is = units_are g.D.Short.part c.args.p.sig c.shorten.result c.cap.result _ c.requires.0 c.cap.ensures c.shorten.type_inv c.shorten.ensures in
+    let is = units_are g.D.Short.part c.args.p.sig c.shorten.result c.min.result _ c.requires.0 c.min.ensures c.shorten.type_inv c.shorten.ensures in
     g.met.D.Short.laws.units c.args.p c.requires.0 c.requires.1 X i c.whole.result (subst (λ (t : ℤ). Holds (some t) c.whole.result) is c.whole.ensures)

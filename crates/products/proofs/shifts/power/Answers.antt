@@ -1,5 +1,5 @@
 -- `products::shifts::power` meets its contract: for n up to 62 the shifted bit is 2 ^ n (`shifted`), which fits.
-use Prim.Native.Nat.{ℕ, ◌^◌, ◌<◌, ◌≤◌}
+use Prim.Native.Nat.{◌^◌, ◌<◌}
 use native.Mathlib.Omega.{arith}
 use lib.Pow.{pow-lt}
 use mir.Syntax.{w64}
@@ -8,11 +8,7 @@ use Rattle.binary32.proofs.Rests.{shifted}
 use borrow.Author.Rules.{rules}
 use Rattle.products.proofs.shifts.power.Goals as goal
 
-below : (n : ℕ) → n ≤ 62 → 2 ^ n < 2 ^ 63
-below n h = pow-lt {i = n} {j = 63} (omega arith)
-
-pub overflow_cast-result-2 : goal.overflow_cast-result-2
-overflow_cast-result-2 c = rw (shifted c.args.n c.requires) (record { sfits = omega (arith, below c.args.n c.requires) })
-
 pub returns : goal.returns
-returns c = rw (shifted c.args.n c.requires) (to_z_pos w64 (2 ^ c.args.n) (omega (arith, below c.args.n c.requires)))
+returns c =
+    let below : 2 ^ c.args.n < 2 ^ 63 = pow-lt {i = c.args.n} {j = 63} (omega (arith, c.requires)) in
+    rw (shifted c.args.n c.requires) (to_z_pos w64 (2 ^ c.args.n) (omega (arith, below)))

@@ -35,40 +35,40 @@ low_few : (s z : ℤ) (m : ℕ) → nat_abs s ≤ 2 ^ 24 → z ≡ shr_z (s *ℤ
 low_few s z m h e = subst (λ (t : ℤ). nat_abs t ≤ 2 ^ 60) (sym e) (omega (arith, shr_less (s *ℤ pos (2 ^ 36)) m, raised_abs s))
 
 pub overflow_sub-b : goal.overflow_sub-b
-overflow_sub-b c = (ordered c.requires c.first-b.result c.second-s.result c.first-b.ensures c.second-s.ensures).order
+overflow_sub-b c = (ordered c.requires c.in_order.result.0 c.in_order.result.1 (ap (λ p. p.0) c.in_order.ensures) (ap (λ p. p.1) c.in_order.ensures)).order
 
 pub raised-requires : goal.raised-requires
 raised-requires c =
-    let o = ordered c.requires c.first-b.result c.second-s.result c.first-b.ensures c.second-s.ensures in
+    let o = ordered c.requires c.in_order.result.0 c.in_order.result.1 (ap (λ p. p.0) c.in_order.ensures) (ap (λ p. p.1) c.in_order.ensures) in
     subst (λ (t : ℤ). nat_abs t ≤ 2 ^ 24) (sym (u_plain _ _ o)) o.both.first.few
 
 pub raised-requires-2 : goal.raised-requires-2
 raised-requires-2 c =
-    let o = ordered c.requires c.first-b.result c.second-s.result c.first-b.ensures c.second-s.ensures in
+    let o = ordered c.requires c.in_order.result.0 c.in_order.result.1 (ap (λ p. p.0) c.in_order.ensures) (ap (λ p. p.1) c.in_order.ensures) in
     subst (λ (t : ℤ). nat_abs t ≤ 2 ^ 24) (sym (v_plain _ _ o)) o.both.second.few
 
 pub added-requires : goal.added-requires
 added-requires c =
-    let u = c.first-b.result in
-    let v = c.second-s.result in
-    let o = ordered c.requires u v c.first-b.ensures c.second-s.ensures in
+    let u = c.in_order.result.0 in
+    let v = c.in_order.result.1 in
+    let o = ordered c.requires u v (ap (λ p. p.0) c.in_order.ensures) (ap (λ p. p.1) c.in_order.ensures) in
     let big = raised_is u.sig _ c.raised.result (u_plain u v o) c.raised.type_inv c.raised.ensures in
     let small = raised_is v.sig _ c.raised-2.result (v_plain u v o) c.raised-2.type_inv c.raised-2.ensures in
-    let low = low_is (v.sig *ℤ pos (2 ^ 36)) _ c.lowered.result _ _ small c.lowered.type_inv c.lowered.ensures c.cap-d.ensures in
+    let low = low_is (v.sig *ℤ pos (2 ^ 36)) _ c.lowered.result _ _ small c.lowered.type_inv c.lowered.ensures c.min-d.ensures in
     let b = big_few u.sig _ o.both.first.few big in
     let l = low_few v.sig _ _ o.both.second.few low in
     (omega arith, omega arith)
 
 pub returns : goal.returns
 returns c =
-    let u = c.first-b.result in
-    let v = c.second-s.result in
-    let e = c.first-b.ensures in
-    let f = c.second-s.ensures in
+    let u = c.in_order.result.0 in
+    let v = c.in_order.result.1 in
+    let e = (ap (λ p. p.0) c.in_order.ensures) in
+    let f = (ap (λ p. p.1) c.in_order.ensures) in
     let o = ordered c.requires u v e f in
     let big = raised_is u.sig _ c.raised.result (u_plain u v o) c.raised.type_inv c.raised.ensures in
     let small = raised_is v.sig _ c.raised-2.result (v_plain u v o) c.raised-2.type_inv c.raised-2.ensures in
-    let low = low_is (v.sig *ℤ pos (2 ^ 36)) _ c.lowered.result _ _ small c.lowered.type_inv c.lowered.ensures c.cap-d.ensures in
+    let low = low_is (v.sig *ℤ pos (2 ^ 36)) _ c.lowered.result _ _ small c.lowered.type_inv c.lowered.ensures c.min-d.ensures in
     record {
       exps = ap (λ n. n.exp) e;
       sums =
