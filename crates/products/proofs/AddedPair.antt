@@ -32,19 +32,6 @@ module _ (s a b : ℕ × ℕ) where
   abbrev numbers : Bool
   numbers = finites s.0 s.1
 
-  pub first_faulty : (first ≡ 0 → ⊥) → first ≡ pair_fault s a b
-  unfolding pair_fault
-  first_faulty h = ap (λ t. by_tests t (eqb second 0) numbers first second) (sym (ne_eqb first 0 h))
-
-  pub second_faulty : first ≡ 0 → (second ≡ 0 → ⊥) → second ≡ pair_fault s a b
-  unfolding pair_fault
-  second_faulty e h = ap₂ (λ t u. by_tests t u numbers first second) (sym (eq-eqb first 0 e)) (sym (ne_eqb second 0 h))
-
-  pub sums_faulty : first ≡ 0 → second ≡ 0 → (t : Bool) → numbers ≡ t → cond t 0 3 ≡ pair_fault s a b
-  unfolding pair_fault
-  sums_faulty e f t g =
-      ap (λ u. cond u 0 3) (sym g) ∙ ap₂ (λ t u. by_tests t u numbers first second) (sym (eq-eqb first 0 e)) (sym (eq-eqb second 0 f))
-
   -- sums and cells without a fault
   pub record Faultless : Type 0 where
     pub a_fine : first ≡ 0
