@@ -72,9 +72,6 @@ module _ (p : Pairs) where
   unfolding centre_from size_from sum
   sized_start s N = record { centre = record { is = refl; number = N.centre }; size = record { is = ap some (neg_ℤ-neg_ℤ (worth s.size)); number = N.size }; below = N.below }
 
-  pub sized_numbers : (s : CentreSize) (l : ℕ) (r : CentreSize) → SizedSum p s l r → SizedNumbers r
-  sized_numbers s l r S = record { centre = S.centre.number; size = S.size.number; below = S.below }
-
   -- ---- after a step each is a number or none
   module _ (s : CentreSize) (l : ℕ) (r t : CentreSize) (S : SizedSum p s l r) (A : SizedStep r (worth (number p l)) (value_of (pattern p l)) t) where
     centre_next : Holds (centre_from p (worth s.centre) (l + 1)) t.centre

@@ -46,13 +46,6 @@ by_size k S (some g) = refl
 by_size k none none = refl
 by_size k (some s) none = refl
 
--- row i of A's patterns is within them
-pub row_reaches : (m k i : ℕ) (patterns : List ℕ) → m ≤ 32 → k ≤ 32 → i < m → m * k ≤ length patterns → RowReaches k i patterns
-row_reaches m k i patterns rows few h long = record {
-  few = few;
-  each = λ l t. let a = below i m l k h t in (omega (arith, a, small m k rows few), omega (arith, a));
-}
-
 -- what is worked out once for each cell, |m| + r (w) and the part (p), and once for each row: the words of midpoints (xs) and of parts (ps)
 pub record Lists : Type 0 where
   pub xs : List ℕ

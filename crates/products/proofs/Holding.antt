@@ -36,6 +36,3 @@ module _ (low high : Option ℤ) (s : Sums) (l : Holds low s.lower) (h : Holds (
 
   pub holds_both : HoldsRange (both low high) s
   holds_both = record { refused = is_none; numbers = λ t. record { lower = (lower_runs t).number; opposed = (upper_runs t).number }; whole = is_some }
-
-pub holds_refused : {m : Option Range} (s : Sums) → m ≡ none → refused_sums s ≡ true → HoldsRange m s
-holds_refused s e t = record { refused = λ _. e; numbers = λ f. true_false (sym t ∙ f); whole = λ f. true_false (sym t ∙ f) }

@@ -40,15 +40,6 @@ module _ (E : ℕ → Option Range) where
     pub to_at : {to : ℕ} → at ≡ to → WrittenTo to lo₀ up₀ lo up place
     to_at e = subst (λ (t : ℕ). WrittenTo t lo₀ up₀ lo up place) e W
 
-    -- a row begins
-    pub to_again : WrittenTo at lo up lo up place
-    to_again = record {
-      nowhere = W.nowhere;
-      stop = W.stop;
-      lowers = record { long = refl; head = W.lowers.head; rest = refl };
-      uppers = record { long = refl; head = W.uppers.head; rest = refl };
-    }
-
     -- a loop within it left the place nowhere
     pub to_still : {place' : Found} → place' ≡ None → WrittenTo at lo₀ up₀ lo up place'
     to_still e = record { nowhere = e; stop = W.stop; lowers = W.lowers; uppers = W.uppers }
@@ -79,20 +70,11 @@ module _ (E : ℕ → Option Range) where
     ended : (m n : ℕ) (r : Found) → stop_of E (m * n) ≡ at → r ≡ place_of m n at → Written E m n lo₀ up₀ r lo up
     ended m n r t e = record { place = rw t e; lowers = rw t (filled_is at _ lo₀ lo W.lowers); uppers = rw t (filled_is at _ up₀ up W.uppers) }
 
-    pub to_all : (m n : ℕ) → at ≡ m * n → Written E m n lo₀ up₀ place lo up
-    to_all m n e = ended m n place (ap (stop_of E) (sym e) ∙ W.stop) (rw (le-ltb at (m * n) (omega arith)) W.nowhere)
-
     pub to_none : (m n i j : ℕ) → at ≡ i * n + j → i < m → j < n → E at ≡ none → Written E m n lo₀ up₀ (Some (record { row = i; column = j })) lo up
     unfolding stop_of
     to_none m n i j e h k g =
         let l : at < m * n = omega (arith, below i m j n h k) in
         ended m n (Some (record { row = i; column = j })) (first_here (λ c. refused (E c)) at (m * n) W.stop (ap refused g) l) (rw (lt-ltb at (m * n) l, position_row i j n at e k, position_column i j n at e k))
-
-    pub to_refused : (m n i j : ℕ) (s : Sums) → at ≡ i * n + j → i < m → j < n → HoldsRange (E at) s → refused_sums s ≡ true → Written E m n lo₀ up₀ (Some (record { row = i; column = j })) lo up
-    to_refused m n i j s e h k H t = to_none m n i j e h k (H.refused t)
-
-    pub to_long : (length lo ≡ length lo₀) × (length up ≡ length up₀)
-    to_long = (W.lowers.long, W.uppers.long)
 
     -- the next entry's place is within lists that are long enough
     pub to_place : (m n i j : ℕ) → m ≤ 32 → n ≤ 32 → m * n ≤ length lo₀ → m * n ≤ length up₀ → at ≡ i * n + j → i < m → j < n → (at < 1024) × (at < length lo) × (at < length up)

@@ -37,10 +37,7 @@ impl CentreSize {
     pub fn refused(self) -> bool
         ensures { result ≡ refused_sized self }
     {
-        if is_none(self.centre) {
-            return true;
-        }
-        is_none(self.size)
+        is_none(self.centre) || is_none(self.size)
     }
 }
 
@@ -59,10 +56,7 @@ pub fn sum_pairs(
     ensures { SizedAll (record { k = k; n = n; j = j; row = row.now; column = column.now })
         (record { centre = centre; size = size }) result }
 {
-    let mut s = CentreSize {
-        centre: centre,
-        size: size,
-    };
+    let mut s = CentreSize { centre, size };
     for l in 0..k {
         let x = number_of(row[l]);
         if ZERO_EXPONENT < x.exp {

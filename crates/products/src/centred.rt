@@ -12,6 +12,7 @@ use crate::pattern::unpack;
 use crate::plus::{plus, plus_negative};
 use crate::rounded::{rounded, rounded_up};
 use crate::times::times;
+use binary32::Binary32;
 use binary32::direction::Down;
 use binary32::order::magnitude;
 use unpacked::{Number, Product, is_none, zero};
@@ -28,17 +29,15 @@ pub struct Centred {
 pub fn is_nonzero(p: u32) -> bool
     ensures { result ≡ ltb 0 (magnitude_of p) }
 {
-    0 < p % 0x8000_0000
+    0 < p % Binary32::SIGN
 }
 
 // Whether the step for u × w cannot be left out: u is not zero, or w is none. u is a number.
+#[tactic(auto, unfolding(crate::specs::Centred::adds_of))]
 pub fn adds(u: u32, w: u32) -> bool
     ensures { result ≡ adds_of u w }
 {
-    if is_nonzero(u) {
-        return true;
-    }
-    0x7F80_0000 <= w % 0x8000_0000
+    is_nonzero(u) || Binary32::INFINITY <= w % Binary32::SIGN
 }
 
 // |p| rounded down: p rounded down, or the opposite of p rounded up where p is negative.
@@ -98,12 +97,6 @@ impl Centred {
     pub fn refused(self) -> bool
         ensures { result ≡ refused_centred self }
     {
-        if is_none(self.lower) {
-            return true;
-        }
-        if is_none(self.opposed) {
-            return true;
-        }
-        is_none(self.radius)
+        is_none(self.lower) || is_none(self.opposed) || is_none(self.radius)
     }
 }

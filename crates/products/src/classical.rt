@@ -11,13 +11,14 @@ ghost use Rattle.products.specs.Written.{Sizes};
 use crate::apart::Apart;
 use crate::entries::{Shape, Steps};
 use crate::sums::Sums;
+use binary32::Binary32;
 use refusals::sizes::LARGEST_SIZE;
 
 // Whether the cell [lo, hi] is not [0, 0], with zeros of either sign. The corner products of [0, 0] add nothing.
 fn is_nonzero(lo: u32, hi: u32) -> bool
     ensures { result ≡ ltb 0 (magnitude_of lo + magnitude_of hi) }
 {
-    0 < lo % 0x8000_0000 + hi % 0x8000_0000
+    0 < lo % Binary32::SIGN + hi % Binary32::SIGN
 }
 
 // A and B by their bounds, by rows.

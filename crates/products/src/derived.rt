@@ -6,7 +6,7 @@ ghost use Rattle.products.specs.Derived.{MidRad, MidRads, MadeOf, outer_of, rais
 
 use binary32::direction::Up;
 use binary32::order::{least, magnitude, negate};
-use binary32::partial;
+use binary32::{Binary32, partial};
 
 // The patterns of (k + 2) × 2^-24 for k from 0 to 32. Each is exact.
 const RAISED: [u32; 33] = [
@@ -76,10 +76,7 @@ pub fn part(m: u32, r: u32) -> u32
     ensures { held result ≡ part_of (value_of m) (value_of r) }
 {
     let p = least(magnitude(m), r);
-    if m < 0x8000_0000 {
-        return p;
-    }
-    negate(p)
+    if m < Binary32::SIGN { p } else { negate(p) }
 }
 
 // What `of` makes of the first count cells, into the front of out.

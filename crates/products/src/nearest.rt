@@ -48,9 +48,6 @@ impl Nearest {
     pub fn refused(self) -> bool
         ensures { result ≡ refused_nearest self }
     {
-        if is_none(self.centre) {
-            return true;
-        }
-        is_none(self.radius)
+        is_none(self.centre) || is_none(self.radius)
     }
 }

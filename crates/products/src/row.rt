@@ -17,7 +17,7 @@ fn word_of(x: Number) -> u64
     requires { Part x }
     ensures { number_of result ≡ x }
 {
-    (x.sig + OFFSET) as u64 * EXPONENTS + x.exp as u64
+    (x.sig + OFFSET) as u64 * EXPONENTS + u64::from(x.exp)
 }
 
 // The number of a word.

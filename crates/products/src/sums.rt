@@ -78,10 +78,7 @@ impl Sums {
     pub fn refused(self) -> bool
         ensures { result ≡ refused_sums self }
     {
-        if is_none(self.lower) {
-            return true;
-        }
-        is_none(self.opposed)
+        is_none(self.lower) || is_none(self.opposed)
     }
 
     // These sums, or None where one of them is none.

@@ -72,8 +72,9 @@ overflow_mul-result c =
 
 pub overflow_add-result-2 : goal.overflow_add-result-2
 overflow_add-result-2 c =
-    subst (λ (t : ℤ). Fits w64 (nat_abs t * 2 ^ 11 + c.args.x.exp)) (sym (plain c.args.x c.requires)) (record { fits = omega (arith, few c.args.x c.requires, c.requires.high) })
+    subst (λ (e : ℕ). Fits w64 (nat_abs (to_z w64 (of_z w64 (to_z w64 (of_z w64 c.args.x.sig) +ℤ pos (2 ^ 24)))) * 2 ^ 11 + e)) (sym c.from.ensures)
+    (subst (λ (t : ℤ). Fits w64 (nat_abs t * 2 ^ 11 + c.args.x.exp)) (sym (plain c.args.x c.requires)) (record { fits = omega (arith, few c.args.x c.requires, c.requires.high) }))
 
 pub returns : goal.returns
 returns c =
-    ap (λ (t : ℤ). number_of (nat_abs t * 2 ^ 11 + c.args.x.exp)) (plain c.args.x c.requires) ∙ back c.args.x c.requires
+    ap₂ (λ (t : ℤ) (e : ℕ). number_of (nat_abs t * 2 ^ 11 + e)) (plain c.args.x c.requires) c.from.ensures ∙ back c.args.x c.requires
