@@ -1,13 +1,6 @@
-// Clearing slices of patterns that the caller lent, and the smaller of two lengths.
-ghost use Rattle.std.specs.Prelude.{◌≡◌, min};
+// Clearing slices of patterns that the caller lent.
+ghost use Rattle.std.specs.Prelude.{◌≡◌};
 ghost use Rattle.intervals.specs.Slices.{cleared};
-
-// The smaller of a and b.
-pub fn shorter(a: usize, b: usize) -> usize
-    ensures { result ≡ min a b }
-{
-    a.min(b)
-}
 
 // Sets the first count patterns to 0, or all where there are fewer.
 #[tactic(auto, unfolding(crate::specs::Slices::cleared))]
