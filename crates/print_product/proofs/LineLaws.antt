@@ -60,11 +60,11 @@ pub cell_written : (i j l u : ℕ) {a b : Option (List ℕ)} → i < 2 ^ 64 → 
 unfolding cell_line
 cell_written i j l u h k m n = rw (m, n) (ap (λ t. Some t) (field (decimal_is i h) (field (decimal_is j k) (field refl (last refl)))))
 
-pub refused_written : (x : Refusal) → x.matrix < 2 ^ 64 → x.row < 2 ^ 64 → x.column < 2 ^ 64
-    → (refused ++ (32 ∷ [])) ++ (std_decimal (number_of x.reason) ++ (32 ∷ (std_decimal x.matrix ++ (32 ∷ (std_decimal x.row ++ (32 ∷ (std_decimal x.column ++ (10 ∷ [])))))))) ≡ refused_line x
+pub refused_written : (x : Refusal) (n : ℕ) → n ≡ number_of x.reason → x.matrix < 2 ^ 64 → x.row < 2 ^ 64 → x.column < 2 ^ 64
+    → (refused ++ (32 ∷ [])) ++ (std_decimal n ++ (32 ∷ (std_decimal x.matrix ++ (32 ∷ (std_decimal x.row ++ (32 ∷ (std_decimal x.column ++ (10 ∷ [])))))))) ≡ refused_line x
 unfolding refused_line
-refused_written x k l m =
-    ap (λ t. (refused ++ (32 ∷ [])) ++ t) (field (decimal_is (number_of x.reason) (omega (arith, number_small x.reason))) (field (decimal_is x.matrix k) (field (decimal_is x.row l) (last (decimal_is x.column m)))))
+refused_written x n e k l m =
+    ap (λ t. (refused ++ (32 ∷ [])) ++ t) (field (decimal_is n (omega (arith, e, number_small x.reason)) ∙ ap decimal e) (field (decimal_is x.matrix k) (field (decimal_is x.row l) (last (decimal_is x.column m)))))
 
 -- one more cell
 pub cells_more : (front : List ℕ) (columns p : ℕ) (lo up : List ℕ)
