@@ -1,16 +1,20 @@
 -- Signed numbers in the machine's words of 64 bits: read back from their bits, negated and tested against zero. Assumes nothing.
-use mathlib.Core.Path.{◌≡◌, sym, ap, subst, ◌∙◌}
+use mathlib.Core.Path.{◌≡◌, sym, ap, ap₂, subst, ◌∙◌}
 use mathlib.Core.Bool.{Bool, true, false}
 use mathlib.Core.Logic.{⊎_elim}
-use Prim.Native.Nat.{◌+◌, ◌^◌, ◌≤◌, ◌<◌}
+use Prim.Native.Nat.{ℕ, ◌+◌, ◌*◌, ◌%◌, ◌^◌, ◌≤◌, ◌<◌}
 use native.Mathlib.Omega.{arith}
 use native.Mathlib.Nat.{not-suc-le-zero, eq-zero-or-pos}
 use lib.Dec.{T, ltb, ltb→lt}
-use lib.IntN.{ℤ, pos, negsuc, neg_ℤ, nat_abs, ◌-ℤ◌, +ℤ_idl}
+use lib.IntN.{ℤ, pos, negsuc, neg_ℤ, nat_abs, ◌-ℤ◌, ◌*ℤ◌, +ℤ_idl}
+use lib.Pow.{pow-lt}
 use lib.Signed.{mag, non_neg, lt_z}
 use mir.Syntax.{w64}
 use mir.Val.{SFits, of_z, to_z}
-use mir.ValLaws.{to_z-of_z}
+use mir.ValLaws.{to_z-of_z, to_z_pos}
+use Rattle.std.specs.Int.{int_wrap}
+use Rattle.std.proofs.Math.Facts.{Fits-of_z}
+use Rattle.std.proofs.lemmas.Int.{wrapping_mul-bits, int_wrap_fits}
 use Rattle.algebra.proofs.Machine.{fits_nat_abs}
 use Rattle.rounding.proofs.Sign.{nat_abs_neg}
 
@@ -29,6 +33,14 @@ read_small z h = to_z-of_z w64 z (fits_nat_abs z h)
 -- `-x` of the source is `pos 0 -ℤ x`
 pub nat_abs_minus : (x : ℤ) → nat_abs (pos 0 -ℤ x) ≡ nat_abs x
 nat_abs_minus x = ap nat_abs (+ℤ_idl (neg_ℤ x)) ∙ nat_abs_neg x
+
+-- what `x << n` of the source gives, where it fits
+pub shl_read : (x : ℤ) (n : ℕ) → n ≤ 62 → nat_abs x < 2 ^ 63 → nat_abs (x *ℤ pos (2 ^ n)) < 2 ^ 63
+    → to_z w64 (of_z w64 x * 2 ^ n % 2 ^ 64) ≡ x *ℤ pos (2 ^ n)
+shl_read x n h f g =
+    wrapping_mul-bits w64 (of_z w64 x) (2 ^ n) (Fits-of_z {w = w64} (fits_nat_abs x f)).fits (pow-lt {i = n} {j = 64} (omega arith))
+    ∙ ap₂ (λ a b. int_wrap w64 (a *ℤ b)) (read_small x f) (to_z_pos w64 (2 ^ n) (pow-lt {i = n} {j = 63} (omega arith)))
+    ∙ int_wrap_fits w64 (x *ℤ pos (2 ^ n)) (fits_nat_abs (x *ℤ pos (2 ^ n)) g)
 
 -- a negative number's negation, and a number that is not negative, are not negative
 pub non_neg_neg : (x : ℤ) → lt_z x (pos 0) ≡ true → T (non_neg (pos 0 -ℤ x))

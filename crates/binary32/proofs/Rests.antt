@@ -5,23 +5,22 @@ use mathlib.Core.List.{[], ◌∷◌}
 use Prim.Native.Nat.{ℕ, zero, suc, ◌+◌, ◌*◌, ◌/◌, ◌%◌, ◌^◌, ◌≤◌, ◌<◌}
 use native.Mathlib.Omega.{arith}
 use native.Mathlib.Nat.{div-le_self, div-add-mod', mod-eq_of_lt, one-mul, suc-mul}
-use lib.Pow.{pow-lt}
+use lib.Pow.{pow-lt, pow_pos, pow_mono}
 use lib.Dec.{ltb}
 use lib.IntN.{ℤ, pos, negsuc, nat_abs, ◌+ℤ◌, ◌-ℤ◌, ◌*ℤ◌}
-use lib.Signed.{shr_z, mag}
+use lib.Signed.{shr_z}
 use lib.Ieee.Nearest.{closest}
 use mir.Syntax.{w64}
 use mir.Val.{SFits, of_z, to_z, bool_byte}
-use mir.ValLaws.{to_z-of_z, to_z_pos}
+use mir.ValLaws.{to_z-of_z}
 use borrow.Author.Tests.{lt-ltb}
 use Rattle.algebra.proofs.Absolute.{nat_abs_add}
 use Rattle.algebra.proofs.Linear.{reading, eq, lin_eq}
-use Rattle.algebra.proofs.Machine.{fits_nat_abs}
 use Rattle.rounding.specs.Rounding.{sticky, signed}
 use Rattle.rounding.specs.Quotient.{rem, bit, ceil_s}
 use Rattle.rounding.proofs.Floor.{rem_is, up_floor, near_floor}
 use Rattle.rounding.proofs.Sign.{nat_abs_neg}
-use Rattle.binary32.proofs.Ints.{read, read_small}
+use Rattle.binary32.proofs.Ints.{read_small, shl_read}
 
 pub shr_less : (w : ℤ) (m : ℕ) → nat_abs (shr_z w m) ≤ nat_abs w
 shr_less (pos n) m = div-le_self n m
@@ -34,17 +33,13 @@ shr_back (negsuc k) m h = omega (arith, nat_abs_neg (pos (suc (k / m) * m)), suc
 pub rest_is : (w : ℤ) (m : ℕ) → 0 < m → w -ℤ shr_z w m *ℤ pos m ≡ pos (rem w m)
 rest_is w m h = lin_eq (w ∷ shr_z w m ∷ pos m ∷ pos (rem w m) ∷ []) (eq (rem_is w m h) ∷ []) (search reading depth 20) (omega arith)
 
--- the machine's product of the quotient and 2 ^ n, and its difference to w
-module _ (w c r : ℤ) (m : ℕ) (h : nat_abs w < 2 ^ 61) (l : m ≤ 2 ^ 62) (p : 0 < m) (fw : SFits w64 w) (fc : SFits w64 c) (fr : mag r < 2 ^ 63)
-    (er : r ≡ pos m) (ec : c ≡ shr_z w m) where
-  product_read : to_z w64 (of_z w64 c) *ℤ to_z w64 (of_z w64 r) ≡ shr_z w m *ℤ pos m
-  product_read = rw (to_z-of_z w64 c fc, read r fr, er, ec)
-
-  back_fits : SFits w64 (shr_z w m *ℤ pos m)
-  back_fits = fits_nat_abs (shr_z w m *ℤ pos m) (omega (arith, shr_back w m p))
-
-  pub machine_rest : to_z w64 (of_z w64 w) -ℤ to_z w64 (of_z w64 (to_z w64 (of_z w64 c) *ℤ to_z w64 (of_z w64 r))) ≡ pos (rem w m)
-  machine_rest = rw (to_z-of_z w64 w fw, product_read, to_z-of_z w64 (shr_z w m *ℤ pos m) back_fits) (rest_is w m p)
+-- what the machine subtracts
+pub machine_rest : (w c : ℤ) (n : ℕ) → nat_abs w < 2 ^ 61 → n ≤ 62 → c ≡ shr_z w (2 ^ n)
+    → to_z w64 (of_z w64 w) -ℤ to_z w64 (of_z w64 c * 2 ^ n % 2 ^ 64) ≡ pos (rem w (2 ^ n))
+machine_rest w c n h l e =
+    let few : nat_abs (shr_z w (2 ^ n)) < 2 ^ 63 = omega (arith, shr_less w (2 ^ n)) in
+    let back : nat_abs (shr_z w (2 ^ n) *ℤ pos (2 ^ n)) < 2 ^ 63 = omega (arith, shr_back w (2 ^ n) (pow_pos n), pow_mono {i = n} {j = 62} l) in
+    rw (e, read_small w (omega arith), shl_read (shr_z w (2 ^ n)) n l few back) (rest_is w (2 ^ n) (pow_pos n))
 
 -- ---- one more, where the test says so
 sticky_bit : (r : ℕ) → bit (ltb 0 r) ≡ sticky r
@@ -82,9 +77,3 @@ nears_is w c u m m' r a h em ec er ea eu =
 -- the machine's 2 ^ n
 pub shifted : (n : ℕ) → n ≤ 62 → 1 * 2 ^ n % 2 ^ 64 ≡ 2 ^ n
 shifted n h = ap (λ (t : ℕ). t % 2 ^ 64) (one-mul (2 ^ n)) ∙ mod-eq_of_lt (pow-lt {i = n} {j = 64} (omega arith))
-
-pub power_read : (n : ℕ) → n ≤ 62 → to_z w64 (1 * 2 ^ n % 2 ^ 64) ≡ pos (2 ^ n)
-power_read n h = rw (shifted n h) (to_z_pos w64 (2 ^ n) (omega (arith, below n h)))
-  where
-    below : (n : ℕ) → n ≤ 62 → 2 ^ n < 2 ^ 63
-    below n h = pow-lt {i = n} {j = 63} (omega arith)

@@ -5,7 +5,7 @@ ghost use Rattle.binary32.specs.Operations.{mul, lifted, with₂};
 ghost use Rattle.binary32.specs.Steps.{ShortFactors, Summands, Larger, Same, ProductIs, SumIs, Rounds, earlier, later, of};
 
 use crate::finite::are_finite;
-use crate::parts::{Parts, decode, power};
+use crate::parts::{Parts, decode};
 
 // x × y, exactly.
 pub fn times(x: Parts, y: Parts) -> Parts
@@ -23,7 +23,7 @@ fn shifted_sum(x: i64, n: u32, y: i64) -> i64
     requires { (nat_abs x ≤ 2 ^ 24) × (nat_abs y ≤ 2 ^ 24) × (n ≤ 36) }
     ensures { result ≡ x *ℤ pos (2 ^ n) +ℤ y }
 {
-    x * power(n) + y
+    (x << n) + y
 }
 
 // The most places that the exact sum of two numbers may have below the first.

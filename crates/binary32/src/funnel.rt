@@ -14,7 +14,7 @@ ghost use Rattle.binary32.specs.Steps.{packed, Split, IsCut, Small, Safe, exactl
 
 use crate::Binary32;
 use crate::direction::Direction;
-use crate::parts::{Parts, power};
+use crate::parts::Parts;
 
 // The significands of the three roundings. Each result is its significand × 2^shift units.
 #[derive(Clone, Copy)]
@@ -30,7 +30,7 @@ fn rest(w: i64, c: i64, n: u32) -> u64
     requires { (nat_abs w < 2 ^ 61) × (n ≤ 62) × (c ≡ shr_z w (2 ^ n)) }
     ensures { result ≡ rem w (2 ^ n) }
 {
-    (w - c * power(n)) as u64
+    (w - (c << n)) as u64
 }
 
 // w / 2^n, rounded in all three directions, with the shift that was passed in. `>>` keeps the sign and rounds down.
@@ -78,7 +78,7 @@ pub fn cut(x: Parts) -> Ways
     }
     let zeros = x.sig.unsigned_abs().leading_zeros();
     let top = 64 - zeros + x.exp;
-    let wide = x.sig * power(zeros - 3);
+    let wide = x.sig << (zeros - 3);
     if FULL <= top {
         return split(wide, DROPPED, top - FULL);
     }

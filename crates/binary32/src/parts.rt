@@ -1,5 +1,5 @@
-// A pattern split into significand and exponent, and small functions on integers. Used by exact.rt and funnel.rt.
-ghost use Rattle.std.specs.Prelude.{◌≡◌, ◌^◌, ◌≤◌, pos};
+// A pattern split into significand and exponent, and a sign put before a magnitude. Used by exact.rt and funnel.rt.
+ghost use Rattle.std.specs.Prelude.{◌≡◌};
 ghost use Rattle.binary32.specs.Number.{Finite, signed_by};
 ghost use Rattle.binary32.specs.Steps.{Decoded};
 
@@ -10,15 +10,6 @@ use crate::Binary32;
 pub struct Parts {
     pub sig: i64,
     pub exp: u32,
-}
-
-// 2^n
-#[tactic(auto, using(crate::proofs::Rests::power_read))]
-pub fn power(n: u32) -> i64
-    requires { n ≤ 62 }
-    ensures { result ≡ pos (2 ^ n) }
-{
-    1 << n
 }
 
 // m, or -m where `neg` is set.

@@ -14,6 +14,8 @@ use refusals::reason::Reason;
 
 pub mod slices;
 
+// Bounds stay two words side by side: the functions for C and the definitions take them so.
+
 // The fault of a pair of bounds: NotFinite, a bound has exponent field 255; Crossed, the lower bound is above the upper.
 #[tactic(auto, unfolding(crate::specs::Conversion::fault_of))]
 pub fn check(lo: u32, hi: u32) -> Result<(), Reason>
@@ -30,6 +32,7 @@ pub fn check(lo: u32, hi: u32) -> Result<(), Reason>
 }
 
 // The fault of a midpoint and a radius: NotFinite, one has exponent field 255; Crossed, the radius is negative.
+// It stays beside `check`: one function for both would take the number that r may not be below as a third argument.
 #[tactic(auto, unfolding(crate::specs::Conversion::radius_fault_of))]
 fn check_radius(m: u32, r: u32) -> Result<(), Reason>
     ensures { result ≡ radius_fault_of m r }
