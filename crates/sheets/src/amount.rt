@@ -65,6 +65,7 @@ impl<'a> Rule<'a> {
         ensures { result ≡ wear_amount self.entry.kind self.entry.amounts.now wear }
     {
         match self.kind {
+            // A cast: `usize` has no `From<u32>`.
             Kind::Classes => self.amounts[wear as usize],
             Kind::Amounts => wear,
         }
