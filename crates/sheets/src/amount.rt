@@ -77,6 +77,7 @@ impl<'a> Rule<'a> {
         ensures { result ≡ wear_amount self.entry.kind self.entry.amounts.now r.wear }
     {
         match self.kind {
+            // A cast: `usize` has no `From<u32>`.
             Kind::Classes => self.amounts[r.wear as usize],
             Kind::Amounts => r.wear,
         }

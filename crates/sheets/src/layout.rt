@@ -7,7 +7,7 @@ ghost use Rattle.sheets.specs.Sheet.{bytes_of};
 
 use crate::amount::Kind;
 
-// A record read as a cell. `wear`, its last four bytes, is a wear class or a wear amount, by the kind of the sheet.
+// A record of a cell. `wear`, its last four bytes, is a wear class or a wear amount, by the kind of the sheet.
 #[derive(Clone, Copy)]
 pub struct Record {
     pub next: u16,
