@@ -56,10 +56,6 @@ module _ (v : Running) (n : length v.amounts ≡ 8) where
 in_slice_is : (d : List ℕ) (n : Answer Running) → 11 ≤ length d → in_slice d n ≡ n
 in_slice_is d n h = rw (le-leb 11 (length d) h)
 
--- ---- what holds of the numbers that the answer n leaves holds of the slice w, where a call's answer is v
-pub left_by : (P : List ℕ → Type 0) (d : List ℕ) {v n : Answer Running} {w : List ℕ} → w ≡ words_after v d → v ≡ n → P (words_after n d) → P w
-left_by P d e f = subst P (sym (e ∙ ap (λ m. words_after m d) f))
-
 -- ---- a start
 pub start_begins : (d : List ℕ) → Begins d (words_after (start_in d) d)
 unfolding start_in new_of carried fixed_amounts

@@ -15,8 +15,9 @@ fn put_two(answer: Result<(u32, u32), Refusal>, first: &mut u32, second: &mut u3
     ensures second { second.new ≡ second_after answer second.old }
 {
     match answer {
-        Ok(pair) => {
-            (*first, *second) = pair;
+        Ok((one, other)) => {
+            *first = one;
+            *second = other;
             0
         }
         Err(r) => r.code(),
