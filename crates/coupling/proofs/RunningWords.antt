@@ -2,12 +2,11 @@
 -- from slice to slice. Assumes nothing.
 use mathlib.Core.Path.{◌≡◌, refl, sym, ap, subst, ◌∙◌}
 use mathlib.Core.List.{List, [], ◌∷◌, ◌++◌}
-use Prim.Native.Nat.{ℕ, ◌≤◌, ◌<◌}
+use Prim.Native.Nat.{ℕ, ◌≤◌}
 use native.Mathlib.Omega.{arith}
 use lib.ListN.{length, drop, length-append}
-use borrow.Author.Tests.{le-leb, lt-leb}
-use Rattle.refusals.specs.Refusal.{of_matrix, code_of}
-use Rattle.refusals.specs.Answer.{Answer, gives, refuses, refuse, coded}
+use borrow.Author.Tests.{le-leb}
+use Rattle.refusals.specs.Answer.{Answer, gives, refuses}
 use Rattle.refusals.proofs.Answers.{gives_injective, next_tells, passing_tells}
 use Rattle.sheets.specs.Wear.{fixed_amounts}
 use Rattle.sheets.specs.Load.{patterns_of, load_fault, load_of}
