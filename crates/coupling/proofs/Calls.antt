@@ -1,15 +1,11 @@
 -- Laws of what reader and writer answer: its number fits 32 bits. Assumes nothing.
-use mathlib.Core.Path.{◌≡◌, ap, subst, ◌∙◌}
-use mathlib.Core.List.{List}
+use mathlib.Core.Path.{◌≡◌}
 use Prim.Native.Nat.{ℕ, ◌≤◌}
-use Rattle.refusals.specs.Answer.{Answer, gives, refuses, coded}
+use Rattle.refusals.specs.Answer.{Answer, gives, refuses}
 use Rattle.refusals.proofs.SizeLaws.{Fitting}
 use Rattle.sheets.specs.declared.Sizes.{Sizes}
 use Rattle.sheets.specs.Reading.{sizes}
-use Rattle.matrices.specs.Checks.{Given}
-use Rattle.matrices.specs.Product.{Left}
-use Rattle.matrices.specs.Demand.{Keeps}
-use Rattle.coupling.specs.Cells.{sizes_code, SmallSizes, Short, Answered}
+use Rattle.coupling.specs.Cells.{SmallSizes, Short}
 
 -- a length that is written is short, where the code's answer w is o
 pub short : (w : Answer ℕ) {o : Answer ℕ} → w ≡ o → ((n : ℕ) → gives n ≡ o → n ≤ 16400) → Short w

@@ -2,13 +2,11 @@
 -- from slice to slice. Assumes nothing.
 use mathlib.Core.Path.{◌≡◌, refl, sym, ap, subst, ◌∙◌}
 use mathlib.Core.List.{List, [], ◌∷◌, ◌++◌}
-use Prim.Native.Nat.{ℕ, ◌≤◌, ◌<◌}
+use Prim.Native.Nat.{ℕ, ◌≤◌}
 use native.Mathlib.Omega.{arith}
 use lib.ListN.{length, drop, length-append}
-use borrow.Author.Tests.{le-leb, lt-leb}
-use Rattle.refusals.specs.declared.reason.Reason.TheVariants.{ShortSlice}
-use Rattle.refusals.specs.Refusal.{of_matrix, code_of}
-use Rattle.refusals.specs.Answer.{Answer, gives, refuses, refuse, coded}
+use borrow.Author.Tests.{le-leb}
+use Rattle.refusals.specs.Answer.{Answer, gives, refuses}
 use Rattle.refusals.proofs.Answers.{gives_injective, next_tells, then_tells, placed_tells}
 use Rattle.sheets.specs.Wear.{fixed_amounts}
 use Rattle.sheets.specs.Load.{patterns_of, load_fault, load_of}
@@ -56,10 +54,6 @@ module _ (v : Running) (n : length v.amounts ≡ 8) where
 -- ---- a slice that is long enough is not refused
 in_slice_is : (d : List ℕ) (n : Answer Running) → 11 ≤ length d → in_slice d n ≡ n
 in_slice_is d n h = rw (le-leb 11 (length d) h)
-
--- ---- what holds of the numbers that the answer n leaves holds of the slice w, where a call's answer is v
-pub left_by : (P : List ℕ → Type 0) (d : List ℕ) {v n : Answer Running} {w : List ℕ} → w ≡ words_after v d → v ≡ n → P (words_after n d) → P w
-left_by P d e f = subst P (sym (e ∙ ap (λ m. words_after m d) f))
 
 -- ---- a start
 pub start_begins : (d : List ℕ) → Begins d (words_after (start_in d) d)

@@ -11,7 +11,8 @@ use crate::length_code;
 use refusals::Refusal;
 use sheets::Sizes;
 
-// The answer of a read: 100 × rows + columns, or the refusal's code.
+// The answer of a read: 100 × rows + columns, or the refusal's code. (One function with `length_code` would take a closure, and the bound that its cast
+// needs would stand at each closure.)
 fn sizes_code(answer: Result<Sizes, Refusal>) -> u32
     requires { SmallSizes answer }
     ensures { result ≡ coded sizes_code answer }

@@ -16,8 +16,9 @@ fn put_two(answer: Result<(u32, u32), Reason>, first: &mut u32, second: &mut u32
     ensures second { second.new ≡ second_after answer second.old }
 {
     match answer {
-        Ok(pair) => {
-            (*first, *second) = pair;
+        Ok((one, other)) => {
+            *first = one;
+            *second = other;
             0
         }
         Err(reason) => Refusal::from(reason).code(),

@@ -1,41 +1,48 @@
 // The running entry for callers in C. Its value is in a lent slice of 11 numbers: the patterns of the lower and the upper bound, the number of pairs taken, and
 // the eight wear amounts in force. Each call returns 0; or it refuses, returns 1,000,000 × number of the refusal and leaves the slice as it was.
-ghost use Rattle.std.specs.Prelude.{◌≡◌, ◌≤◌, OnOk, length};
-ghost use Rattle.refusals.specs.Answer.{coded};
+ghost use Rattle.std.specs.Prelude.{◌≡◌};
+ghost use Rattle.refusals.specs.Answer.{coded, done, then};
 ghost use Rattle.running.specs.History.{take, exchange};
 ghost use Rattle.coupling.specs.RunningValue.{gauged, start_in, take_in, amounts_in, words_after, Begins, GoesOn};
 
-use crate::running_words::{put_next, value_in};
+use crate::running_words::{check_room, put, value_in};
 use refusals::Refusal;
 use running::Running;
 use running::cell::Gauged;
 
-// The first value, for a slice that has room for it.
+// A start.
 #[tactic(auto, unfolding(crate::specs::RunningValue::start_in))]
-fn started(value: &[u32]) -> Result<Running, Refusal>
-    ensures value { result ≡ start_in value.now }
-    ensures room { OnOk result (11 ≤ length value.now) }
+fn start(value: &mut [u32]) -> Result<(), Refusal>
+    ensures answer { result ≡ then (start_in value.old) done }
+    ensures left { value.new ≡ words_after (start_in value.old) value.old }
 {
-    value_in(value)?;
-    Ok(Running::new())
+    check_room(value)?;
+    put(Running::new(), value);
+    Ok(())
 }
 
-// The value in a slice after a pair of cells.
+// A pair of cells.
 #[tactic(auto, unfolding(crate::specs::RunningValue::take_in))]
-fn taken(value: &[u32], a: Gauged, b: Gauged) -> Result<Running, Refusal>
-    ensures value { result ≡ take_in value.now a b }
-    ensures room { OnOk result (11 ≤ length value.now) }
+fn take(value: &mut [u32], a: Gauged, b: Gauged) -> Result<(), Refusal>
+    ensures answer { result ≡ then (take_in value.old a b) done }
+    ensures left { value.new ≡ words_after (take_in value.old a b) value.old }
 {
-    value_in(value)?.take(a, b)
+    check_room(value)?;
+    let next = value_in(value).take(a, b)?;
+    put(next, value);
+    Ok(())
 }
 
-// The value in a slice after a load.
+// A load.
 #[tactic(auto, unfolding(crate::specs::RunningValue::amounts_in))]
-fn exchanged(value: &[u32], load: &[u8]) -> Result<Running, Refusal>
-    ensures value { result ≡ amounts_in value.now load.now }
-    ensures room { OnOk result (11 ≤ length value.now) }
+fn exchange(value: &mut [u32], load: &[u8]) -> Result<(), Refusal>
+    ensures answer { result ≡ then (amounts_in value.old load.now) done }
+    ensures left { value.new ≡ words_after (amounts_in value.old load.now) value.old }
 {
-    value_in(value)?.exchange(load)
+    check_room(value)?;
+    let next = value_in(value).exchange(load)?;
+    put(next, value);
+    Ok(())
 }
 
 // Begins with [0, 0], no pairs and the fixed wear amounts.
@@ -44,7 +51,7 @@ pub fn coupling_running_start(value: &mut [u32]) -> u32
     ensures left { value.new ≡ words_after (start_in value.old) value.old }
     ensures begins { Begins value.old value.new }
 {
-    put_next(started(value), value)
+    refusals::code(start(value))
 }
 
 // Takes a pair of cells, each with its wear class. The bounds and the number are then those of the entry by method 1 over all pairs taken since the start, each
@@ -75,7 +82,7 @@ pub fn coupling_running_take(
         upper: b_upper,
         class: b_class,
     };
-    put_next(taken(value, a, b), value)
+    refusals::code(take(value, a, b))
 }
 
 // Exchanges the wear amounts for those of a load, 32 bytes, for the pairs that follow.
@@ -84,5 +91,5 @@ pub fn coupling_running_amounts(value: &mut [u32], load: &[u8]) -> u32
     ensures left { value.new ≡ words_after (amounts_in value.old load.now) value.old }
     ensures goes_on { GoesOn (λ h. exchange h load.now) value.old value.new }
 {
-    put_next(exchanged(value, load), value)
+    refusals::code(exchange(value, load))
 }

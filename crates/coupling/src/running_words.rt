@@ -1,7 +1,8 @@
 // The value of a running entry in a lent slice: its first 11 numbers, which the functions for C (running_value.rt) read and write.
-ghost use Rattle.std.specs.Prelude.{◌≡◌, ◌++◌, ◌≤◌, OnOk, length, drop};
-ghost use Rattle.refusals.specs.Answer.{gives, coded};
-ghost use Rattle.coupling.specs.RunningValue.{words_of, value_in, in_slice, words_after};
+ghost use Rattle.std.specs.Prelude.{◌≡◌, ◌++◌, ◌≤◌, leb, OnOk, length, drop};
+ghost use Rattle.refusals.specs.Refusal.{of_matrix};
+ghost use Rattle.refusals.specs.Answer.{unless};
+ghost use Rattle.coupling.specs.RunningValue.{words_of, value_in};
 
 use refusals::Refusal;
 use refusals::reason::Reason;
@@ -10,22 +11,30 @@ use running::Running;
 // How many numbers a value has.
 pub const WORDS: usize = 11;
 
-// The value in the front of a slice, or refusal 2 where the slice is too short for one.
-pub fn value_in(words: &[u32]) -> Result<Running, Refusal>
-    ensures value { result ≡ in_slice words.now (gives (value_in words.now)) }
+// Refusal 2 for a slice that is too short for a value.
+pub fn check_room(words: &[u32]) -> Result<(), Refusal>
+    ensures value { result ≡ unless (leb 11 (length words.now)) (of_matrix 2 0) }
     ensures room { OnOk result (11 ≤ length words.now) }
 {
     if words.len() < WORDS {
         return Err(Refusal::of_matrix(Reason::ShortSlice, 0));
     }
-    Ok(Running {
+    Ok(())
+}
+
+// The value in the front of a slice, number by number, as its definition has it.
+pub fn value_in(words: &[u32]) -> Running
+    requires { 11 ≤ length words.now }
+    ensures { result ≡ value_in words.now }
+{
+    Running {
         lower: words[0],
         upper: words[1],
         pairs: words[2],
         amounts: [
             words[3], words[4], words[5], words[6], words[7], words[8], words[9], words[10],
         ],
-    })
+    }
 }
 
 // The numbers of a value.
@@ -38,17 +47,10 @@ fn words_of(v: Running) -> [u32; WORDS]
     ]
 }
 
-// Puts the next value into the front of a slice, unless the call was refused. Returns 0 or the refusal's code.
-pub fn put_next(next: Result<Running, Refusal>, words: &mut [u32]) -> u32
-    requires { OnOk next (11 ≤ length words.old) }
-    ensures answer { result ≡ coded (λ _. 0) next }
-    ensures left { words.new ≡ words_after next words.old }
+// Puts a value into the front of a slice.
+pub fn put(v: Running, words: &mut [u32])
+    requires { 11 ≤ length words.old }
+    ensures { words.new ≡ words_of v ++ drop 11 words.old }
 {
-    match next {
-        Ok(value) => {
-            words[..WORDS].copy_from_slice(&words_of(value));
-            0
-        }
-        Err(r) => r.code(),
-    }
+    words[..WORDS].copy_from_slice(&words_of(v));
 }

@@ -1,14 +1,14 @@
 -- Laws of the input's parts: the digit, and what stands behind it. Assumes nothing.
-use mathlib.Core.Path.{◌≡◌, refl, sym, ap}
+use mathlib.Core.Path.{◌≡◌, refl, ap}
 use mathlib.Core.Bool.{Bool, true, false, cond}
 use mathlib.Core.List.{List, [], ◌∷◌}
-use Prim.Native.Nat.{ℕ, ◌-◌, ◌≤◌, ◌<◌, min}
+use Prim.Native.Nat.{ℕ, ◌-◌, ◌<◌, min}
 use native.Mathlib.Omega.{arith}
 use lib.Dec.{ltb}
-use lib.ListN.{length, drop, get_or-eq_default}
+use lib.ListN.{length, drop}
 use lib.Seq.{drop-nil}
-use borrow.Author.Tests.{lt-ltb, le-ltb, ltb-false}
-use Rattle.print_product.specs.Input.{digit_value, method_in}
+use borrow.Author.Tests.{ltb-false}
+use Rattle.print_product.specs.Input.{digit_value}
 
 -- ---- the method
 

@@ -15,7 +15,7 @@ use Rattle.refusals.specs.declared.reason.Reason.TheVariants.{WrongSize, ShortSl
 use Rattle.refusals.specs.Reason.{number_of}
 use Rattle.sheets.proofs.Counting.{div_lt, mod_lt}
 use Rattle.print_product.specs.Digits.{digit_count, decimal, hexadecimal}
-use Rattle.print_product.specs.Lines.{line, product, refused, product_line, cell_line, refused_line}
+use Rattle.print_product.specs.Lines.{product, refused, product_line, cell_line, refused_line}
 use Rattle.print_product.specs.Printed.{cell_lines, product_text}
 use Rattle.print_product.proofs.DigitLaws.{digits_length, digit_count_below, decimal_is, hexadecimal_is}
 

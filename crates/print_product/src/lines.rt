@@ -59,7 +59,7 @@ fn cell_line<W: fmt::Write>(
     writeln!(f, "{row} {column} {lower:08X} {upper:08X}")
 }
 
-// A refusal, which is printed in place of a product.
+// A refusal, which is printed in place of a product. (A type of its own: how it is printed is this program's.)
 #[derive(Clone, Copy)]
 pub struct Refused(pub Refusal);
 

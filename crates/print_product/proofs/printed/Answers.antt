@@ -1,5 +1,5 @@
 -- `printed` meets its contract.
-use Rattle.std.proofs.Common.{IfOk, ◌≡◌, ◌≤◌, length, get_or, ◌∙◌, subst, arith}
+use Rattle.std.proofs.Common.{IfOk, ◌≡◌, ◌≤◌, length, get_or, subst, arith}
 use Rattle.std.specs.Fmt.InlineText.{inline_text}
 use Rattle.print_product.proofs.InputLaws.{digit_small}
 use Rattle.print_product.proofs.Answers.{printed_is}

@@ -1,5 +1,5 @@
 -- `sheets_text` meets its contract: a way out for each answer of the job.
-use Rattle.std.proofs.Common.{IfOk, ◌≡◌, ◌≤◌, length, sym, ap, subst, ◌∙◌, arith, rules}
+use Rattle.std.proofs.Common.{IfOk, ◌≡◌, ◌≤◌, length, sym, ap, subst, ◌∙◌, arith}
 use Rattle.std.specs.Fmt.InlineText.{inline_text}
 use Rattle.job.proofs.Jobs.{job_small}
 use Rattle.print_product.specs.Printed.{answer_text}

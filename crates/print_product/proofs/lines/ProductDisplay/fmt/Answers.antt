@@ -1,5 +1,5 @@
 -- The line of a product and those of its cells are written.
-use Rattle.std.proofs.Common.{◌/◌, ◌%◌, ◌*◌, ◌+◌, ◌++◌, ◌≡◌, get_or, arith, rules, subst, sym, ◌∙◌, append-nil, append_assoc, ap}
+use Rattle.std.proofs.Common.{◌*◌, ◌++◌, ◌≡◌, arith, rules, sym, ◌∙◌, append-nil, ap}
 use Rattle.std.proofs.Output.{has_written_append, has_written_of_eq}
 use Rattle.print_product.proofs.LineLaws.{product_written, cells_more}
 use Rattle.print_product.specs.Lines.{product_line}
