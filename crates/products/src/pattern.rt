@@ -53,6 +53,7 @@ pub fn unpack(p: u32) -> Number
 }
 
 // The pattern without sign of m × 2^(exp - 400) units: m has 24 bits, and below the exponent 400 its last bits are zeros that are shifted out.
+#[tactic(auto, using(unpacked::proofs::Packing::fields_high, unpacked::proofs::Packing::fields_capped))]
 fn fields(m: u64, exp: u32) -> u32
     requires { (m ≤ 2 ^ 24) × (64 ≤ exp) × (exp ≤ 653) }
     ensures { result ≡ fields_of m exp }
