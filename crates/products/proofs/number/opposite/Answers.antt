@@ -19,9 +19,6 @@ is x n = +ℤ_idl (neg_ℤ (to_z w64 (of_z w64 x.sig))) ∙ ap neg_ℤ (read_sma
 fits : (x : Number) → Normal x → SFits w64 (neg_ℤ x.sig)
 fits x n = fits_nat_abs (neg_ℤ x.sig) (omega (arith, nat_abs_neg x.sig, n.few))
 
-pub overflow_sub-result : goal.overflow_sub-result
-overflow_sub-result c = subst (SFits w64) (sym (is c.args.x c.requires)) (fits c.args.x c.requires)
-
 pub returns : goal.returns
 returns c =
     opposite_is c.args.x _ c.requires (ap (λ (t : ℤ). to_z w64 (of_z w64 t)) (is c.args.x c.requires) ∙ to_z-of_z w64 (neg_ℤ c.args.x.sig) (fits c.args.x c.requires))

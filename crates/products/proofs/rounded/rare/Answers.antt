@@ -17,12 +17,6 @@ returns-then-p-gt-LARGEST_PRODUCT g c = record {
   none = λ l. subst (Holds none) (sym c.none.ensures) none_holds;
 }
 
-pub limit-requires : goal.limit-requires
-limit-requires g c = (
-  g.met.D.Short.laws.whole c.requires c.if-p-lt-WHOLE.false c.if-p-gt-LARGEST_PRODUCT.false c.shortened.ensures,
-  omega (arith, c.if-p-gt-LARGEST_PRODUCT.false, c.shortened.ensures.exps),
-)
-
 pub returns : goal.returns
 returns g c = record {
   number = λ X i. g.met.D.Short.laws.large c.requires c.if-p-lt-WHOLE.false c.if-p-gt-LARGEST_PRODUCT.false c.shortened.ensures i c.limit.ensures;

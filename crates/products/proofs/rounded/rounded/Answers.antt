@@ -18,9 +18,6 @@ within e h = omega arith
 beyond : (e : ℕ) → e < 1179 → 1307 < e → ⊥
 beyond e h k = omega arith
 
-pub shortened-requires : goal.shortened-requires
-shortened-requires g c = (c.requires.few, (usual c.args.p.exp _ c.is_usual.ensures c.if-is_usual.true).0)
-
 pub returns-then-is_usual : goal.returns-then-is_usual
 returns-then-is_usual g c =
     let u = usual c.args.p.exp _ c.is_usual.ensures c.if-is_usual.true in

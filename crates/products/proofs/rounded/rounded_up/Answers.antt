@@ -3,8 +3,5 @@ use Rattle.unpacked.proofs.RoundedProducts.{turned_formed, rounded_turned}
 use borrow.Author.Rules.{rules}
 use Rattle.products.proofs.rounded.rounded_up.Goals as goal
 
-pub rounded-requires : goal.rounded-requires
-rounded-requires c = turned_formed c.requires c.turned.ensures
-
 pub returns : goal.returns
 returns c = rounded_turned c.turned.ensures c.rounded.ensures

@@ -7,10 +7,6 @@ use Rattle.binary32.proofs.Ints.{read, read_small}
 use borrow.Author.Rules.{rules}
 use Rattle.products.proofs.times.shortened.Goals as goal
 
-pub shorten-requires : goal.shorten-requires
-shorten-requires g c =
-    (subst (λ (t : ℤ). nat_abs t ≤ 2 ^ 62) (sym (read_small c.args.p.sig (omega (arith, c.requires.0)))) (omega (arith, c.requires.0)), omega arith, omega arith)
-
 pub returns : goal.returns
 returns g c = record {
   sigs = read c.shorten.result c.shorten.type_inv ∙ c.shorten.ensures ∙ ap (λ (t : ℤ). g.D.Short.part t (2 ^ 24)) (read_small c.args.p.sig (omega (arith, c.requires.0)));

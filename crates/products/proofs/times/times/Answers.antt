@@ -15,13 +15,6 @@ is : (x y p : ℤ) → nat_abs x ≤ 2 ^ 24 → nat_abs y ≤ 2 ^ 24 → mag p <
     → p ≡ to_z w64 (of_z w64 x) *ℤ to_z w64 (of_z w64 y) → to_z w64 (of_z w64 p) ≡ x *ℤ y
 is x y p f g h e = read p h ∙ e ∙ ap₂ ◌*ℤ◌ (read_small x (omega arith)) (read_small y (omega arith))
 
-pub twice-requires : goal.twice-requires
-twice-requires c =
-    let x = c.args.x in
-    let y = c.args.y in
-    let r = c.requires in
-    p_few x y r _ (is x.sig y.sig _ r.first.normal.few r.second.normal.few c.multiplied-p.type_inv c.multiplied-p.ensures)
-
 pub returns-then-digits-lt-FULL : goal.returns-then-digits-lt-FULL
 returns-then-digits-lt-FULL c =
     let x = c.args.x in
