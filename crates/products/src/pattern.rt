@@ -45,7 +45,10 @@ pub fn unpack(p: u32) -> Number
     let e = t / Binary32::HIDDEN;
     if is_normal(e) {
         return Number {
-            sig: with_sign(Binary32::SIGN <= p, u64::from(t % Binary32::HIDDEN + Binary32::HIDDEN)),
+            sig: with_sign(
+                Binary32::SIGN <= p,
+                u64::from(t % Binary32::HIDDEN + Binary32::HIDDEN),
+            ),
             exp: e + FIELD_TO_EXPONENT,
         };
     }

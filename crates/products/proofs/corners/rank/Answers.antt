@@ -8,7 +8,6 @@ use lib.Signed.{lt_z}
 use mir.Syntax.{w64}
 use mir.Val.{SFits, of_z, to_z}
 use mir.ValLaws.{to_z-of_z, to_z_pos}
-use borrow.Author.Rules.{rules}
 use borrow.Author.Tests.{ltb-true}
 use Rattle.algebra.proofs.Machine.{fits_nat_abs}
 use Rattle.rounding.proofs.Sign.{nat_abs_neg}

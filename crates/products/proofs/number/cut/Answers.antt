@@ -13,7 +13,6 @@ use Rattle.binary32.proofs.Ints.{read, read_small}
 use Rattle.unpacked.specs.Cuts.{room, OrLow}
 use Rattle.unpacked.proofs.Leading.{Lead, lead_of, wide_abs}
 use Rattle.unpacked.proofs.Cutting.{room_is}
-use borrow.Author.Rules.{rules}
 use Rattle.products.proofs.number.cut.Goals as goal
 
 -- w, and m, which are its digits

@@ -1,5 +1,5 @@
 -- `products::number::opposite` meets its contract: by `opposite_is`.
-use mathlib.Core.Path.{◌≡◌, ap, ◌∙◌, subst, sym}
+use mathlib.Core.Path.{◌≡◌, ap, ◌∙◌}
 use native.Mathlib.Omega.{arith}
 use lib.IntN.{ℤ, pos, neg_ℤ, ◌-ℤ◌, +ℤ_idl}
 use mir.Syntax.{w64}

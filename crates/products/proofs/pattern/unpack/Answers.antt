@@ -2,13 +2,10 @@
 use mathlib.Core.Path.{sym, ap, ◌∙◌}
 use lib.Dec.{leb}
 use Rattle.binary32.specs.Number.{signed_by}
-use mathlib.Core.Logic.{◌⊎◌, inl, inr, ⊎_elim}
-use Prim.Native.Nat.{ℕ, ◌*◌, ◌/◌, ◌%◌, ◌^◌, ◌≤◌, ◌<◌}
-use native.Mathlib.Omega.{arith}
+use Prim.Native.Nat.{◌/◌, ◌%◌, ◌^◌}
 use Rattle.binary32.proofs.Ints.{read}
-use Rattle.unpacked.proofs.Ranges.{range_yes, range_no}
+use Rattle.unpacked.proofs.Ranges.{range_yes}
 use Rattle.unpacked.proofs.Unpacking.{unpacked_normal}
-use borrow.Author.Rules.{rules}
 use Rattle.products.proofs.pattern.unpack.Goals as goal
 
 pub returns-then-is_normal : goal.returns-then-is_normal

@@ -1,19 +1,13 @@
 -- `products::pattern::unpack_other` meets its contract: by `unpacked_low`, and above all numbers by `unpacked_none`.
-use mathlib.Core.Path.{◌≡◌, ap, ◌∙◌, subst, sym}
+use mathlib.Core.Path.{ap, ◌∙◌, subst, sym}
 use mathlib.Core.Logic.{◌⊎◌, ⊎_elim}
 use Prim.Native.Nat.{ℕ, ◌*◌, ◌%◌, ◌^◌, ◌≤◌, ◌<◌}
-use native.Mathlib.Omega.{arith}
 use native.Mathlib.Nat.{not-le_of_lt}
-use lib.IntN.{nat_abs}
 use lib.Dec.{leb}
-use mir.Syntax.{w64}
-use mir.Val.{to_z, of_z}
 use Rattle.binary32.specs.Number.{signed_by}
 use Rattle.binary32.proofs.Ints.{read}
-use Rattle.binary32.proofs.Values.{signed_abs}
 use Rattle.unpacked.specs.Number.{Unpacked}
 use Rattle.unpacked.proofs.Unpacking.{unpacked_low, unpacked_none}
-use borrow.Author.Rules.{rules}
 use Rattle.products.proofs.pattern.unpack_other.Goals as goal
 
 pub returns-then-t-lt-HIDDEN : goal.returns-then-t-lt-HIDDEN

@@ -1,6 +1,5 @@
 -- `products::plus::plus` meets its contract: by the law `sums`.
 use Rattle.unpacked.proofs.Partials.{summands}
-use borrow.Author.Rules.{rules}
 use Rattle.products.proofs.plus.plus.Goals as goal
 
 pub add-requires : goal.add-requires

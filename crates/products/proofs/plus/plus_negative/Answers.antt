@@ -1,6 +1,5 @@
 -- `products::plus::plus_negative` meets its contract: by the law `sums`.
 use Rattle.unpacked.proofs.Partials.{summands}
-use borrow.Author.Rules.{rules}
 use Rattle.products.proofs.plus.plus_negative.Goals as goal
 
 pub add_negative-requires : goal.add_negative-requires

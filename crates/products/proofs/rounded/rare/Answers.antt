@@ -5,7 +5,6 @@ use native.Mathlib.Nat.{not-le_of_lt}
 use native.Mathlib.Omega.{arith}
 use Rattle.unpacked.specs.Number.{Holds}
 use Rattle.unpacked.proofs.Unpacking.{none_holds}
-use borrow.Author.Rules.{rules}
 use Rattle.products.proofs.rounded.rare.Goals as goal
 
 pub returns-then-p-lt-WHOLE : goal.returns-then-p-lt-WHOLE

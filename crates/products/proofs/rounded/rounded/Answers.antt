@@ -6,7 +6,6 @@ use native.Mathlib.Omega.{arith}
 use lib.Dec.{ltb}
 use Rattle.unpacked.specs.Exact.{Usual}
 use Rattle.unpacked.proofs.Ranges.{range_yes}
-use borrow.Author.Rules.{rules}
 use Rattle.products.proofs.rounded.rounded.Goals as goal
 
 usual : (e : ℕ) (b : Bool) → b ≡ cond (ltb e 926) false (ltb e 1179) → b ≡ true → Usual e

@@ -1,6 +1,5 @@
 -- `products::rounded::rounded_up` meets its contract: the product with the other sign, rounded down.
-use Rattle.unpacked.proofs.RoundedProducts.{turned_formed, rounded_turned}
-use borrow.Author.Rules.{rules}
+use Rattle.unpacked.proofs.RoundedProducts.{rounded_turned}
 use Rattle.products.proofs.rounded.rounded_up.Goals as goal
 
 pub returns : goal.returns

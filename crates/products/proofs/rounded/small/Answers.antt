@@ -1,7 +1,7 @@
 -- `products::rounded::small` meets its contract: by the law `units`.
-use mathlib.Core.Path.{◌≡◌, sym, ap₂, ◌∙◌, subst}
+use mathlib.Core.Path.{◌≡◌, ap₂, ◌∙◌, subst}
 use mathlib.Core.Option.{some}
-use Prim.Native.Nat.{ℕ, ◌-◌, ◌^◌, ◌≤◌, ◌<◌, min}
+use Prim.Native.Nat.{ℕ, ◌^◌, ◌≤◌, ◌<◌}
 use native.Mathlib.Omega.{arith}
 use lib.IntN.{ℤ, nat_abs}
 use lib.Signed.{mag}
@@ -9,7 +9,6 @@ use mir.Syntax.{w64}
 use mir.Val.{to_z, of_z}
 use Rattle.binary32.proofs.Ints.{read, read_small}
 use Rattle.unpacked.specs.Number.{Holds}
-use borrow.Author.Rules.{rules}
 use Rattle.products.proofs.rounded.small.Goals as goal
 
 -- the units, read back

@@ -6,7 +6,6 @@ use mir.Syntax.{w64}
 use mir.ValLaws.{to_z-of_z}
 use Rattle.algebra.proofs.Absolute.{nat_abs_mul}
 use Rattle.algebra.proofs.Machine.{fits_nat_abs}
-use borrow.Author.Rules.{rules}
 use Rattle.products.proofs.shifts.multiplied.Goals as goal
 
 pub returns : goal.returns

@@ -1,6 +1,5 @@
 -- `products::shifts::nearest` meets its contract: by `near_shift`.
-use borrow.Author.Rules.{rules}
-use Rattle.unpacked.proofs.NearShifts.{first_fits, quotient_few, second_fits, near_shift}
+use Rattle.unpacked.proofs.NearShifts.{first_fits, near_shift}
 use Rattle.products.proofs.shifts.nearest.Goals as goal
 
 pub overflow_add-t : goal.overflow_add-t

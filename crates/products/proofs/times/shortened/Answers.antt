@@ -1,10 +1,9 @@
 -- `products::times::shortened` meets its contract.
-use mathlib.Core.Path.{refl, ap, ◌∙◌, subst, sym}
-use Prim.Native.Nat.{◌^◌, ◌≤◌}
+use mathlib.Core.Path.{refl, ap, ◌∙◌}
+use Prim.Native.Nat.{◌^◌}
 use native.Mathlib.Omega.{arith}
-use lib.IntN.{ℤ, nat_abs}
+use lib.IntN.{ℤ}
 use Rattle.binary32.proofs.Ints.{read, read_small}
-use borrow.Author.Rules.{rules}
 use Rattle.products.proofs.times.shortened.Goals as goal
 
 pub returns : goal.returns

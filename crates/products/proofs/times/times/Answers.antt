@@ -7,7 +7,7 @@ use lib.Signed.{mag}
 use mir.Syntax.{w64}
 use mir.Val.{to_z, of_z}
 use Rattle.binary32.proofs.Ints.{read, read_small}
-use Rattle.unpacked.proofs.ExactProducts.{p_few, times_small, times_large}
+use Rattle.unpacked.proofs.ExactProducts.{times_small, times_large}
 use Rattle.products.proofs.times.times.Goals as goal
 
 -- the product read back
