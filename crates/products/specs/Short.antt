@@ -1,5 +1,5 @@
 -- What a direction of rounding must keep, so that sums and products of unpacked numbers can be rounded in it by dropping bits. Definitions only.
-use Rattle.std.specs.Prelude.{◌≡◌, ℕ, ◌-◌, ◌*◌, ◌^◌, ◌≤◌, ◌<◌, min, ℤ, pos, neg_ℤ, nat_abs, ◌+ℤ◌}
+use Rattle.std.specs.Prelude.{ℕ, ◌-◌, ◌^◌, ◌≤◌, ◌<◌, min, ℤ, nat_abs, ◌+ℤ◌}
 use Rattle.std.proofs.Math.Option.{Option, some, bind}
 use Rattle.rounding.specs.Format.{binary32}
 use Rattle.binary32.specs.Operations.{Way}

@@ -32,6 +32,7 @@ pub fn twice_error(size: Number, k: usize) -> Number
     requires { IsNumber size × Below size × (k ≤ 32) }
     ensures { TwiceError k (neg_ℤ (worth size)) result }
 {
+    // `as`, since a usize has no `From` into u64.
     let spacings = scaled(whole(with_sign(true, k as u64 + 1)), spacing_exponent(size));
     scaled(plus_negative::<Down>(spacings, whole(MINUS_NORMAL)), 1)
 }

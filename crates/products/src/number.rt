@@ -20,6 +20,7 @@ const DROPPED: u32 = 38;
 const GAIN: u32 = DROPPED - GUARD;
 
 // Whether |x| is at most the largest number.
+#[tactic(auto, using(unpacked::proofs::Worths::fits_below, unpacked::proofs::Worths::fits_beyond, unpacked::proofs::Worths::fits_last))]
 pub fn fits(x: Number) -> bool
     requires { Normal x }
     ensures { result ≡ leb (nat_abs (worth x)) (MAX binary32) }

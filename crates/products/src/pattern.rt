@@ -45,7 +45,10 @@ pub fn unpack(p: u32) -> Number
     let e = t / Binary32::HIDDEN;
     if is_normal(e) {
         return Number {
-            sig: with_sign(Binary32::SIGN <= p, u64::from(t % Binary32::HIDDEN + Binary32::HIDDEN)),
+            sig: with_sign(
+                Binary32::SIGN <= p,
+                u64::from(t % Binary32::HIDDEN + Binary32::HIDDEN),
+            ),
             exp: e + FIELD_TO_EXPONENT,
         };
     }
@@ -53,6 +56,7 @@ pub fn unpack(p: u32) -> Number
 }
 
 // The pattern without sign of m × 2^(exp - 400) units: m has 24 bits, and below the exponent 400 its last bits are zeros that are shifted out.
+#[tactic(auto, using(unpacked::proofs::Packing::fields_high, unpacked::proofs::Packing::fields_capped))]
 fn fields(m: u64, exp: u32) -> u32
     requires { (m ≤ 2 ^ 24) × (64 ≤ exp) × (exp ≤ 653) }
     ensures { result ≡ fields_of m exp }

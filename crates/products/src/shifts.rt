@@ -11,6 +11,8 @@ pub const GUARD: u32 = 36;
 // A shift by this many places loses all bits of a significand with its guard bits: 0 or -1 remains.
 pub const ALL: u32 = 61;
 
+// `power` and `with_sign` are in binary32's parts.rt too, which is private to that crate: made public, they would ask their bounds of every caller.
+
 // 2^n
 fn power(n: u32) -> i64
     requires { n ≤ 62 }

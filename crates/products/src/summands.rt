@@ -12,7 +12,7 @@ const LONGEST: i64 = -0x1000_0000_0000_0000;
 // Dropped where a sum has 25 bits in front of the guard bits.
 pub const GUARD_AND_CARRY: u32 = GUARD + 1;
 
-// The summand with the larger exponent, x where the exponents are equal, and the other one.
+// The summand with the larger exponent, x where the exponents are equal, and the other one. (binary32's exact.rt orders summands of a type of its own.)
 #[tactic(auto, unfolding(unpacked::specs::Cuts::earlier, unpacked::specs::Cuts::later))]
 fn in_order(x: Number, y: Number) -> (Number, Number)
     ensures { result ≡ (earlier x y, later x y) }

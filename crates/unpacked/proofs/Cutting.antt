@@ -5,8 +5,8 @@ use native.Mathlib.Omega.{arith}
 use lib.Pow.{pow_pos}
 use lib.Count.{count_leading_zeros}
 use lib.IntN.{ℤ, pos, negsuc, nat_abs, ◌*ℤ◌}
-use lib.Signed.{mag, shr_z}
-use Rattle.unpacked.specs.Cuts.{room, nearest_of, CutDown, CutNear, OrLow, Filled}
+use lib.Signed.{mag}
+use Rattle.unpacked.specs.Cuts.{room, nearest_of, CutNear, OrLow, Filled}
 use Rattle.unpacked.proofs.Leading.{Lead, wide_abs}
 use Rattle.unpacked.proofs.Quotients.{nearest_scale}
 

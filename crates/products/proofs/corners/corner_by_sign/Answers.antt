@@ -6,12 +6,6 @@ use Rattle.binary32.proofs.Ints.{test}
 use Rattle.unpacked.proofs.CornerSteps.{by_sign_is}
 use Rattle.products.proofs.corners.corner_by_sign.Goals as goal
 
-pub corner_of-requires : goal.corner_of-requires
-corner_of-requires c = (c.requires.0, c.requires.2)
-
-pub corner_of-requires-else-x-lt0 : goal.corner_of-requires-else-x-lt0
-corner_of-requires-else-x-lt0 c = (c.requires.0, c.requires.1)
-
 pub returns-then-x-lt0 : goal.returns-then-x-lt0
 returns-then-x-lt0 c =
     let x = c.args.x.sig in

@@ -8,7 +8,6 @@ use lib.Signed.{lt_z}
 use mir.Syntax.{w64}
 use mir.Val.{SFits, of_z, to_z}
 use mir.ValLaws.{to_z-of_z, to_z_pos}
-use borrow.Author.Rules.{rules}
 use borrow.Author.Tests.{ltb-true}
 use Rattle.algebra.proofs.Machine.{fits_nat_abs}
 use Rattle.rounding.proofs.Sign.{nat_abs_neg}
@@ -61,17 +60,6 @@ module _ (s : ℤ) (e : ℕ) (few : nat_abs s ≤ 2 ^ 48) (low : e ≤ 5000) (f 
 
   kept : {z : ℤ} → z ≡ rank_of s e → to_z w64 (of_z w64 z) ≡ rank_of s e
   kept h = ap (λ z. to_z w64 (of_z w64 z)) h ∙ to_z-of_z w64 (rank_of s e) rank_fits
-
-pub overflow_mul-k : goal.overflow_mul-k
-overflow_mul-k c = shift_fits c.args.sig c.args.exp c.requires.0 c.requires.1 c.from-k.result c.from-k.ensures
-
-pub overflow_sub-result : goal.overflow_sub-result
-overflow_sub-result c =
-    subst (SFits w64) (sym (below c.args.sig c.args.exp c.requires.0 c.requires.1 c.from-k.result c.from-k.ensures c.if-sig-lt0.true)) (rank_fits c.args.sig c.args.exp c.requires.0 c.requires.1 c.from-k.result c.from-k.ensures)
-
-pub overflow_add-result : goal.overflow_add-result
-overflow_add-result c =
-    subst (SFits w64) (sym (above c.args.sig c.args.exp c.requires.0 c.requires.1 c.from-k.result c.from-k.ensures c.if-sig-lt0.false)) (rank_fits c.args.sig c.args.exp c.requires.0 c.requires.1 c.from-k.result c.from-k.ensures)
 
 pub returns-then-sig-lt0 : goal.returns-then-sig-lt0
 returns-then-sig-lt0 c =

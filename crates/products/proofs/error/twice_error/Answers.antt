@@ -5,7 +5,6 @@ use native.Mathlib.Omega.{arith}
 use lib.IntN.{ℤ, pos, neg_ℤ, nat_abs}
 use mir.Syntax.{w64}
 use mir.Val.{to_z, of_z}
-use borrow.Author.Rules.{rules}
 use mathlib.Core.Option.{some}
 use Rattle.algebra.specs.Order.{◌≼◌}
 use Rattle.rounding.specs.Format.{binary32, Num, expo, spacing}

@@ -13,7 +13,6 @@ use Rattle.binary32.proofs.Ints.{read, read_small}
 use Rattle.unpacked.specs.Cuts.{room, OrLow}
 use Rattle.unpacked.proofs.Leading.{Lead, lead_of, wide_abs}
 use Rattle.unpacked.proofs.Cutting.{room_is}
-use borrow.Author.Rules.{rules}
 use Rattle.products.proofs.number.cut.Goals as goal
 
 -- w, and m, which are its digits
@@ -40,12 +39,6 @@ module _ (w : ℤ) (h : nat_abs w ≤ 2 ^ 61) where
   wide_few : nat_abs (w *ℤ pos (2 ^ room w)) ≤ 2 ^ 62
   wide_few = omega (arith, nat_abs_mul w (pos (2 ^ room w)), wide_abs w (room w) led)
 
-pub overflow_mul-z : goal.overflow_mul-z
-overflow_mul-z g c = record { fits = omega (arith, few c.args.w c.requires.0 c.digits.result c.digits.ensures) }
-
-pub overflow_add-z : goal.overflow_add-z
-overflow_add-z g c = record { fits = omega (arith, few c.args.w c.requires.0 c.digits.result c.digits.ensures) }
-
 pub widened-requires : goal.widened-requires
 widened-requires g c =
     let w = c.args.w in
@@ -57,10 +50,6 @@ shorten-requires g c =
     let w = c.args.w in
     let h = c.requires.0 in
     (subst (λ (t : ℤ). nat_abs t ≤ 2 ^ 62) (sym (wide_is w h c.digits.result c.digits.ensures c.widened.result c.widened.type_inv c.widened.ensures)) (wide_few w h), omega arith, omega arith)
-
-pub overflow_sub-exp : goal.overflow_sub-exp
-overflow_sub-exp g c =
-    omega (arith, zeros c.args.w c.requires.0 c.digits.result c.digits.ensures, (led c.args.w c.requires.0).low, c.requires.1)
 
 pub returns : goal.returns
 returns g c =

@@ -1,5 +1,5 @@
 -- `products::number::opposite` meets its contract: by `opposite_is`.
-use mathlib.Core.Path.{◌≡◌, ap, ◌∙◌, subst, sym}
+use mathlib.Core.Path.{◌≡◌, ap, ◌∙◌}
 use native.Mathlib.Omega.{arith}
 use lib.IntN.{ℤ, pos, neg_ℤ, ◌-ℤ◌, +ℤ_idl}
 use mir.Syntax.{w64}
@@ -18,9 +18,6 @@ is x n = +ℤ_idl (neg_ℤ (to_z w64 (of_z w64 x.sig))) ∙ ap neg_ℤ (read_sma
 
 fits : (x : Number) → Normal x → SFits w64 (neg_ℤ x.sig)
 fits x n = fits_nat_abs (neg_ℤ x.sig) (omega (arith, nat_abs_neg x.sig, n.few))
-
-pub overflow_sub-result : goal.overflow_sub-result
-overflow_sub-result c = subst (SFits w64) (sym (is c.args.x c.requires)) (fits c.args.x c.requires)
 
 pub returns : goal.returns
 returns c =

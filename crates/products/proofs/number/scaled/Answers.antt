@@ -6,7 +6,6 @@ use lib.IntN.{ℤ}
 use Rattle.binary32.proofs.Ints.{read_small}
 use Rattle.unpacked.specs.Number.{Scaled}
 use Rattle.unpacked.proofs.Scaling.{scaled_is}
-use borrow.Author.Rules.{rules}
 use Rattle.products.proofs.number.scaled.Goals as goal
 
 pub returns : goal.returns

@@ -2,13 +2,10 @@
 use mathlib.Core.Path.{sym, ap, ◌∙◌}
 use lib.Dec.{leb}
 use Rattle.binary32.specs.Number.{signed_by}
-use mathlib.Core.Logic.{◌⊎◌, inl, inr, ⊎_elim}
-use Prim.Native.Nat.{ℕ, ◌*◌, ◌/◌, ◌%◌, ◌^◌, ◌≤◌, ◌<◌}
-use native.Mathlib.Omega.{arith}
+use Prim.Native.Nat.{◌/◌, ◌%◌, ◌^◌}
 use Rattle.binary32.proofs.Ints.{read}
-use Rattle.unpacked.proofs.Ranges.{range_yes, range_no}
+use Rattle.unpacked.proofs.Ranges.{range_yes}
 use Rattle.unpacked.proofs.Unpacking.{unpacked_normal}
-use borrow.Author.Rules.{rules}
 use Rattle.products.proofs.pattern.unpack.Goals as goal
 
 pub returns-then-is_normal : goal.returns-then-is_normal
@@ -16,11 +13,3 @@ returns-then-is_normal c =
     let p = c.args.p in
     let y = range_yes (p % 2 ^ 31 / 2 ^ 23) 1 255 (sym c.is_normal.ensures ∙ c.if-is_normal.true) in
     unpacked_normal p _ y.0 y.1 (read c.with_sign.result c.with_sign.type_inv ∙ c.with_sign.ensures ∙ ap (signed_by (leb (2 ^ 31) p)) c.from.ensures)
-
-other : (t : ℕ) → (t / 2 ^ 23 < 1) ⊎ (255 ≤ t / 2 ^ 23) → (t < 2 ^ 23) ⊎ (255 * 2 ^ 23 ≤ t)
-other t h = ⊎_elim (λ (l : t / 2 ^ 23 < 1). inl (omega arith)) (λ (l : 255 ≤ t / 2 ^ 23). inr (omega arith)) h
-
-pub unpack_other-requires : goal.unpack_other-requires
-unpack_other-requires c =
-    let t = c.args.p % 2 ^ 31 in
-    other t (range_no (t / 2 ^ 23) 1 255 (sym c.is_normal.ensures ∙ c.if-is_normal.false))

@@ -21,9 +21,6 @@ few w h = subst (λ (t : ℤ). nat_abs t ≤ 2 ^ 62) (sym (plain w h)) (omega ar
 told : (w : ℤ) (b : Bool) → nat_abs w ≤ 2 ^ 61 → b ≡ ltb (2 ^ 60) (nat_abs (to_z w64 (of_z w64 w))) → ltb (2 ^ 60) (nat_abs w) ≡ b
 told w b h e = ap (λ (t : ℤ). ltb (2 ^ 60) (nat_abs t)) (sym (plain w h)) ∙ sym e
 
-pub shorten-requires : goal.shorten-requires
-shorten-requires g c = (few c.args.w c.requires.0.few, omega arith, omega arith)
-
 pub returns-then-carried : goal.returns-then-carried
 returns-then-carried g c =
     let w = c.args.w in
@@ -33,9 +30,6 @@ returns-then-carried g c =
       carry = λ _. (read c.shorten.result c.shorten.type_inv ∙ c.shorten.ensures ∙ ap (λ (z : ℤ). g.D.Short.part z (2 ^ 37)) (plain w f), refl);
       plain = λ l. absurd (not-le_of_lt h l);
     }
-
-pub shorten-requires-2 : goal.shorten-requires-2
-shorten-requires-2 g c = (few c.args.w c.requires.0.few, omega arith, omega arith)
 
 pub returns : goal.returns
 returns g c =

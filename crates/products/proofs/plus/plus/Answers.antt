@@ -1,13 +1,9 @@
 -- `products::plus::plus` meets its contract: by the law `sums`.
 use Rattle.unpacked.proofs.Partials.{summands}
-use borrow.Author.Rules.{rules}
 use Rattle.products.proofs.plus.plus.Goals as goal
 
 pub add-requires : goal.add-requires
 add-requires g c = summands c.args.s c.args.y c.requires.0 c.requires.1
-
-pub limit_sum-requires : goal.limit_sum-requires
-limit_sum-requires g c = g.met.D.Short.laws.normal _ _ c.add.ensures
 
 pub returns : goal.returns
 returns g c =

@@ -5,7 +5,6 @@ use native.Mathlib.Nat.{not-le_of_lt}
 use native.Mathlib.Omega.{arith}
 use Rattle.unpacked.specs.Number.{Holds}
 use Rattle.unpacked.proofs.Unpacking.{none_holds}
-use borrow.Author.Rules.{rules}
 use Rattle.products.proofs.rounded.rare.Goals as goal
 
 pub returns-then-p-lt-WHOLE : goal.returns-then-p-lt-WHOLE
@@ -16,12 +15,6 @@ returns-then-p-gt-LARGEST_PRODUCT g c = record {
   number = λ X i. absurd (not-le_of_lt c.if-p-gt-LARGEST_PRODUCT.true i.high);
   none = λ l. subst (Holds none) (sym c.none.ensures) none_holds;
 }
-
-pub limit-requires : goal.limit-requires
-limit-requires g c = (
-  g.met.D.Short.laws.whole c.requires c.if-p-lt-WHOLE.false c.if-p-gt-LARGEST_PRODUCT.false c.shortened.ensures,
-  omega (arith, c.if-p-gt-LARGEST_PRODUCT.false, c.shortened.ensures.exps),
-)
 
 pub returns : goal.returns
 returns g c = record {

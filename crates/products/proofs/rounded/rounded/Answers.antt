@@ -6,7 +6,6 @@ use native.Mathlib.Omega.{arith}
 use lib.Dec.{ltb}
 use Rattle.unpacked.specs.Exact.{Usual}
 use Rattle.unpacked.proofs.Ranges.{range_yes}
-use borrow.Author.Rules.{rules}
 use Rattle.products.proofs.rounded.rounded.Goals as goal
 
 usual : (e : ℕ) (b : Bool) → b ≡ cond (ltb e 926) false (ltb e 1179) → b ≡ true → Usual e
@@ -17,9 +16,6 @@ within e h = omega arith
 
 beyond : (e : ℕ) → e < 1179 → 1307 < e → ⊥
 beyond e h k = omega arith
-
-pub shortened-requires : goal.shortened-requires
-shortened-requires g c = (c.requires.few, (usual c.args.p.exp _ c.is_usual.ensures c.if-is_usual.true).0)
 
 pub returns-then-is_usual : goal.returns-then-is_usual
 returns-then-is_usual g c =

@@ -1,10 +1,6 @@
 -- `products::rounded::rounded_up` meets its contract: the product with the other sign, rounded down.
-use Rattle.unpacked.proofs.RoundedProducts.{turned_formed, rounded_turned}
-use borrow.Author.Rules.{rules}
+use Rattle.unpacked.proofs.RoundedProducts.{rounded_turned}
 use Rattle.products.proofs.rounded.rounded_up.Goals as goal
-
-pub rounded-requires : goal.rounded-requires
-rounded-requires c = turned_formed c.requires c.turned.ensures
 
 pub returns : goal.returns
 returns c = rounded_turned c.turned.ensures c.rounded.ensures

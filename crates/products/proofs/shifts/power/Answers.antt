@@ -5,7 +5,6 @@ use lib.Pow.{pow-lt}
 use mir.Syntax.{w64}
 use mir.ValLaws.{to_z_pos}
 use Rattle.binary32.proofs.Rests.{shifted}
-use borrow.Author.Rules.{rules}
 use Rattle.products.proofs.shifts.power.Goals as goal
 
 pub returns : goal.returns

@@ -1,15 +1,10 @@
 -- `products::times::shortened` meets its contract.
-use mathlib.Core.Path.{refl, ap, ◌∙◌, subst, sym}
-use Prim.Native.Nat.{◌^◌, ◌≤◌}
+use mathlib.Core.Path.{refl, ap, ◌∙◌}
+use Prim.Native.Nat.{◌^◌}
 use native.Mathlib.Omega.{arith}
-use lib.IntN.{ℤ, nat_abs}
+use lib.IntN.{ℤ}
 use Rattle.binary32.proofs.Ints.{read, read_small}
-use borrow.Author.Rules.{rules}
 use Rattle.products.proofs.times.shortened.Goals as goal
-
-pub shorten-requires : goal.shorten-requires
-shorten-requires g c =
-    (subst (λ (t : ℤ). nat_abs t ≤ 2 ^ 62) (sym (read_small c.args.p.sig (omega (arith, c.requires.0)))) (omega (arith, c.requires.0)), omega arith, omega arith)
 
 pub returns : goal.returns
 returns g c = record {

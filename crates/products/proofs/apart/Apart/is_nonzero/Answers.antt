@@ -2,7 +2,6 @@
 use native.Mathlib.Omega.{arith}
 use Rattle.products.specs.Apart.{lower_number, upper_number}
 use Rattle.unpacked.proofs.Packing.{exp_high}
-use borrow.Author.Rules.{rules}
 use Rattle.products.proofs.apart.Apart.is_nonzero.Goals as goal
 
 pub overflow_add-result : goal.overflow_add-result

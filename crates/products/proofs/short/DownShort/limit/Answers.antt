@@ -7,7 +7,6 @@ use Rattle.binary32.proofs.Ints.{test}
 use Rattle.unpacked.specs.Number.{worth, Holds}
 use Rattle.unpacked.specs.Cuts.{limited}
 use Rattle.unpacked.proofs.Limits.{limit_fits, limit_below, limit_above}
-use borrow.Author.Rules.{rules}
 use Rattle.products.proofs.short.DownShort.limit.Goals as goal
 
 pub returns-then-fits : goal.returns-then-fits

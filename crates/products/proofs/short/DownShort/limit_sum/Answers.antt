@@ -2,7 +2,6 @@
 use mathlib.Core.Path.{sym}
 use Rattle.unpacked.proofs.Worths.{fits_below}
 use Rattle.unpacked.proofs.Limits.{limit_fits}
-use borrow.Author.Rules.{rules}
 use Rattle.products.proofs.short.DownShort.limit_sum.Goals as goal
 
 pub returns-then-x-lt-LARGEST_EXPONENT : goal.returns-then-x-lt-LARGEST_EXPONENT
