@@ -32,6 +32,11 @@ module _ (s a b : ℕ × ℕ) where
   abbrev numbers : Bool
   numbers = finites s.0 s.1
 
+  pub sums_faulty : first ≡ 0 → second ≡ 0 → (t : Bool) → numbers ≡ t → cond t 0 3 ≡ pair_fault s a b
+  unfolding pair_fault
+  sums_faulty e f t g =
+      ap (λ u. cond u 0 3) (sym g) ∙ ap₂ (λ t u. by_tests t u numbers first second) (sym (eq-eqb first 0 e)) (sym (eq-eqb second 0 f))
+
   -- sums and cells without a fault
   pub record Faultless : Type 0 where
     pub a_fine : first ≡ 0
