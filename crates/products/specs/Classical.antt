@@ -1,4 +1,4 @@
--- Method 1 on its way along a row and a column: the cells of a pair, and what the running sums hold after l pairs. Definitions only (02, P4).
+-- Method 1 on its way along a row and a column: the cells of a pair, and what the running sums hold after l pairs. Definitions only.
 use Rattle.std.specs.Prelude.{◌≡◌, false, ℕ, ◌+◌, ◌*◌}
 use Rattle.std.proofs.Math.Option.{Option}
 use Rattle.rounding.specs.Format.{binary32}
@@ -23,7 +23,7 @@ pattern_cell lo hi = cell_of (of binary32) (value_of lo) (value_of hi)
 
 -- row i of A (k columns) and column j of B (n columns)
 module _ (k n : ℕ) (A B : Matrix) (i j : ℕ) where
-  -- the lower and the upper sum of 01 over the first l pairs; none where either is refused
+  -- the lower and the upper sum over the first l pairs; none where either is refused
   unfoldable pub sums_to : ℕ → Option Range
   sums_to l = entry (of binary32) classical l (λ l. cell_at A (i * k + l)) (λ l. cell_at B (l * n + j))
 

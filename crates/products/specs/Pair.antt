@@ -1,4 +1,4 @@
--- A pair of cells added to the sums of an entry by method 1, all as patterns. Definitions only (01, "Four products"; 02, P7).
+-- A pair of cells added to the sums of an entry by method 1, all as patterns. Definitions only.
 -- Sums and cells are two patterns: those of the lower and of the upper bound.
 use Rattle.std.specs.Prelude.{cond, ℕ, eqb}
 use Rattle.std.proofs.Math.Option.{Option, none, some}
