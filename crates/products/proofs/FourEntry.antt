@@ -5,6 +5,8 @@ use mathlib.Core.Bool.{true, false}
 use mathlib.Core.List.{List}
 use mathlib.Core.Logic.{inl, inr}
 use mathlib.Core.Option.{Option, none, bind}
+use Rattle.std.specs.Prelude.{Option as Maybe, Some, None}
+use Rattle.products.specs.Entries.{Going}
 use Prim.Native.Nat.{ℕ, ◌+◌, ◌*◌, ◌≤◌, ◌<◌}
 use native.Mathlib.Omega.{arith}
 use lib.Dec.{ltb}
@@ -29,7 +31,7 @@ use Rattle.products.specs.Centred.{growth, zero_centred, AllNumbers, Added, refu
 use Rattle.products.specs.Continued.{Line, Reaches, grown_by, Continued}
 use Rattle.products.specs.Derived.{outer_of}
 use Rattle.products.specs.MidRad.{mid_rad_at, entry_from}
-use Rattle.products.specs.Spot.{Spot, a_mid, a_rad, b_mid, b_rad, left, right, middles, inners, MiddleSum}
+use Rattle.products.specs.Spot.{Spot, a_mid, a_rad, b_mid, b_rad, left, right, middles, inners, MiddleSum, MiddleNone, MiddleAfter}
 use Rattle.products.proofs.Carrying.{holds_runs, holds_none, zero_below, mirrored_is, negate_none}
 use Rattle.products.proofs.Radii.{grown_below}
 use Rattle.products.proofs.MidRadSteps.{mid_is, inner_is, outer_is}
@@ -48,10 +50,6 @@ module _ (p : Spot) where
   -- ---- the sums over midpoints after one pair more: each a number or none
   unfoldable pub MiddleNext : ℕ → Centred → Type 0
   MiddleNext l s = CentredHolds (middles p down (l + 1)) (middles p up (l + 1)) (inners p (l + 1)) s × Below s.radius
-
-  -- one of them is none in the end
-  unfoldable pub MiddleNone : Type 0
-  MiddleNone = OneNone (middles p down p.k) (middles p up p.k) (inners p p.k)
 
   pub middle_start : MiddleSum p 0 zero_centred
   unfolding MiddleSum middles inners
@@ -75,7 +73,7 @@ module _ (p : Spot) where
   unfolding MiddleSum MiddleNext
   middle_more l r H t = (centred_runs _ _ _ r H.0 t, H.1)
 
-  pub middle_none : (l : ℕ) (r : Centred) → MiddleNext l r → l < p.k → refused_centred r ≡ true → MiddleNone
+  pub middle_none : (l : ℕ) (r : Centred) → MiddleNext l r → l < p.k → refused_centred r ≡ true → MiddleNone p
   unfolding MiddleNext MiddleNone middles inners
   middle_none l r H h t = one_stays _ _ _ (pos 0) (pos 0) (pos 0) l p.k h (centred_none _ _ _ r H.0 t)
 
@@ -118,7 +116,7 @@ module _ (p : Spot) where
     outer_none x r C t = negate_none _ (holds_none _ r (outer_holds x r C) t)
 
   -- ---- the entry, at position c by rows
-  pub radius_stays : MiddleNone → (next : ℤ → Option ℤ) → OneNone (middles p down p.k) (middles p up p.k) (bind (inners p p.k) next)
+  pub radius_stays : MiddleNone p → (next : ℤ → Option ℤ) → OneNone (middles p down p.k) (middles p up p.k) (bind (inners p p.k) next)
   unfolding MiddleNone bind
   radius_stays (inl e) next = inl e
   radius_stays (inr (inl e)) next = inr (inl e)
@@ -136,8 +134,13 @@ module _ (p : Spot) where
     unfolding entry radius₄ centre total middles inners outers
     is = position_entry_from four p.k p.n p.i p.j c at in_row p.ma p.ra p.mb p.rb
 
-    pub four_middle : MiddleNone → entry_by four c ≡ none
+    four_middle : MiddleNone p → entry_by four c ≡ none
     four_middle o = is ∙ ends_none radius (middles p down p.k) (middles p up p.k) (radius_stays o (λ v. outers v p.k))
+
+    -- the sums after a pair more, or no entry
+    pub four_goes : (l : ℕ) (r : Maybe Centred) → MiddleAfter p l r → Going (MiddleSum p (l + 1)) (entry_by four c) r
+    four_goes l None o = four_middle o
+    four_goes l (Some t) S = S
 
     pub four_outer : (s : Centred) → MiddleSum p p.k s → outers (neg_ℤ (worth s.radius)) p.k ≡ none → entry_by four c ≡ none
     four_outer s S e = is ∙ ends_none radius (middles p down p.k) (middles p up p.k) (inr (inr (radius_is s S (λ v. outers v p.k) ∙ e)))

@@ -4,6 +4,8 @@ use mathlib.Core.Bool.{Bool, true, false}
 use mathlib.Core.List.{List}
 use mathlib.Core.Logic.{inl, inr}
 use mathlib.Core.Option.{Option, none, some, bind, none-ne-some}
+use Rattle.std.specs.Prelude.{Option as Maybe, Some, None}
+use Rattle.products.specs.Entries.{Going}
 use Prim.Native.Nat.{ℕ, ◌+◌, ◌*◌, ◌<◌}
 use lib.IntN.{ℤ, neg_ℤ}
 use lib.ListN.{get_or}
@@ -27,8 +29,8 @@ use Rattle.products.specs.Derived.{part_of}
 use Rattle.products.proofs.Carrying.{bind_some, bind_none, mirrored_is, negate²}
 use Rattle.products.proofs.MidRadSteps.{part_is, shared_is}
 use Rattle.products.proofs.Ending.{ends_none, ends_hold, position_entry_from}
-use Rattle.products.specs.Spot.{Spot, a_mid, a_rad, b_mid, b_rad, left, right, middles, inners, MiddleSum}
-use Rattle.products.proofs.FourEntry.{entry_by, line, outers, MiddleNone}
+use Rattle.products.specs.Spot.{Spot, a_mid, a_rad, b_mid, b_rad, left, right, middles, inners, MiddleSum, MiddleNone, MiddleAfter}
+use Rattle.products.proofs.FourEntry.{entry_by, line, outers}
 
 module _ (p : Spot) where
   -- a and b hold the parts of pair l
@@ -74,7 +76,7 @@ module _ (p : Spot) where
     unfolding entry radius₄ radius₇ centre centre₇ total middles inners outers parts shareds
     is = position_entry_from seven p.k p.n p.i p.j c at in_row p.ma p.ra p.mb p.rb
 
-    pub seven_middle : MiddleNone p → entry_by p seven c ≡ none
+    seven_middle : MiddleNone p → entry_by p seven c ≡ none
     unfolding MiddleNone
     seven_middle o = is ∙ ends_none radius (centred down) (centred up) (go o)
       where
@@ -82,6 +84,11 @@ module _ (p : Spot) where
         go (inl e) = inl (bind_none _ (λ v. parts down v p.k) e)
         go (inr (inl e)) = inr (inl (bind_none _ (λ v. parts up v p.k) e))
         go (inr (inr e)) = inr (inr (bind_none outer (λ v. shareds v p.k) (bind_none _ (λ v. outers p v p.k) e)))
+
+    -- the sums after a pair more, or no entry
+    pub seven_goes : (l : ℕ) (r : Maybe Centred) → MiddleAfter p l r → Going (MiddleSum p (l + 1)) (entry_by p seven c) r
+    seven_goes l None o = seven_middle o
+    seven_goes l (Some t) S = S
 
     pub seven_outer : (s : Centred) → MiddleSum p p.k s → outers p (neg_ℤ (worth s.radius)) p.k ≡ none → entry_by p seven c ≡ none
     seven_outer s S e = is ∙ ends_none radius (centred down) (centred up) (inr (inr (bind_none outer (λ v. shareds v p.k) (outer_is' s S ∙ e))))

@@ -1,4 +1,5 @@
--- The running sums of one entry, and the range that they hold. Definitions only, for the contracts of private functions.
+-- The running sums of one entry, and the range that they hold: a value that takes a pair of cells and comes back. Definitions only, for the contracts of
+-- private functions.
 use Rattle.std.specs.Prelude.{◌≡◌, Bool, true, false, cond, ltb, ℤ, neg_ℤ, ◌+ℤ◌, Option as Maybe, Some, None}
 use Rattle.std.proofs.Math.Option.{Option, none, some, bind}
 use Rattle.rounding.specs.Format.{binary32}

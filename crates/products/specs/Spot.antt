@@ -1,8 +1,7 @@
 -- One entry by methods 3, 4, 5 and 7 on its way: what is read for a pair, and the sums over midpoints after l pairs. Definitions only, for the contracts of
 -- private functions.
-use Rattle.std.specs.Prelude.{List, ℕ, ◌+◌, ◌*◌, pos, get_or}
+use Rattle.std.specs.Prelude.{List, ℕ, ◌+◌, ◌*◌, ℤ, pos, get_or, Option as Maybe, Some, None}
 use Rattle.std.proofs.Math.Option.{Option}
-use Rattle.std.specs.Prelude.{ℤ}
 use Rattle.rounding.specs.Format.{binary32}
 use Rattle.rounding.specs.Rounding.{up, down, near}
 use Rattle.enclosure.specs.Arithmetic.{of}
@@ -14,7 +13,7 @@ use Rattle.unpacked.specs.Number.{Below}
 use Rattle.products.specs.declared.centred.Centred.{Centred}
 use Rattle.products.specs.declared.nearest.Nearest.{Nearest}
 use Rattle.products.specs.declared.operands.Operands.{Operands}
-use Rattle.products.specs.Centred.{CentredSum, NearestSum}
+use Rattle.products.specs.Centred.{CentredSum, NearestSum, OneNone}
 use Rattle.products.specs.MidRad.{mid_rad_at}
 
 -- an entry's row i and column j, and the midpoints and radii of A (k columns) and of B (n columns)
@@ -61,6 +60,15 @@ module _ (p : Spot) where
 
   unfoldable pub MiddleSum : ℕ → Centred → Type 0
   MiddleSum l s = CentredSum (middles down l) (middles up l) (inners l) s × Below s.radius
+
+  -- one of them is none in the end
+  unfoldable pub MiddleNone : Type 0
+  MiddleNone = OneNone (middles down p.k) (middles up p.k) (inners p.k)
+
+  -- the sums after pair l too, or none, where one of them is none
+  abbrev pub MiddleAfter : ℕ → Maybe Centred → Type 0
+  MiddleAfter l None = MiddleNone
+  MiddleAfter l (Some t) = MiddleSum (l + 1) t
 
   -- ---- the first sums of method 3 after l pairs
   unfoldable pub raiseds : ℕ → Option ℤ

@@ -5,7 +5,8 @@ ghost use Rattle.matrices.specs.Matrix.{of_bounds, AllFine, mid_at, rad_at};
 
 use intervals::to_midrad;
 
-// Writes the midpoints and radii of the first count cells, which have no fault, to the front of mids and rads.
+// Writes the midpoints and radii of the first count cells, which have no fault, to the front of mids and rads. By index: of two slices that iter_mut writes
+// side by side nothing is known.
 pub fn convert(count: usize, lowers: &[u32], uppers: &[u32], mids: &mut [u32], rads: &mut [u32])
     requires { (count ≤ length lowers.now) × (count ≤ length uppers.now)
         × (count ≤ length mids.old) × (count ≤ length rads.old) × AllFine (of_bounds lowers.now uppers.now) count }

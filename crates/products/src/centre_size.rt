@@ -42,7 +42,8 @@ impl CentreSize {
 }
 
 // The sums after a step for each l below k, where x is the number of the word row[l] and y in row l and column j of `column` (n columns).
-// The loop ends at the first overflow, and the result is then refused. A product with zero, which alone has the exponent 64, adds nothing.
+// The loop ends at the first overflow, and the result is then refused. A product with zero, which alone has the exponent 64, adds nothing. By index: the cells
+// of a column are n apart, and step_by beside a row is no plainer.
 pub fn sum_pairs(
     centre: Number,
     size: Number,

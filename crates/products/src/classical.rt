@@ -57,6 +57,7 @@ impl<'a> Steps for Classical<'a> {
         [Apart::zero(); LARGEST_SIZE]
     }
 
+    // By index: of a slice that iter_mut writes beside two others nothing is known.
     fn take_apart(self, i: usize, row: &mut [Apart; LARGEST_SIZE]) {
         for l in 0..self.shape.k {
             let c = i * self.shape.k + l;

@@ -79,7 +79,7 @@ pub fn part(m: u32, r: u32) -> u32
     if m < Binary32::SIGN { p } else { negate(p) }
 }
 
-// What `of` makes of the first count cells, into the front of out.
+// What `of` makes of the first count cells, into the front of out. By index: of a slice that iter_mut writes beside two others nothing is known.
 pub fn derive_all<F: Fn(u32, u32) -> u32>(
     of: F,
     count: usize,

@@ -5,7 +5,7 @@ ghost use Rattle.products.specs.Derived.{Derived, outer_of};
 ghost use Rattle.products.specs.MidRad.{Fits, entries_of};
 ghost use Rattle.products.specs.Spot.{MiddleSum, spot};
 
-use crate::centred::{Centred, is_nonzero};
+use crate::centred::Centred;
 use crate::entries::{Shape, Steps};
 use crate::operands::Operands;
 use crate::radius::outer;
@@ -50,16 +50,7 @@ impl<'a> Steps for Four<'a> {
     }
 
     fn step(self, _row: &(), s: Centred, i: usize, j: usize, l: usize) -> Option<Centred> {
-        let x = self.of.ma[i * self.of.shape.k + l];
-        if !is_nonzero(x) {
-            return Some(s);
-        }
-        let b = l * self.of.shape.n + j;
-        let t = s.step::<4>(x, self.of.mb[b], self.of.rb[b]);
-        if t.refused() {
-            return None;
-        }
-        Some(t)
+        self.of.step::<4>(s, i, j, l)
     }
 
     fn finish(self, _row: &(), s: Centred, i: usize, j: usize) -> Option<Sums> {

@@ -47,7 +47,8 @@ mod sums;
 mod three;
 mod times;
 
-// The end of a product: where an entry was refused, sets all cells of the result to 0 and returns refusal 5 with its row and column.
+// The end of a product: where an entry was refused, sets all cells of the result to 0 and returns refusal 5 with its row and column. Both are below 32, so
+// that `as` loses nothing; a TryFrom would need a way out, and is no plainer.
 #[tactic(auto, using(intervals::proofs::Clearing::cleared_front))]
 fn finish(place: Option<Place>, count: usize, lo: &mut [u32], up: &mut [u32]) -> Result<(), Refusal>
     requires { (count ≤ length lo.old) × (count ≤ length up.old) × InReach place }

@@ -23,7 +23,7 @@ fn grown(radius: Number, u: u32, v: u32) -> Number
 }
 
 // The radius plus |u| × |w| for each l below k, where u is in row i and column l of ra (k columns) and w in row l and column j of wb (n columns).
-// The loop ends at the first overflow, and the result is then none.
+// The loop ends at the first overflow, and the result is then none. By index: the cells of a column are n apart, and step_by beside a row is no plainer.
 pub fn outer(
     radius: Number,
     k: usize,

@@ -12,7 +12,7 @@ const EXPONENTS: u64 = 0x800;
 // 2^24, which makes a significand in a word 0 or more.
 const OFFSET: i64 = 0x100_0000;
 
-// The word of a number.
+// The word of a number. `as` takes a significand that is not negative; a TryFrom would need a way out, so it is no plainer here and below.
 fn word_of(x: Number) -> u64
     requires { Part x }
     ensures { number_of result ≡ x }
@@ -30,7 +30,7 @@ pub fn number_of(w: u64) -> Number
     }
 }
 
-// The words of row i of the patterns (k columns), into the front of out.
+// The words of row i of the patterns (k columns), into the front of out. By index: of a slice that iter_mut writes beside another nothing is known.
 pub fn unpack_row(k: usize, i: usize, patterns: &[u32], out: &mut [u64])
     requires { RowReaches k i patterns.now × (k ≤ length out.old) }
     ensures { RowUnpacked k i patterns.now out.new }

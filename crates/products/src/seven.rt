@@ -15,7 +15,7 @@ use crate::sums::{Sums, ends};
 use unpacked::{Number, is_none};
 
 // The sums after a step for each l below k, where x is in row i and column l of pa (k columns) and y in row l and column j of pb (n columns).
-// The loop ends at the first overflow, and the result is then refused.
+// The loop ends at the first overflow, and the result is then refused. By index: the cells of a column are n apart, and step_by beside a row is no plainer.
 fn parts(
     lower: Number,
     opposed: Number,
@@ -92,16 +92,7 @@ impl<'a> Steps for Seven<'a> {
     }
 
     fn step(self, _row: &(), s: Centred, i: usize, j: usize, l: usize) -> Option<Centred> {
-        let x = self.of.ma[i * self.of.shape.k + l];
-        if !is_nonzero(x) {
-            return Some(s);
-        }
-        let b = l * self.of.shape.n + j;
-        let t = s.step::<7>(x, self.of.mb[b], self.of.rb[b]);
-        if t.refused() {
-            return None;
-        }
-        Some(t)
+        self.of.step::<7>(s, i, j, l)
     }
 
     fn finish(self, _row: &(), s: Centred, i: usize, j: usize) -> Option<Sums> {

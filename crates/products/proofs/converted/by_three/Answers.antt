@@ -3,16 +3,7 @@ use mathlib.Core.Path.{◌∙◌}
 use borrow.Author.Rules.{rules}
 use Rattle.products.specs.Derived.{outer_of}
 use Rattle.products.proofs.Derivations.{fitting, derived, factor_held}
-use Rattle.refusals.proofs.SizeLaws.{small}
 use Rattle.products.proofs.converted.by_three.Goals as goal
-
-pub derive_all-requires-clause-cells : goal.derive_all-requires-clause-cells
-derive_all-requires-clause-cells c =
-    (c.requires.b, small c.args.of.shape.k c.args.of.shape.n c.requires.inner c.requires.columns)
-
-pub derive_all-requires-2-clause-cells : goal.derive_all-requires-2-clause-cells
-derive_all-requires-2-clause-cells c =
-    (c.requires.b, small c.args.of.shape.k c.args.of.shape.n c.requires.inner c.requires.columns)
 
 pub entries-requires : goal.entries-requires
 entries-requires c =

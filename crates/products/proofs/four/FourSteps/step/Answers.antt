@@ -1,28 +1,8 @@
--- `Four::step` meets its contract: a pair that is passed over, and the sums after a pair.
-use mathlib.Core.Path.{refl, sym, ◌∙◌}
+-- `Four::step` meets its contract: where a sum is none, there is no entry.
+use mathlib.Core.Path.{refl}
 use Rattle.products.specs.Spot.{spot}
-use Rattle.products.proofs.FourEntry.{middle_numbers, middle_next, middle_more, middle_none, middle_skip, four_middle}
-use Rattle.products.proofs.Turns.{pair}
+use Rattle.products.proofs.FourEntry.{four_goes}
 use Rattle.products.proofs.four.FourSteps.step.Goals as goal
 
-pub returns-then-not-is_nonzero : goal.returns-then-not-is_nonzero
-returns-then-not-is_nonzero c =
-    middle_skip (spot c.args.self.of c.args.i c.args.j) c.args.l c.args.s c.requires.5 (sym c.is_nonzero.ensures ∙ c.if-not-is_nonzero.true)
-
-pub step-t-requires : goal.step-t-requires
-step-t-requires c =
-    let p = spot c.args.self.of c.args.i c.args.j in
-    let a = middle_numbers p _ _ c.requires.5 in
-    (a.0, a.1, (pair c.args.self.of.shape.m p c.requires.0.0 c.requires.1 c.requires.2 c.args.l c.requires.3).cell_first.mid)
-
-pub returns-then-refused : goal.returns-then-refused
-returns-then-refused c =
-    let p = spot c.args.self.of c.args.i c.args.j in
-    let P = pair c.args.self.of.shape.m p c.requires.0.0 c.requires.1 c.requires.2 c.args.l c.requires.3 in
-    four_middle p _ refl c.requires.2 (middle_none p c.args.l _ (middle_next p c.args.l _ c.args.s _ P c.requires.5 c.step-t.ensures) c.requires.3 (sym c.refused.ensures ∙ c.if-refused.true))
-
 pub returns : goal.returns
-returns c =
-    let p = spot c.args.self.of c.args.i c.args.j in
-    let P = pair c.args.self.of.shape.m p c.requires.0.0 c.requires.1 c.requires.2 c.args.l c.requires.3 in
-    middle_more p c.args.l _ (middle_next p c.args.l _ c.args.s _ P c.requires.5 c.step-t.ensures) (sym c.refused.ensures ∙ c.if-refused.false)
+returns c = four_goes (spot c.args.self.of c.args.i c.args.j) _ refl c.requires.2 c.args.l c.step.result c.step.ensures
