@@ -1,5 +1,6 @@
 // The value of a running entry in a lent slice: its first 11 numbers, which the functions for C (running_value.rt) read and write.
 ghost use Rattle.std.specs.Prelude.{◌≡◌, ◌++◌, ◌≤◌, leb, OnOk, length, drop};
+ghost use Rattle.refusals.specs.declared.reason.Reason.TheVariants.{ShortSlice};
 ghost use Rattle.refusals.specs.Refusal.{of_matrix};
 ghost use Rattle.refusals.specs.Answer.{unless};
 ghost use Rattle.coupling.specs.RunningValue.{words_of, value_in};
@@ -13,7 +14,7 @@ pub const WORDS: usize = 11;
 
 // Refusal 2 for a slice that is too short for a value.
 pub fn check_room(words: &[u32]) -> Result<(), Refusal>
-    ensures value { result ≡ unless (leb 11 (length words.now)) (of_matrix 2 0) }
+    ensures value { result ≡ unless (leb 11 (length words.now)) (of_matrix ShortSlice 0) }
     ensures room { OnOk result (11 ≤ length words.now) }
 {
     if words.len() < WORDS {
