@@ -1,4 +1,4 @@
--- What is printed, computed: no input, and one cell by method 4. Assumes nothing.
+-- What is printed, computed: no input, and the paper's example. Assumes nothing.
 use mathlib.Core.Path.{◌≡◌, refl}
 use mathlib.Core.List.{List, [], ◌∷◌, ◌++◌}
 use mathlib.Core.Option.{bind}

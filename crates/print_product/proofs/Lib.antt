@@ -1,6 +1,6 @@
+pub mod Puts
 pub mod DigitLaws
 pub mod LineLaws
-pub mod TextLaws
 pub mod InputLaws
 pub mod Answers
 pub mod Cuts

@@ -20,6 +20,10 @@ read_whole (Some s) (Some rest) n buf t l h f p e = go (ltb n 32802) refl
         let m : length (take n buf) ≡ 32802 = length-take-le n buf h ∙ k in
         f ∙ ap printed_of (sym (ap (take 32802) p ∙ take_at (take n buf) rest 32802 m)) ∙ printed_cut s
 
+-- what begins a buffer
+pub text_is : (k : ℕ) (t rest out : List ℕ) → k ≡ length t → out ≡ t ++ rest → take k out ≡ t
+text_is k t rest out h e = ap (take k) e ∙ take_at t rest k (sym h)
+
 -- what holds of the text t that is written holds of the text for the whole input a
 pub whole : (P : List ℕ → Type 0) (a : Option (List ℕ)) (t : List ℕ) → IfSome a (λ s. t ≡ printed_of s) → P t → IfSome a (λ s. P (printed_of s))
 whole P None t e p = tt

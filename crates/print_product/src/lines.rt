@@ -1,89 +1,89 @@
-// The lines of the printed text, as std's formatting writes them.
-ghost use Rattle.std.specs.Prelude.{◌≡◌, ◌≤◌, ◌<◌, Some, IfOk, IfSome};
-ghost use Rattle.std.specs.Fmt.{WritesOnOk};
-ghost use Rattle.std.specs.Fmt.InlineText.{inline_text};
-ghost use Rattle.print_product.specs.Lines.{cell_line, refused_line};
-ghost use Rattle.print_product.specs.Printed.{product_text};
+// The lines of the printed text, written into a buffer. Each function returns the index behind its last byte.
+ghost use Rattle.std.specs.Prelude.{◌+◌, ◌*◌, ◌≤◌, ◌<◌, length};
+ghost use Rattle.refusals.specs.Sizes.{most_cells};
+ghost use Rattle.print_product.specs.Lines.{product_line, cell_line, refused_line};
+ghost use Rattle.print_product.specs.Printed.{cell_lines, product_text};
+ghost use Rattle.print_product.specs.Put.{Put};
 
+use crate::put;
 use refusals::Refusal;
 use refusals::sizes::MOST_CELLS;
-use sheets::Sizes;
-use std::fmt;
-use std::fmt::{Display, InlineText, Write as _};
 
-// The length of the longest text: a first line of 16 bytes, and 24 bytes for each of 1,024 cells.
-pub const TEXT: usize = 24592;
-
-// A product, and the method that it was made by. Its cells stand by rows in the front of the two arrays.
-#[derive(Clone, Copy)]
-pub struct Product<'a> {
-    pub method: u8,
-    pub sizes: Sizes,
-    pub lowers: &'a [u32; MOST_CELLS],
-    pub uppers: &'a [u32; MOST_CELLS],
-    ghost rows: { sizes.rows ≤ 32 },
-    ghost some_column: { 0 < sizes.columns },
-    ghost columns: { sizes.columns ≤ 32 },
-}
-
-// The line "product", method, rows, columns; then the lines of the cells.
-impl Display for Product<'_> {
-    ghost output = { λ x. Some (product_text x.method x.sizes.rows x.sizes.columns x.lowers.now x.uppers.now) };
-
-    fn fmt<W: fmt::Write>(&self, f: &mut fmt::Formatter<W>) -> fmt::Result {
-        let Product {
-            method,
-            sizes,
-            lowers,
-            uppers,
-        } = *self;
-        let Sizes { rows, columns } = sizes;
-        writeln!(f, "product {method} {rows} {columns}")?;
-        for p in 0..rows * columns {
-            cell_line(f, p / columns, p % columns, lowers[p], uppers[p])?;
-        }
-        Ok(())
-    }
+// The line "product", method, rows, columns, at the start of out.
+fn product_line(out: &mut [u8], method: usize, rows: usize, columns: usize) -> usize
+    requires { (method < 10) × (rows < 100) × (columns < 100) × (16 ≤ length out.old) }
+    ensures { Put 0 (product_line method rows columns) out.old result out.new }
+{
+    let mut at = put::bytes(out, 0, b"product ");
+    at = put::decimal(out, at, method, b' ');
+    at = put::decimal(out, at, rows, b' ');
+    put::decimal(out, at, columns, b'\n')
 }
 
 // The line of a cell: row, column, lower bound, upper bound.
-fn cell_line<W: fmt::Write>(
-    f: &mut fmt::Formatter<W>,
+fn cell_line(
+    out: &mut [u8],
+    start: usize,
     row: usize,
     column: usize,
     lower: u32,
     upper: u32,
-) -> fmt::Result
-    ensures { WritesOnOk W.write_str_gives f.old result (cell_line row column lower upper) f.new }
+) -> usize
+    requires { (row < 100) × (column < 100) × (start + 24 ≤ length out.old) }
+    ensures { Put start (cell_line row column lower upper) out.old result out.new }
 {
-    writeln!(f, "{row} {column} {lower:08X} {upper:08X}")
+    let mut at = put::decimal(out, start, row, b' ');
+    at = put::decimal(out, at, column, b' ');
+    at = put::hexadecimal(out, at, lower, b' ');
+    put::hexadecimal(out, at, upper, b'\n')
 }
 
-// A refusal, which is printed in place of a product. (A type of its own: how it is printed is this program's.)
-#[derive(Clone, Copy)]
-pub struct Refused(pub Refusal);
-
-// The line "refused", number, matrix, row, column.
-impl Display for Refused {
-    ghost output = { λ x. Some (refused_line x.0) };
-
-    fn fmt<W: fmt::Write>(&self, f: &mut fmt::Formatter<W>) -> fmt::Result {
-        let Refusal {
-            reason,
-            matrix,
-            row,
-            column,
-        } = self.0;
-        let number = reason.number();
-        writeln!(f, "refused {number} {matrix} {row} {column}")
+// The lines of the first count cells, by rows.
+fn cell_lines(
+    out: &mut [u8],
+    start: usize,
+    columns: usize,
+    count: usize,
+    lowers: &[u32; MOST_CELLS],
+    uppers: &[u32; MOST_CELLS],
+) -> usize
+    requires { (0 < columns) × (columns ≤ 32) × (count ≤ 32 * columns) × (count ≤ most_cells) × (start + 24 * count ≤ length out.old) }
+    ensures { Put start (cell_lines columns lowers.now uppers.now count) out.old result out.new }
+{
+    let mut at = start;
+    let mut p = 0;
+    while p < count {
+        at = cell_line(out, at, p / columns, p % columns, lowers[p], uppers[p]);
+        p += 1;
     }
+    at
 }
 
-// What is written of a value.
-pub fn text_of<D: Display + Drop>(value: D) -> Result<InlineText<TEXT>, fmt::Error>
-    ensures { IfOk result (λ t. IfSome (D.output value) (λ bs. inline_text t ≡ bs)) }
+// The whole text of a product. 24,592 bytes are enough for it: 16 for the first line and 24 for each of 1,024 cells.
+pub fn product_text(
+    out: &mut [u8],
+    method: usize,
+    rows: usize,
+    columns: usize,
+    lowers: &[u32; MOST_CELLS],
+    uppers: &[u32; MOST_CELLS],
+) -> usize
+    requires { (method < 10) × (rows ≤ 32) × (0 < columns) × (columns ≤ 32) × (24592 ≤ length out.old) }
+    ensures { Put 0 (product_text method rows columns lowers.now uppers.now) out.old result out.new }
 {
-    let mut text = InlineText::new();
-    text.write(value)?;
-    Ok(text)
+    let at = product_line(out, method, rows, columns);
+    cell_lines(out, at, columns, rows * columns, lowers, uppers)
+}
+
+// The line "refused", number, matrix, row, column, at the start of out.
+pub fn refused_line(out: &mut [u8], refusal: Refusal) -> usize
+    requires { 24 ≤ length out.old }
+    ensures { Put 0 (refused_line refusal) out.old result out.new }
+{
+    let number = usize::from(refusal.reason.number());
+    let mut at = put::bytes(out, 0, b"refused ");
+    at = put::decimal(out, at, number, b' ');
+    at = put::decimal(out, at, usize::from(refusal.matrix), b' ');
+    at = put::decimal(out, at, usize::from(refusal.row), b' ');
+    put::decimal(out, at, usize::from(refusal.column), b'\n')
 }

@@ -4,57 +4,53 @@
 // read (`printed`), and over a reader and a writer whose bytes are known it is that for the whole input (`print`).
 #![tactic(auto)]
 
-ghost use Rattle.std.specs.Prelude.{◌≡◌, ◌≤◌, ◌<◌, length, take, IfOk, OnErr, IfSome};
-ghost use Rattle.std.specs.Fmt.InlineText.{inline_text};
+ghost use Rattle.std.specs.Prelude.{◌≡◌, ◌++◌, ◌≤◌, ◌<◌, length, take, drop, IfOk, OnErr, IfSome};
 ghost use Rattle.std.specs.Io.KnownBytes.{Consumes, IsAtEnd};
 ghost use Rattle.print_product.specs.Streams.{TakesSome, Writes};
 ghost use Rattle.print_product.specs.Printed.{sheets_text, printed_of};
+ghost use Rattle.print_product.specs.Put.{Put};
 
 mod input;
 mod lines;
+mod put;
 
-use lines::{Product, Refused, TEXT, text_of};
 use refusals::sizes::MOST_CELLS;
 use sheets::cut::first_length;
-use std::fmt::InlineText;
+use std::io;
 use std::io::{ErrorKind, Read, Write};
-use std::{fmt, io};
 
 // 1 + 16,400 + 16,401: a digit, the longest sheet A, and a sheet B that is one byte too long. Later bytes change nothing (proofs/Cuts).
 const INPUT: usize = 32802;
 
-// The text for an input. The error would be one of std's formatting, which promises its text at Ok alone; the room is enough for each text.
-fn printed(input: &[u8]) -> Result<InlineText<TEXT>, fmt::Error>
-    ensures text { IfOk result (λ t. inline_text t ≡ printed_of input.now) }
-    ensures fits { length (printed_of input.now) ≤ TEXT }
+// The length of the longest text: a first line of 16 bytes, and 24 bytes for each of 1,024 cells.
+const TEXT: usize = 24592;
+
+// Writes the text for an input to the front of out and returns its length.
+fn printed(input: &[u8], out: &mut [u8]) -> usize
+    requires { 24592 ≤ length out.old }
+    ensures size { result ≡ length (printed_of input.now) }
+    ensures left { out.new ≡ printed_of input.now ++ drop (length (printed_of input.now)) out.old }
 {
     let start = input.len().min(1);
-    sheets_text(input::method(input), &input[start..])
+    sheets_text(usize::from(input::method(input)), &input[start..], out)
 }
 
 // The same for a method and the bytes of both sheets, by the sheet job's reader and product.
-fn sheets_text(method: u8, s: &[u8]) -> Result<InlineText<TEXT>, fmt::Error>
-    requires { method < 10 }
-    ensures text { IfOk result (λ t. inline_text t ≡ sheets_text method s.now) }
-    ensures fits { length (sheets_text method s.now) ≤ TEXT }
+fn sheets_text(method: usize, s: &[u8], out: &mut [u8]) -> usize
+    requires { (method < 10) × (24592 ≤ length out.old) }
+    ensures { Put 0 (sheets_text method s.now) out.old result out.new }
 {
-    let mut lowers = [0u32; MOST_CELLS];
-    let mut uppers = [0u32; MOST_CELLS];
-    let (a, b) = s.split_at(first_length(s));
-    match job::multiply_sheets(u32::from(method), a, b, &mut lowers, &mut uppers) {
-        Ok(sizes) => text_of(Product {
-            method,
-            sizes,
-            lowers: &lowers,
-            uppers: &uppers,
-        }),
-        Err(refusal) => text_of(Refused(refusal)),
+    let mut lo = [0u32; MOST_CELLS];
+    let mut up = [0u32; MOST_CELLS];
+    let end = first_length(s);
+    match job::multiply_sheets(method as u32, &s[..end], &s[end..], &mut lo, &mut up) {
+        Ok(sizes) => lines::product_text(out, method, sizes.rows, sizes.columns, &lo, &up),
+        Err(r) => lines::refused_line(out, r),
     }
 }
 
 // Reads until buf is full or the input ends, and returns how many bytes were put at the start of buf: the first of the input, all of it where buf is
-// not full. A read that fails ends it; some first bytes of the input were taken then. (std's `read_exact` says nothing of an input that ends early, and
-// `read_to_end` wants a Vec: no heap.)
+// not full. A read that fails ends it; some first bytes of the input were taken then.
 fn read_full<R: Read>(input: &mut R, buf: &mut [u8]) -> io::Result<usize>
     ensures bound { IfOk result (λ n. n ≤ length buf.new) }
     ensures bytes { IfOk result (λ n. Consumes (R.remaining input.old) (R.remaining input.new) (take n buf.new)) }
@@ -94,8 +90,9 @@ fn print<R: Read, W: Write>(input: &mut R, output: &mut W) -> io::Result<()>
 {
     let mut bytes = [0u8; INPUT];
     let n = read_full(input, &mut bytes)?;
-    let text = printed(&bytes[..n])?;
-    write_full(output, text.as_str().as_bytes())
+    let mut text = [0u8; TEXT];
+    let k = printed(&bytes[..n], &mut text);
+    write_full(output, &text[..k])
 }
 
 fn main(rt: HostRuntime) -> io::Result<()> {
