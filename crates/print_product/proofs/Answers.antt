@@ -32,7 +32,7 @@ pub sheets_text_is : (method : ℕ) (s : List ℕ) (k : ℕ) → k ≡ first_len
 unfolding sheets_text
 sheets_text_is method s k e = ap₂ (λ a b. answer_text method (job_product method a b)) (ap (λ n. take n s) e) (rest_is s k ∙ ap (λ n. drop n s) e)
 
-pub printed_is : (s : List ℕ) (m k : ℕ) → m ≡ method_in s → k ≡ min 1 (length s) → sheets_text m (take (length s - k) (drop k s)) ≡ printed_of s
+pub printed_is : (s : List ℕ) (m k : ℕ) → m ≡ method_in s → k ≡ min (length s) 1 → sheets_text m (take (length s - k) (drop k s)) ≡ printed_of s
 unfolding printed_of
 printed_is s m k e f = ap₂ sheets_text e (rest_is s k ∙ behind_digit s k f)
 

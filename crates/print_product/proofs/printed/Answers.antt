@@ -1,5 +1,5 @@
 -- `printed` meets its contract.
-use Rattle.std.proofs.Common.{get_or, subst, arith}
+use Rattle.std.proofs.Common.{get_or, subst, ◌∙◌, arith}
 use Rattle.print_product.specs.Put.{Put}
 use Rattle.print_product.proofs.InputLaws.{digit_small}
 use Rattle.print_product.proofs.Puts.{put_front}
@@ -13,5 +13,5 @@ pub returns : goal.returns
 returns c =
     let a = c.args in
     let t = c.sheets_text in
-    let w = put_front (subst (λ x. Put 0 x a.out.now t.result t.new.out) (printed_is a.input.now c.method.result c.shorter-start.result c.method.ensures c.shorter-start.ensures) t.ensures) in
+    let w = put_front (subst (λ x. Put 0 x a.out.now t.result t.new.out) (printed_is a.input.now c.from.result c.min-start.result (c.from.ensures ∙ c.method.ensures) c.min-start.ensures) t.ensures) in
     record { size = w.0; left = w.1 }
