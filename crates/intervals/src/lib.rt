@@ -12,6 +12,7 @@ use binary32::order::at_most;
 use binary32::partial;
 use refusals::reason::Reason;
 
+pub mod matrix;
 pub mod slices;
 
 // The fault of a pair of bounds: NotFinite, a bound has exponent field 255; Crossed, the lower bound is above the upper.
