@@ -61,7 +61,8 @@ pub fn read_with(
 // The answer of a write, the length of the sheet in bytes, into a buffer of `room` bytes. Checks sizes (1), slice lengths (2), the cells by rows (3, 4), then the room (11).
 #[tactic(auto, unfolding(crate::specs::Writing::write_of))]
 pub fn check_write(matrix: LentMatrix, room: usize) -> Result<usize, Refusal>
-    ensures { result ≡ write_of matrix.entry.rows matrix.entry.columns matrix.entry.lowers.now matrix.entry.uppers.now room }
+    ensures { result ≡ write_of
+        matrix.entry.rows matrix.entry.columns matrix.entry.lowers.now matrix.entry.uppers.now room }
 {
     let LentMatrix {
         rows,
@@ -82,9 +83,12 @@ pub fn check_write(matrix: LentMatrix, room: usize) -> Result<usize, Refusal>
 // `read` of what was written gives a matrix with the same values.
 #[tactic(auto, unfolding(crate::specs::Writing::out_after))]
 pub fn put(matrix: LentMatrix, out: &mut [u8]) -> Result<usize, Refusal>
-    ensures answer { result ≡ write_of matrix.entry.rows matrix.entry.columns matrix.entry.lowers.now matrix.entry.uppers.now (length out.old) }
-    ensures left { out.new ≡ out_after matrix.entry.rows matrix.entry.columns matrix.entry.lowers.now matrix.entry.uppers.now result out.old }
-    ensures trip { TripOf matrix.entry.rows matrix.entry.columns matrix.entry.lowers.now matrix.entry.uppers.now result out.new }
+    ensures answer { result ≡ write_of
+        matrix.entry.rows matrix.entry.columns matrix.entry.lowers.now matrix.entry.uppers.now (length out.old) }
+    ensures left { out.new ≡ out_after
+        matrix.entry.rows matrix.entry.columns matrix.entry.lowers.now matrix.entry.uppers.now result out.old }
+    ensures trip { TripOf
+        matrix.entry.rows matrix.entry.columns matrix.entry.lowers.now matrix.entry.uppers.now result out.new }
 {
     let n = check_write(matrix, out.len())?;
     let total = n / 16 - 1;
@@ -104,7 +108,8 @@ pub fn put(matrix: LentMatrix, out: &mut [u8]) -> Result<usize, Refusal>
 #[tactic(auto, using(crate::proofs::Outs::part_size, crate::proofs::Outs::part_done, crate::proofs::Outs::part_refused))]
 pub fn write<'a, 'b>(matrix: LentMatrix<'b>, out: &'a mut [u8]) -> &'a mut [u8]
     ensures start { result.ref_ptr ≡ out.entry.ref_ptr }
-    ensures part { result.now ≡ front_of matrix.entry.rows matrix.entry.columns matrix.entry.lowers.now matrix.entry.uppers.now
+    ensures part { result.now ≡ front_of
+        matrix.entry.rows matrix.entry.columns matrix.entry.lowers.now matrix.entry.uppers.now
         (write_of matrix.entry.rows matrix.entry.columns matrix.entry.lowers.now matrix.entry.uppers.now (length out.old)) }
 {
     let n = put(matrix, out).unwrap_or(0);
