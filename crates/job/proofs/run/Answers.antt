@@ -10,7 +10,7 @@ use Rattle.job.proofs.run.Goals as goal
 pub deliver-requires : goal.deliver-requires
 deliver-requires c =
     let p = c.product_of_two-product in
-    (few p.new.lo p.new.up p.result p.ensures (job_small _ _ _), omega arith, omega arith)
+    few p.new.lo p.new.up p.result p.ensures (job_small _ _ _)
 
 pub returns : goal.returns
 returns c =
