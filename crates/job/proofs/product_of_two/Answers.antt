@@ -1,5 +1,5 @@
 -- `product_of_two` meets its contract.
-use Rattle.std.proofs.Common.{◌≡◌, sym, ap, ◌∙◌, arith, rules}
+use Rattle.std.proofs.Common.{◌≡◌, sym, ap, ◌∙◌, rules}
 use Rattle.refusals.specs.Answer.{refuses}
 use Rattle.job.specs.Factor.{in_arrays}
 use Rattle.job.proofs.Factors.{arrays_by}

@@ -1,5 +1,4 @@
 -- `run` meets its contract: the product of the two sheets, written.
-use Rattle.std.proofs.Common.{arith}
 use Rattle.job.specs.Job.{job_product}
 use Rattle.job.specs.Demand.{JobKeeps}
 use Rattle.job.proofs.Sizes.{few}

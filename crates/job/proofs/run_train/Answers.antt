@@ -1,5 +1,4 @@
 -- `run_train` meets its contract: the product of the train, written.
-use native.Mathlib.Omega.{arith}
 use Rattle.job.specs.Train.{train_product}
 use Rattle.job.specs.TrainDemand.{TrainKeeps}
 use Rattle.job.proofs.Sizes.{few}
