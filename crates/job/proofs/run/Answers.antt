@@ -11,10 +11,9 @@ deliver-requires c =
     let p = c.product_of_two-product in
     few p.new.lo p.new.up p.result p.ensures (job_small _ _ _)
 
-pub returns : goal.returns
-returns c =
+pub returns-clause-keeps : goal.returns-clause-keeps
+returns-clause-keeps c =
     let g = c.args in
     let d = c.deliver.ensures in
-    let t = ends 3 _ (job_product g.method g.a.now g.b.now) (JobKeeps g.method g.a.now g.b.now) (job_given g.method g.a.now g.b.now)
-    (job_none g.method g.a.now g.b.now) _ _ _ _ c.product_of_two-product.ensures (d.answer, (d.left, d.back)) in
-    record { answer = t.0; left = t.1.0; keeps = t.1.1 }
+    (ends 3 _ (job_product g.method g.a.now g.b.now) (JobKeeps g.method g.a.now g.b.now) (job_given g.method g.a.now g.b.now)
+    (job_none g.method g.a.now g.b.now) _ _ _ _ c.product_of_two-product.ensures (d.answer, (d.left, d.back))).1.1

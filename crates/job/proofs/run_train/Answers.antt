@@ -11,10 +11,9 @@ deliver-requires c =
     let p = c.product-product in
     few p.new.lo p.new.up p.result p.ensures (train_small _ _ _)
 
-pub returns : goal.returns
-returns c =
+pub returns-clause-keeps : goal.returns-clause-keeps
+returns-clause-keeps c =
     let g = c.args in
     let d = c.deliver.ensures in
-    let t = ends 9 _ (train_product g.method g.count g.sheets.now) (TrainKeeps g.method g.count g.sheets.now) (train_given g.method g.count g.sheets.now)
-    (train_none g.method g.count g.sheets.now) _ _ _ _ c.product-product.ensures (d.answer, (d.left, d.back)) in
-    record { answer = t.0; left = t.1.0; keeps = t.1.1 }
+    (ends 9 _ (train_product g.method g.count g.sheets.now) (TrainKeeps g.method g.count g.sheets.now) (train_given g.method g.count g.sheets.now)
+    (train_none g.method g.count g.sheets.now) _ _ _ _ c.product-product.ensures (d.answer, (d.left, d.back))).1.1

@@ -1,4 +1,4 @@
-use mathlib.Core.Path.{◌≡◌, refl, sym, ap, ◌∙◌}
+use mathlib.Core.Path.{◌≡◌, sym, ap, ◌∙◌}
 use Prim.Native.Nat.{suc, ◌+◌, ◌-◌}
 use native.Mathlib.Omega.{arith}
 use borrow.Author.Rules.{rules}
@@ -6,9 +6,6 @@ use Rattle.refusals.specs.Answer.{refuses}
 use Rattle.job.specs.Factor.{in_front, in_arrays}
 use Rattle.job.proofs.Others.{others_stop, others_columns, others_rows, others_go, others_end}
 use Rattle.job.proofs.train.times_others.Goals as goal
-
-pub loop-position-init : goal.loop-position-init
-loop-position-init c = (omega arith, omega arith, refl)
 
 pub returns-in_err-product : goal.returns-in_err-product
 returns-in_err-product c =
