@@ -8,6 +8,7 @@ ghost use Rattle.sheets.specs.Trip.{TripOf};
 ghost use Rattle.coupling.specs.Cells.{sizes_code, SmallSizes, Called};
 
 use crate::length_code;
+use intervals::matrix::LentMatrix;
 use refusals::Refusal;
 use sheets::Sizes;
 
@@ -65,7 +66,13 @@ pub fn coupling_write(
     ensures trip { TripOf rows columns lowers.now uppers.now
         (write_of rows columns lowers.now uppers.now (length out.old)) out.new }
 {
-    length_code(sheets::put(rows, columns, lowers, uppers, out))
+    let matrix = LentMatrix {
+        rows,
+        columns,
+        lowers,
+        uppers,
+    };
+    length_code(sheets::put(matrix, out))
 }
 
 // A times B by method 1, 3, 4, 5 or 7: the bounds of the product in lo and up, the midpoints and radii of A and B in ma, ra, mb and rb.
@@ -92,7 +99,19 @@ pub fn coupling_product(
         ma.old ra.old mb.old rb.old lo.old up.old
         result ma.new ra.new mb.new rb.new lo.new up.new }
 {
+    let a = LentMatrix {
+        rows: a_rows,
+        columns: a_columns,
+        lowers: al,
+        uppers: au,
+    };
+    let b = LentMatrix {
+        rows: b_rows,
+        columns: b_columns,
+        lowers: bl,
+        uppers: bu,
+    };
     refusals::code(products::product(
-        method, a_rows, a_columns, b_rows, b_columns, al, au, bl, bu, ma, ra, mb, rb, lo, up,
+        method, a, b, ma, ra, mb, rb, lo, up,
     ))
 }

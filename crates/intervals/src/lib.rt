@@ -12,6 +12,7 @@ use binary32::order::at_most;
 use binary32::partial;
 use refusals::reason::Reason;
 
+pub mod matrix;
 pub mod slices;
 
 // Bounds stay two words side by side: the functions for C and the definitions take them so.

@@ -1,5 +1,5 @@
 -- Laws of the sheets of a train behind the first, one after another: k bytes are the next sheet, and `left` others come after it. Assumes nothing.
-use mathlib.Core.Path.{◌≡◌, sym, ap, ap₂, subst, ◌∙◌}
+use mathlib.Core.Path.{◌≡◌, sym, ap, subst, ◌∙◌}
 use mathlib.Core.List.{List}
 use Prim.Native.Nat.{ℕ, suc, ◌+◌, ◌-◌, ◌≤◌}
 use lib.ListN.{length, take, drop}
@@ -29,12 +29,14 @@ module _ (method p : ℕ) (X : Factor) (lo up rest : List ℕ) (m left k : ℕ) 
     pub others_columns : z.columns ≤ 32
     others_columns = subst (λ c. c ≤ 32) (sym (ap (λ F. F.columns) stepped.matrix)) (sheet_small (take k rest) stepped.answer).columns
 
-    pub others_go : (rows : ℕ) → X.rows ≡ rows → fold_from method 9 p X (sheets_in m rest)
-        ≡ fold_from method 9 (p + 1) (in_front rows z.columns lo up) (sheets_in left (take (length rest - k) (drop k rest)))
-    others_go rows i =
-        let j : z.rows ≡ rows = ap (λ F. F.rows) stepped.matrix ∙ i in
+    pub others_rows : z.rows ≡ X.rows
+    others_rows = ap (λ F. F.rows) stepped.matrix
+
+    pub others_go : fold_from method 9 p X (sheets_in m rest)
+        ≡ fold_from method 9 (p + 1) (in_front z.rows z.columns lo up) (sheets_in left (take (length rest - k) (drop k rest)))
+    others_go =
         ap (fold_from method 9 p X) (sheets_next m left k rest e f) ∙ fold_goes method 9 (take k rest) (sheets_in left (drop k rest)) p X (arrays_by lo up g h)
-        ∙ ap₂ (λ q s. fold_from method 9 (p + 1) (in_front q z.columns lo up) (sheets_in left s)) j (sym (rest_is rest k))
+        ∙ ap (λ s. fold_from method 9 (p + 1) (in_front z.rows z.columns lo up) (sheets_in left s)) (sym (rest_is rest k))
 
 pub others_end : (method p : ℕ) (X : Factor) (left : ℕ) (rest : List ℕ) → left ≡ 0 → gives X ≡ fold_from method 9 p X (sheets_in left rest)
 unfolding sheets_in

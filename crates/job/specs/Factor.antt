@@ -2,6 +2,7 @@
 use Rattle.std.specs.Prelude.{List, ℕ, ◌*◌, ◌≤◌, take}
 use Rattle.refusals.specs.Answer.{Answer, gives, refuses, then, naming}
 use Rattle.refusals.specs.Sizes.{most_cells}
+use Rattle.intervals.specs.declared.matrix.LentMatrix.{LentMatrix}
 use Rattle.sheets.specs.declared.Sizes.{Sizes}
 use Rattle.sheets.specs.Layout.{rows_of, columns_of}
 use Rattle.sheets.specs.Reading.{cell_lower, cell_upper, matrix_of, read_of}
@@ -31,6 +32,10 @@ read_as p s = then (naming p (sheet_read s)) (gives (matrix_in s))
 
 abbrev pub in_front : ℕ → ℕ → List ℕ → List ℕ → Factor
 in_front rows columns lo up = record { rows = rows; columns = columns; lowers = take (rows * columns) lo; uppers = take (rows * columns) up }
+
+-- a matrix that is lent
+abbrev pub factor_of : LentMatrix → Factor
+factor_of m = record { rows = m.rows; columns = m.columns; lowers = m.lowers.now; uppers = m.uppers.now }
 
 -- the answer that the code's own, with the sizes alone, and the two arrays stand for
 abbrev pub in_arrays : Answer Sizes → List ℕ → List ℕ → Answer Factor

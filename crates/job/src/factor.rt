@@ -1,9 +1,10 @@
 // The left factor of a product of sheets. Its bounds stand in the front of two arrays of 1,024 patterns, by rows; its rows and columns in a `Sizes`.
 ghost use Rattle.std.specs.Prelude.{◌≡◌, ◌*◌, ◌≤◌, ◌++◌, length, take, drop};
 ghost use Rattle.refusals.specs.Sizes.{largest_size, most_cells};
-ghost use Rattle.job.specs.Factor.{in_front, in_arrays, read_as};
+ghost use Rattle.job.specs.Factor.{in_front, in_arrays, read_as, factor_of};
 ghost use Rattle.job.specs.Fold.{times_of, step_of};
 
+use intervals::matrix::LentMatrix;
 use refusals::Refusal;
 use refusals::reason::Reason;
 use refusals::sizes::MOST_CELLS;
@@ -13,13 +14,30 @@ use sheets::Sizes;
 pub fn read_as(
     matrix: u8,
     s: &[u8],
-    lowers: &mut [u32],
-    uppers: &mut [u32],
+    lowers: &mut [u32; MOST_CELLS],
+    uppers: &mut [u32; MOST_CELLS],
 ) -> Result<Sizes, Refusal>
-    requires { (length lowers.old ≡ most_cells) × (length uppers.old ≡ most_cells) }
     ensures { in_arrays result lowers.new uppers.new ≡ read_as matrix s.now }
 {
     sheets::read(s, lowers, uppers).map_err(|r| r.named(matrix))
+}
+
+// The matrix of these sizes in the front of two arrays.
+pub fn in_front<'a>(
+    sizes: Sizes,
+    lowers: &'a [u32; MOST_CELLS],
+    uppers: &'a [u32; MOST_CELLS],
+) -> LentMatrix<'a>
+    requires { sizes.rows * sizes.columns ≤ most_cells }
+    ensures { factor_of result ≡ in_front sizes.rows sizes.columns lowers.now uppers.now }
+{
+    let n = sizes.rows * sizes.columns;
+    LentMatrix {
+        rows: sizes.rows,
+        columns: sizes.columns,
+        lowers: &lowers[..n],
+        uppers: &uppers[..n],
+    }
 }
 
 // Copies the first count patterns.
@@ -30,22 +48,18 @@ pub fn copy(count: usize, from: &[u32], to: &mut [u32])
     to[..count].copy_from_slice(&from[..count]);
 }
 
-// The left factor in lo and up times the right one in bl and bu: the product takes the left factor's place. A refusal gets this matrix number.
+// The left factor in lo and up times the right one: the product takes the left factor's place. A refusal gets this matrix number.
 fn multiply(
     method: u32,
     matrix: u8,
-    rows: usize,
-    inner: usize,
-    columns: usize,
-    bl: &[u32],
-    bu: &[u32],
-    lo: &mut [u32],
-    up: &mut [u32],
+    left: Sizes,
+    right: LentMatrix,
+    lo: &mut [u32; MOST_CELLS],
+    up: &mut [u32; MOST_CELLS],
 ) -> Result<Sizes, Refusal>
-    requires { (rows * inner ≤ most_cells) × (inner * columns ≤ most_cells) × (rows * columns ≤ most_cells)
-        × (length bl.now ≡ most_cells) × (length bu.now ≡ most_cells) × (length lo.old ≡ most_cells) × (length up.old ≡ most_cells) }
+    requires { (left.rows * left.columns ≤ most_cells) × (left.rows * right.columns ≤ most_cells) }
     ensures { in_arrays result lo.new up.new ≡ times_of method matrix
-        (in_front rows inner lo.old up.old) (in_front inner columns bl.now bu.now) }
+        (in_front left.rows left.columns lo.old up.old) (factor_of right.entry) }
 {
     let mut ma = [0u32; MOST_CELLS];
     let mut ra = [0u32; MOST_CELLS];
@@ -53,18 +67,10 @@ fn multiply(
     let mut rb = [0u32; MOST_CELLS];
     let mut cl = [0u32; MOST_CELLS];
     let mut cu = [0u32; MOST_CELLS];
-    let a = rows * inner;
-    let b = inner * columns;
     products::product(
         method,
-        rows,
-        inner,
-        inner,
-        columns,
-        &lo[..a],
-        &up[..a],
-        &bl[..b],
-        &bu[..b],
+        in_front(left, lo, up),
+        right,
         &mut ma,
         &mut ra,
         &mut mb,
@@ -73,9 +79,10 @@ fn multiply(
         &mut cu,
     )
     .map_err(|r| r.named(matrix))?;
-    let n = rows * columns;
-    copy(n, &cl, lo);
-    copy(n, &cu, up);
+    let rows = left.rows;
+    let columns = right.columns;
+    copy(rows * columns, &cl, lo);
+    copy(rows * columns, &cu, up);
     Ok(Sizes { rows, columns })
 }
 
@@ -84,21 +91,20 @@ pub fn times_sheet(
     method: u32,
     matrix: u8,
     position: u8,
-    rows: usize,
-    inner: usize,
+    left: Sizes,
     s: &[u8],
-    lo: &mut [u32],
-    up: &mut [u32],
+    lo: &mut [u32; MOST_CELLS],
+    up: &mut [u32; MOST_CELLS],
 ) -> Result<Sizes, Refusal>
-    requires { (rows ≤ largest_size) × (inner ≤ largest_size) × (length lo.old ≡ most_cells) × (length up.old ≡ most_cells) }
+    requires { (left.rows ≤ largest_size) × (left.columns ≤ largest_size) }
     ensures { in_arrays result lo.new up.new
-        ≡ step_of method matrix position (in_front rows inner lo.old up.old) s.now }
+        ≡ step_of method matrix position (in_front left.rows left.columns lo.old up.old) s.now }
 {
     let mut bl = [0u32; MOST_CELLS];
     let mut bu = [0u32; MOST_CELLS];
     let right = read_as(position, s, &mut bl, &mut bu)?;
-    if inner != right.rows {
+    if left.columns != right.rows {
         return Err(Refusal::of_matrix(Reason::WrongSize, position));
     }
-    multiply(method, matrix, rows, inner, right.columns, &bl, &bu, lo, up)
+    multiply(method, matrix, left, in_front(right, &bl, &bu), lo, up)
 }

@@ -3,7 +3,6 @@
 #![tactic(auto)]
 
 ghost use Rattle.std.specs.Prelude.{◌≡◌, length};
-ghost use Rattle.refusals.specs.Sizes.{most_cells};
 ghost use Rattle.job.specs.Factor.{in_arrays, Few};
 ghost use Rattle.job.specs.Delivery.{written_of, out_of, BackOf};
 ghost use Rattle.job.specs.Job.{job_product, job_of, array_after, factor_lowers, factor_uppers};
@@ -11,7 +10,7 @@ ghost use Rattle.job.specs.Train.{train_product, train_of};
 ghost use Rattle.job.specs.Demand.{JobKeeps};
 ghost use Rattle.job.specs.TrainDemand.{TrainKeeps};
 
-use factor::{copy, read_as, times_sheet};
+use factor::{copy, in_front, read_as, times_sheet};
 use matrices::methods::check_method;
 use refusals::Refusal;
 use refusals::sizes::MOST_CELLS;
@@ -26,33 +25,31 @@ fn product_of_two(
     method: u32,
     a: &[u8],
     b: &[u8],
-    lo: &mut [u32],
-    up: &mut [u32],
+    lo: &mut [u32; MOST_CELLS],
+    up: &mut [u32; MOST_CELLS],
 ) -> Result<Sizes, Refusal>
-    requires { (length lo.old ≡ most_cells) × (length up.old ≡ most_cells) }
     ensures { in_arrays result lo.new up.new ≡ job_product method a.now b.now }
 {
     check_method(method)?;
     let left = read_as(1, a, lo, up)?;
-    times_sheet(method, 3, 2, left.rows, left.columns, b, lo, up)
+    times_sheet(method, 3, 2, left, b, lo, up)
 }
 
 // Writes the sheet of a product, which stands in lo and up. A refusal by the writer gets this matrix number.
 fn deliver(
     matrix: u8,
     product: Result<Sizes, Refusal>,
-    lo: &[u32],
-    up: &[u32],
+    lo: &[u32; MOST_CELLS],
+    up: &[u32; MOST_CELLS],
     out: &mut [u8],
 ) -> Result<usize, Refusal>
-    requires { Few product × (length lo.now ≡ most_cells) × (length up.now ≡ most_cells) }
+    requires { Few product }
     ensures answer { result ≡ written_of matrix (in_arrays product lo.now up.now) (length out.old) }
     ensures left { out.new ≡ out_of (in_arrays product lo.now up.now) result out.old }
     ensures back { BackOf (in_arrays product lo.now up.now) result out.new }
 {
     let sizes = product?;
-    let n = sizes.rows * sizes.columns;
-    sheets::put(sizes.rows, sizes.columns, &lo[..n], &up[..n], out).map_err(|r| r.named(matrix))
+    sheets::put(in_front(sizes, lo, up), out).map_err(|r| r.named(matrix))
 }
 
 // The product of two sheets: its bounds in the front of lo and up. A refusal leaves both as they were.

@@ -1,6 +1,6 @@
 // A train of couplings: one buffer of 1 to 8 sheets back to back, multiplied from the left. A sheet is read only when its turn comes.
-ghost use Rattle.std.specs.Prelude.{◌≡◌, ◌≤◌, ◌<◌, length};
-ghost use Rattle.refusals.specs.Sizes.{largest_size, most_cells};
+ghost use Rattle.std.specs.Prelude.{◌≡◌, ◌≤◌, ◌-◌, length};
+ghost use Rattle.refusals.specs.Sizes.{largest_size};
 ghost use Rattle.job.specs.Factor.{in_front, in_arrays};
 ghost use Rattle.job.specs.Fold.{fold_from};
 ghost use Rattle.job.specs.Train.{most_sheets, check_count, next_length, sheets_in, train_product};
@@ -9,6 +9,7 @@ use crate::factor::{read_as, times_sheet};
 use matrices::methods::check_method;
 use refusals::Refusal;
 use refusals::reason::Reason;
+use refusals::sizes::MOST_CELLS;
 use sheets::Sizes;
 use sheets::cut::first_length;
 
@@ -31,7 +32,7 @@ fn check_count(count: u32) -> Result<(), Refusal>
 
 // The length of the next sheet in s, after which `more` others come. The last sheet is not cut.
 #[tactic(auto, unfolding(crate::specs::Train::next_length))]
-fn next_length(more: usize, s: &[u8]) -> usize
+fn next_length(more: u8, s: &[u8]) -> usize
     ensures { (result ≡ next_length more s.now) × (result ≤ length s.now) }
 {
     if more == 0 {
@@ -43,34 +44,24 @@ fn next_length(more: usize, s: &[u8]) -> usize
 // The left factor in lo and up, which is the first sheet's matrix, times the other sheets, which stand in s.
 fn times_others(
     method: u32,
-    others: usize,
-    rows: usize,
-    columns: usize,
+    count: u8,
+    first: Sizes,
     s: &[u8],
-    lo: &mut [u32],
-    up: &mut [u32],
+    lo: &mut [u32; MOST_CELLS],
+    up: &mut [u32; MOST_CELLS],
 ) -> Result<Sizes, Refusal>
-    requires { (others < most_sheets) × (rows ≤ largest_size) × (columns ≤ largest_size)
-        × (length lo.old ≡ most_cells) × (length up.old ≡ most_cells) }
+    requires { (1 ≤ count) × (count ≤ most_sheets) × (first.rows ≤ largest_size) × (first.columns ≤ largest_size) }
     ensures { in_arrays result lo.new up.new
-        ≡ fold_from method 9 2 (in_front rows columns lo.old up.old) (sheets_in others s.now) }
+        ≡ fold_from method 9 2 (in_front first.rows first.columns lo.old up.old) (sheets_in (count - 1) s.now) }
 {
     let mut rest = s;
-    let mut left = others;
-    let mut position = 2;
-    let mut inner = columns;
-    while left > 0 {
-        left -= 1;
-        let end = next_length(left, rest);
-        let sizes = times_sheet(method, 9, position, rows, inner, &rest[..end], lo, up)?;
-        inner = sizes.columns;
+    let mut product = first;
+    for position in 2..count + 1 {
+        let end = next_length(count - position, rest);
+        product = times_sheet(method, 9, position, product, &rest[..end], lo, up)?;
         rest = &rest[end..];
-        position += 1;
     }
-    Ok(Sizes {
-        rows,
-        columns: inner,
-    })
+    Ok(product)
 }
 
 // Checks the method (refusal 9) and the count (12), then multiplies the count sheets in s from the left.
@@ -79,16 +70,15 @@ pub fn product(
     method: u32,
     count: u32,
     s: &[u8],
-    lo: &mut [u32],
-    up: &mut [u32],
+    lo: &mut [u32; MOST_CELLS],
+    up: &mut [u32; MOST_CELLS],
 ) -> Result<Sizes, Refusal>
-    requires { (length lo.old ≡ most_cells) × (length up.old ≡ most_cells) }
     ensures { in_arrays result lo.new up.new ≡ train_product method count s.now }
 {
     check_method(method)?;
     check_count(count)?;
-    let others = count as usize - 1;
-    let end = next_length(others, s);
+    let count = count as u8;
+    let end = next_length(count - 1, s);
     let first = read_as(1, &s[..end], lo, up)?;
-    times_others(method, others, first.rows, first.columns, &s[end..], lo, up)
+    times_others(method, count, first, &s[end..], lo, up)
 }

@@ -5,23 +5,23 @@ ghost use Rattle.matrices.specs.Checks.{Covered, given, check_operands, check_le
 
 use crate::checks::{check_cells, check_sizes};
 use crate::methods::check_method;
+use intervals::matrix::LentMatrix;
 use refusals::Refusal;
 use refusals::sizes::check_lengths;
 
-// Refusal 2 for the slices of A, then of B, with a and b cells.
+// Refusal 2 for the slices of A, then of B, with so many cells.
 #[tactic(auto, unfolding(crate::specs::Checks::check_operands))]
 fn check_operands(
-    a: usize,
-    b: usize,
-    al: &[u32],
-    au: &[u32],
-    bl: &[u32],
-    bu: &[u32],
+    a_cells: usize,
+    b_cells: usize,
+    a: LentMatrix,
+    b: LentMatrix,
 ) -> Result<(), Refusal>
-    ensures { result ≡ check_operands a b (of_bounds al.now au.now) (of_bounds bl.now bu.now) }
+    ensures { result ≡ check_operands a_cells b_cells
+        (of_bounds a.entry.lowers.now a.entry.uppers.now) (of_bounds b.entry.lowers.now b.entry.uppers.now) }
 {
-    check_lengths(1, a, al.len(), au.len())?;
-    check_lengths(2, b, bl.len(), bu.len())
+    check_lengths(1, a_cells, a.lowers.len(), a.uppers.len())?;
+    check_lengths(2, b_cells, b.lowers.len(), b.uppers.len())
 }
 
 // The lengths of the slices that a caller lends for writing: midpoints and radii of A and B, then the bounds of the result.
@@ -47,47 +47,27 @@ fn check_lent(a: usize, b: usize, c: usize, lent: Lent) -> Result<(), Refusal>
 
 // Refusals 3 and 4 for A's cells, then for B's.
 #[tactic(auto, unfolding(crate::specs::Checks::check_both))]
-fn check_both(
-    a_rows: usize,
-    a_columns: usize,
-    b_rows: usize,
-    b_columns: usize,
-    al: &[u32],
-    au: &[u32],
-    bl: &[u32],
-    bu: &[u32],
-) -> Result<(), Refusal>
-    requires { Covered a_rows a_columns al.now au.now × Covered b_rows b_columns bl.now bu.now }
-    ensures { result ≡ check_both a_rows a_columns b_rows b_columns
-        (of_bounds al.now au.now) (of_bounds bl.now bu.now) }
+fn check_both(a: LentMatrix, b: LentMatrix) -> Result<(), Refusal>
+    requires { Covered a.rows a.columns a.lowers.now a.uppers.now × Covered b.rows b.columns b.lowers.now b.uppers.now }
+    ensures { result ≡ check_both a.entry.rows a.entry.columns b.entry.rows b.entry.columns
+        (of_bounds a.entry.lowers.now a.entry.uppers.now) (of_bounds b.entry.lowers.now b.entry.uppers.now) }
 {
-    check_cells(1, a_rows, a_columns, al, au)?;
-    check_cells(2, b_rows, b_columns, bl, bu)
+    check_cells(1, a)?;
+    check_cells(2, b)
 }
 
 // All checks, in their order.
 #[tactic(auto, unfolding(crate::specs::Checks::check_of, crate::specs::Checks::check_shapes, crate::specs::Checks::check_slices))]
-pub fn check_all(
-    method: u32,
-    a_rows: usize,
-    a_columns: usize,
-    b_rows: usize,
-    b_columns: usize,
-    al: &[u32],
-    au: &[u32],
-    bl: &[u32],
-    bu: &[u32],
-    lent: Lent,
-) -> Result<(), Refusal>
-    ensures { result ≡ check_of (given method a_rows a_columns b_rows b_columns
-        al.now au.now bl.now bu.now
+pub fn check_all(method: u32, a: LentMatrix, b: LentMatrix, lent: Lent) -> Result<(), Refusal>
+    ensures { result ≡ check_of (given method a.entry.rows a.entry.columns b.entry.rows b.entry.columns
+        a.entry.lowers.now a.entry.uppers.now b.entry.lowers.now b.entry.uppers.now
         lent.ma lent.ra lent.mb lent.rb lent.lo lent.up) }
 {
     check_method(method)?;
-    check_sizes(a_rows, a_columns, b_rows, b_columns)?;
-    let a = a_rows * a_columns;
-    let b = b_rows * b_columns;
-    check_operands(a, b, al, au, bl, bu)?;
-    check_lent(a, b, a_rows * b_columns, lent)?;
-    check_both(a_rows, a_columns, b_rows, b_columns, al, au, bl, bu)
+    check_sizes(a, b)?;
+    let a_cells = a.rows * a.columns;
+    let b_cells = b.rows * b.columns;
+    check_operands(a_cells, b_cells, a, b)?;
+    check_lent(a_cells, b_cells, a.rows * b.columns, lent)?;
+    check_both(a, b)
 }

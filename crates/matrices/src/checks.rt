@@ -7,6 +7,7 @@ ghost use Rattle.matrices.specs.Matrix.{of_bounds};
 ghost use Rattle.matrices.specs.Checks.{Covered, check_sizes, check_cells};
 
 use intervals::check;
+use intervals::matrix::LentMatrix;
 use refusals::Refusal;
 use refusals::reason::Reason;
 use refusals::sizes::check_size;
@@ -23,35 +24,25 @@ fn check_inner(a_columns: usize, b_rows: usize) -> Result<(), Refusal>
 
 // Refusal 1 for A's sizes, then for B's, then for the mismatch of the two.
 #[tactic(auto, unfolding(crate::specs::Checks::check_sizes))]
-pub fn check_sizes(
-    a_rows: usize,
-    a_columns: usize,
-    b_rows: usize,
-    b_columns: usize,
-) -> Result<(), Refusal>
-    ensures { result ≡ check_sizes a_rows a_columns b_rows b_columns }
+pub fn check_sizes(a: LentMatrix, b: LentMatrix) -> Result<(), Refusal>
+    ensures { result ≡ check_sizes a.entry.rows a.entry.columns b.entry.rows b.entry.columns }
 {
-    check_size(1, a_rows, a_columns)?;
-    check_size(2, b_rows, b_columns)?;
-    check_inner(a_columns, b_rows)
+    check_size(1, a.rows, a.columns)?;
+    check_size(2, b.rows, b.columns)?;
+    check_inner(a.columns, b.rows)
 }
 
 // Refusal 3 or 4 for the first faulty cell by rows.
 #[tactic(auto, using(refusals::proofs::SizeLaws::small, crate::proofs::CheckLaws::passed_none, crate::proofs::CheckLaws::passed_more, crate::proofs::CheckLaws::cells_done))]
-pub fn check_cells(
-    matrix: u8,
-    rows: usize,
-    columns: usize,
-    lowers: &[u32],
-    uppers: &[u32],
-) -> Result<(), Refusal>
-    requires { Covered rows columns lowers.now uppers.now }
-    ensures { result ≡ check_cells matrix rows columns (of_bounds lowers.now uppers.now) }
+pub fn check_cells(matrix: u8, cells: LentMatrix) -> Result<(), Refusal>
+    requires { Covered cells.rows cells.columns cells.lowers.now cells.uppers.now }
+    ensures { result ≡ check_cells matrix cells.entry.rows cells.entry.columns
+        (of_bounds cells.entry.lowers.now cells.entry.uppers.now) }
 {
-    for c in 0..rows * columns {
-        if let Err(reason) = check(lowers[c], uppers[c]) {
-            let row = (c / columns) as u8;
-            let column = (c % columns) as u8;
+    for c in 0..cells.rows * cells.columns {
+        if let Err(reason) = check(cells.lowers[c], cells.uppers[c]) {
+            let row = (c / cells.columns) as u8;
+            let column = (c % cells.columns) as u8;
             return Err(Refusal::of_cell(reason, matrix, row, column));
         }
     }

@@ -10,6 +10,7 @@ use cells::convert;
 use classical::Classical;
 use converted::converted;
 use entries::{Shape, entries};
+use intervals::matrix::LentMatrix;
 use intervals::slices::clear;
 use matrices::check_order::{Lent, check_all};
 use matrices::methods::Method;
@@ -65,16 +66,11 @@ fn finish(place: Option<Place>, count: usize, lo: &mut [u32], up: &mut [u32]) ->
 }
 
 // A times B by this method: the bounds of the product in lo and up; by methods 3, 4, 5 and 7 also the midpoints and radii of A and B in ma, ra, mb and rb.
+// The slices that are written stay parameters of their own: of a struct of them, the clauses would say `s.entry.ma.now` and `s.exit.ma.now`: no plainer.
 pub fn product(
     method: u32,
-    a_rows: usize,
-    a_columns: usize,
-    b_rows: usize,
-    b_columns: usize,
-    al: &[u32],
-    au: &[u32],
-    bl: &[u32],
-    bu: &[u32],
+    a: LentMatrix,
+    b: LentMatrix,
     ma: &mut [u32],
     ra: &mut [u32],
     mb: &mut [u32],
@@ -82,12 +78,12 @@ pub fn product(
     lo: &mut [u32],
     up: &mut [u32],
 ) -> Result<(), Refusal>
-    ensures left { Leaves method a_rows a_columns b_rows b_columns
-        al.now au.now bl.now bu.now
+    ensures left { Leaves method a.entry.rows a.entry.columns b.entry.rows b.entry.columns
+        a.entry.lowers.now a.entry.uppers.now b.entry.lowers.now b.entry.uppers.now
         ma.old ra.old mb.old rb.old lo.old up.old result
         ma.new ra.new mb.new rb.new lo.new up.new }
-    ensures keeps { KeepsCalled method a_rows a_columns b_rows b_columns
-        al.now au.now bl.now bu.now
+    ensures keeps { KeepsCalled method a.entry.rows a.entry.columns b.entry.rows b.entry.columns
+        a.entry.lowers.now a.entry.uppers.now b.entry.lowers.now b.entry.uppers.now
         ma.old ra.old mb.old rb.old lo.old up.old
         lo.new up.new }
 {
@@ -100,29 +96,27 @@ pub fn product(
         lo: lo.len(),
         up: up.len(),
     };
-    check_all(
-        method, a_rows, a_columns, b_rows, b_columns, al, au, bl, bu, lent,
-    )?;
-    let count = a_rows * b_columns;
+    check_all(method, a, b, lent)?;
+    let count = a.rows * b.columns;
     let shape = Shape {
-        m: a_rows,
-        k: a_columns,
-        n: b_columns,
+        m: a.rows,
+        k: a.columns,
+        n: b.columns,
     };
     match by {
         Method::Classical => {
             let steps = Classical {
                 shape,
-                al,
-                au,
-                bl,
-                bu,
+                al: a.lowers,
+                au: a.uppers,
+                bl: b.lowers,
+                bu: b.uppers,
             };
             finish(entries(steps, lo, up), count, lo, up)
         }
         _ => {
-            convert(a_rows * a_columns, al, au, ma, ra);
-            convert(b_rows * b_columns, bl, bu, mb, rb);
+            convert(a.rows * a.columns, a.lowers, a.uppers, ma, ra);
+            convert(b.rows * b.columns, b.lowers, b.uppers, mb, rb);
             let of = Operands {
                 shape,
                 ma,

@@ -19,6 +19,7 @@ mod tally;
 pub mod wear;
 pub mod worn;
 
+use intervals::matrix::LentMatrix;
 use refusals::Refusal;
 use refusals::reason::Reason;
 use refusals::sizes::check_fit;
@@ -59,17 +60,18 @@ pub fn read_with(
 
 // The answer of a write, the length of the sheet in bytes, into a buffer of `room` bytes. Checks sizes (1), slice lengths (2), the cells by rows (3, 4), then the room (11).
 #[tactic(auto, unfolding(crate::specs::Writing::write_of))]
-pub fn check_write(
-    rows: usize,
-    columns: usize,
-    lowers: &[u32],
-    uppers: &[u32],
-    room: usize,
-) -> Result<usize, Refusal>
-    ensures { result ≡ write_of rows columns lowers.now uppers.now room }
+pub fn check_write(matrix: LentMatrix, room: usize) -> Result<usize, Refusal>
+    ensures { result ≡ write_of
+        matrix.entry.rows matrix.entry.columns matrix.entry.lowers.now matrix.entry.uppers.now room }
 {
+    let LentMatrix {
+        rows,
+        columns,
+        lowers,
+        uppers,
+    } = matrix;
     check_fit(0, rows, columns, lowers.len(), uppers.len())?;
-    let k = tally::scan(columns, rows * columns, lowers, uppers)?;
+    let k = tally::scan(matrix)?;
     let needed = 16 * (k + 1);
     if room < needed {
         return Err(Refusal::of_matrix(Reason::NoRoom, 0));
@@ -80,44 +82,36 @@ pub fn check_write(
 // Writes the sheet of a matrix into the front of out; a refusal leaves out as it was.
 // `read` of what was written gives a matrix with the same values.
 #[tactic(auto, unfolding(crate::specs::Writing::out_after))]
-pub fn put(
-    rows: usize,
-    columns: usize,
-    lowers: &[u32],
-    uppers: &[u32],
-    out: &mut [u8],
-) -> Result<usize, Refusal>
-    ensures answer { result ≡ write_of rows columns lowers.now uppers.now (length out.old) }
-    ensures left { out.new ≡ out_after rows columns lowers.now uppers.now result out.old }
-    ensures trip { TripOf rows columns lowers.now uppers.now result out.new }
+pub fn put(matrix: LentMatrix, out: &mut [u8]) -> Result<usize, Refusal>
+    ensures answer { result ≡ write_of
+        matrix.entry.rows matrix.entry.columns matrix.entry.lowers.now matrix.entry.uppers.now (length out.old) }
+    ensures left { out.new ≡ out_after
+        matrix.entry.rows matrix.entry.columns matrix.entry.lowers.now matrix.entry.uppers.now result out.old }
+    ensures trip { TripOf
+        matrix.entry.rows matrix.entry.columns matrix.entry.lowers.now matrix.entry.uppers.now result out.new }
 {
-    let n = check_write(rows, columns, lowers, uppers, out.len())?;
+    let n = check_write(matrix, out.len())?;
     let total = n / 16 - 1;
     records::put_head(
         out,
         records::next_of(total, 0),
-        rows as u8,
-        columns as u8,
+        matrix.rows as u8,
+        matrix.columns as u8,
         (total + 1) as u16,
     );
-    records::put_cells(out, columns, rows * columns, total, lowers, uppers);
+    records::put_cells(out, total, matrix);
     Ok(n)
 }
 
 // The same, but returns the part of out that was written, from its start; the part is empty on a refusal.
 // The contract of `put` says what is left in the rest of out.
 #[tactic(auto, using(crate::proofs::Outs::part_size, crate::proofs::Outs::part_done, crate::proofs::Outs::part_refused))]
-pub fn write<'a, 'b>(
-    rows: usize,
-    columns: usize,
-    lowers: &'b [u32],
-    uppers: &'b [u32],
-    out: &'a mut [u8],
-) -> &'a mut [u8]
+pub fn write<'a, 'b>(matrix: LentMatrix<'b>, out: &'a mut [u8]) -> &'a mut [u8]
     ensures start { result.ref_ptr ≡ out.entry.ref_ptr }
-    ensures part { result.now ≡ front_of rows columns lowers.now uppers.now
-        (write_of rows columns lowers.now uppers.now (length out.old)) }
+    ensures part { result.now ≡ front_of
+        matrix.entry.rows matrix.entry.columns matrix.entry.lowers.now matrix.entry.uppers.now
+        (write_of matrix.entry.rows matrix.entry.columns matrix.entry.lowers.now matrix.entry.uppers.now (length out.old)) }
 {
-    let n = put(rows, columns, lowers, uppers, out).unwrap_or(0);
+    let n = put(matrix, out).unwrap_or(0);
     &mut out[..n]
 }

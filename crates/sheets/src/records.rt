@@ -6,6 +6,7 @@ ghost use Rattle.sheets.specs.Sheet.{bytes_of, head_bytes, over, tally, count_to
 use crate::amount::Kind;
 use crate::cell::handed;
 use crate::layout::Record;
+use intervals::matrix::LentMatrix;
 
 // Writes the 16 bytes of a record from index `at` on.
 pub fn put_record(out: &mut [u8], at: usize, r: Record)
@@ -82,21 +83,22 @@ fn put_cell(
 }
 
 // Writes the records of all cells that are not [0, 0] behind the head.
-pub fn put_cells(
-    out: &mut [u8],
-    columns: usize,
-    cells: usize,
-    total: usize,
-    lowers: &[u32],
-    uppers: &[u32],
-)
-    requires { (0 < columns) × (columns ≤ 32) × (cells ≤ 32 * columns) × (cells ≤ length lowers.now) × (cells ≤ length uppers.now)
-        × (total ≡ count_to lowers.now uppers.now cells) × (16 * (total + 1) ≤ length out.old) }
+pub fn put_cells(out: &mut [u8], total: usize, matrix: LentMatrix)
+    requires { (0 < matrix.columns) × (matrix.rows ≤ 32) × (matrix.columns ≤ 32)
+        × (matrix.rows * matrix.columns ≤ length matrix.lowers.now) × (matrix.rows * matrix.columns ≤ length matrix.uppers.now)
+        × (total ≡ count_to matrix.lowers.now matrix.uppers.now (matrix.rows * matrix.columns)) × (16 * (total + 1) ≤ length out.old) }
     ensures { out.new ≡ take 16 out.old
-        ++ records_to columns total lowers.now uppers.now cells ++ drop (16 * (total + 1)) out.old }
+        ++ records_to matrix.entry.columns total matrix.entry.lowers.now matrix.entry.uppers.now (matrix.entry.rows * matrix.entry.columns)
+        ++ drop (16 * (total + 1)) out.old }
 {
+    let LentMatrix {
+        rows,
+        columns,
+        lowers,
+        uppers,
+    } = matrix;
     let mut k = 0;
-    for p in 0..cells {
+    for p in 0..rows * columns {
         k = put_cell(
             out,
             k,

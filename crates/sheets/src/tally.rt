@@ -3,15 +3,23 @@ ghost use Rattle.std.specs.Prelude.{◌≡◌, ◌*◌, ◌≤◌, ◌<◌, leng
 ghost use Rattle.sheets.specs.Writing.{scan_to};
 
 use crate::cell::handed;
+use intervals::matrix::LentMatrix;
 use refusals::Refusal;
 
 // Refusal 3 or 4 for the first faulty cell by rows, or the number of cells that are not [0, 0].
-pub fn scan(columns: usize, cells: usize, lowers: &[u32], uppers: &[u32]) -> Result<usize, Refusal>
-    requires { (0 < columns) × (columns ≤ 32) × (cells ≤ 32 * columns) × (cells ≤ length lowers.now) × (cells ≤ length uppers.now) }
-    ensures { result ≡ scan_to columns lowers.now uppers.now cells }
+pub fn scan(matrix: LentMatrix) -> Result<usize, Refusal>
+    requires { (0 < matrix.columns) × (matrix.rows ≤ 32) × (matrix.columns ≤ 32)
+        × (matrix.rows * matrix.columns ≤ length matrix.lowers.now) × (matrix.rows * matrix.columns ≤ length matrix.uppers.now) }
+    ensures { result ≡ scan_to matrix.entry.columns matrix.entry.lowers.now matrix.entry.uppers.now (matrix.entry.rows * matrix.entry.columns) }
 {
+    let LentMatrix {
+        rows,
+        columns,
+        lowers,
+        uppers,
+    } = matrix;
     let mut count = 0;
-    for p in 0..cells {
+    for p in 0..rows * columns {
         let cell = match handed(lowers[p], uppers[p]) {
             Ok(cell) => cell,
             Err(reason) => {

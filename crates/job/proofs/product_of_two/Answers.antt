@@ -1,5 +1,5 @@
 -- `product_of_two` meets its contract.
-use Rattle.std.proofs.Common.{◌≡◌, sym, ap, ◌∙◌, arith, rules}
+use Rattle.std.proofs.Common.{◌≡◌, sym, ap, ◌∙◌, rules}
 use Rattle.refusals.specs.Answer.{refuses}
 use Rattle.job.specs.Factor.{in_arrays}
 use Rattle.job.proofs.Factors.{arrays_by}
@@ -16,7 +16,7 @@ returns-in_err-left c =
 pub times_sheet-requires : goal.times_sheet-requires
 times_sheet-requires c =
     let z = read_small _ _ _ (sym (arrays_by _ _ c.read_as.ensures c.in_ok-left.was)) in
-    (z.rows, z.columns, omega arith, omega arith)
+    (z.rows, z.columns)
 
 pub returns : goal.returns
 returns c =

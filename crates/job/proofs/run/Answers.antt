@@ -1,5 +1,4 @@
 -- `run` meets its contract: the product of the two sheets, written.
-use Rattle.std.proofs.Common.{arith}
 use Rattle.job.specs.Job.{job_product}
 use Rattle.job.specs.Demand.{JobKeeps}
 use Rattle.job.proofs.Sizes.{few}
@@ -10,12 +9,11 @@ use Rattle.job.proofs.run.Goals as goal
 pub deliver-requires : goal.deliver-requires
 deliver-requires c =
     let p = c.product_of_two-product in
-    (few p.new.lo p.new.up p.result p.ensures (job_small _ _ _), omega arith, omega arith)
+    few p.new.lo p.new.up p.result p.ensures (job_small _ _ _)
 
-pub returns : goal.returns
-returns c =
+pub returns-clause-keeps : goal.returns-clause-keeps
+returns-clause-keeps c =
     let g = c.args in
     let d = c.deliver.ensures in
-    let t = ends 3 _ (job_product g.method g.a.now g.b.now) (JobKeeps g.method g.a.now g.b.now) (job_given g.method g.a.now g.b.now)
-    (job_none g.method g.a.now g.b.now) _ _ _ _ c.product_of_two-product.ensures (d.answer, (d.left, d.back)) in
-    record { answer = t.0; left = t.1.0; keeps = t.1.1 }
+    (ends 3 _ (job_product g.method g.a.now g.b.now) (JobKeeps g.method g.a.now g.b.now) (job_given g.method g.a.now g.b.now)
+    (job_none g.method g.a.now g.b.now) _ _ _ _ c.product_of_two-product.ensures (d.answer, (d.left, d.back))).1.1

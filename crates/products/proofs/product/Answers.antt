@@ -33,14 +33,14 @@ finish-requires c =
     let f = sizes _ (sym c.check_all.ensures ∙ c.in_ok-check_all.was) in
     (omega (arith, f.lowers), omega (arith, f.uppers), reached c.entries.ensures f.rows f.positive f.columns)
 
-pub overflow_mul-a_rows : goal.overflow_mul-a_rows
-overflow_mul-a_rows c = let f = sizes _ (sym c.check_all.ensures ∙ c.in_ok-check_all.was) in omega (arith, small _ _ f.rows f.inner)
+pub overflow_mul-a : goal.overflow_mul-a
+overflow_mul-a c = let f = sizes _ (sym c.check_all.ensures ∙ c.in_ok-check_all.was) in omega (arith, small _ _ f.rows f.inner)
 
 pub convert-requires : goal.convert-requires
 convert-requires c = a_convertible _ (sym c.check_all.ensures ∙ c.in_ok-check_all.was)
 
-pub overflow_mul-b_rows : goal.overflow_mul-b_rows
-overflow_mul-b_rows c =
+pub overflow_mul-b : goal.overflow_mul-b
+overflow_mul-b c =
     let k = sym c.check_all.ensures ∙ c.in_ok-check_all.was in
     let f = sizes _ k in
     omega (arith, small _ _ f.inner f.columns, inner _ k)

@@ -1,6 +1,5 @@
 -- `check_write`: sizes that were accepted have products that fit, and lengths that were accepted cover the cells.
 use Rattle.std.proofs.Common.{◌≡◌, ℕ, List, ◌*◌, ◌≤◌, length, sym, ◌∙◌, arith}
-use native.Mathlib.Nat.{mul-le-mul_right}
 use Rattle.refusals.specs.Answer.{gives, done}
 use Rattle.refusals.specs.Sizes.{check_fit}
 use Rattle.refusals.proofs.SizeLaws.{small, fit_tells}
@@ -9,13 +8,10 @@ use Rattle.sheets.proofs.Counting.{count_le}
 use Rattle.sheets.proofs.Scanning.{scan_tells}
 use Rattle.sheets.proofs.check_write.Goals as goal
 
-pub overflow_mul-rows : goal.overflow_mul-rows
-overflow_mul-rows c = let z = fit_tells _ _ _ _ _ (sym c.check_fit.ensures ∙ c.in_ok-check_fit.was) in omega (arith, small _ _ z.rows z.columns)
-
 pub scan-requires : goal.scan-requires
 scan-requires c =
     let z = fit_tells _ _ _ _ _ (sym c.check_fit.ensures ∙ c.in_ok-check_fit.was) in
-    (z.some_column, z.columns, mul-le-mul_right c.args.columns z.rows, z.lowers, z.uppers)
+    (z.some_column, z.rows, z.columns, z.lowers, z.uppers)
 
 -- at most 1,024 cells are counted
 few : (rows columns : ℕ) (lo up : List ℕ) (k : ℕ) → check_fit 0 rows columns (length lo) (length up) ≡ done → scan_to columns lo up (rows * columns) ≡ gives k → k ≤ 1024

@@ -1,6 +1,5 @@
 -- `put` meets its contract.
 use mathlib.Core.Path.{refl, sym, ◌∙◌}
-use native.Mathlib.Nat.{mul-le-mul_right}
 use native.Mathlib.Omega.{arith}
 use Rattle.sheets.proofs.Rooms.{bytes_tell}
 use Rattle.sheets.proofs.Outs.{put_done}
@@ -24,15 +23,11 @@ put_head-requires c =
     let g = bytes_tell _ _ _ _ _ _ (sym c.check_write.ensures ∙ c.in_ok-n.was) in
     omega (arith, g.bytes, g.roomy)
 
-pub overflow_mul-rows : goal.overflow_mul-rows
-overflow_mul-rows c = omega (arith, (bytes_tell _ _ _ _ _ _ (sym c.check_write.ensures ∙ c.in_ok-n.was)).few)
-
 pub put_cells-requires : goal.put_cells-requires
 put_cells-requires c =
-    let a = c.args in
     let g = bytes_tell _ _ _ _ _ _ (sym c.check_write.ensures ∙ c.in_ok-n.was) in
     let z = g.sized in
-    (z.some_column, z.columns, mul-le-mul_right a.columns z.rows, z.lowers, z.uppers, omega (arith, g.bytes), omega (arith, g.bytes, g.roomy))
+    (z.some_column, z.rows, z.columns, z.lowers, z.uppers, omega (arith, g.bytes), omega (arith, g.bytes, g.roomy))
 
 pub returns-clause-left : goal.returns-clause-left
 returns-clause-left c =

@@ -7,8 +7,13 @@ use Rattle.job.proofs.Sizes.{read_small}
 use Rattle.job.proofs.Trains.{checks_done, checks_count, others_are, train_unread, train_goes}
 use Rattle.job.proofs.train.product.Goals as goal
 
-pub overflow_sub-others : goal.overflow_sub-others
-overflow_sub-others c =
+pub overflow_cast-count : goal.overflow_cast-count
+overflow_cast-count c =
+    let g = c.args in
+    omega (arith, (checks_count g.method g.count (checks_done g.method g.count (sym c.check_method.ensures ∙ c.in_ok-check_method.was) (sym c.check_count.ensures ∙ c.in_ok-check_count.was))).1)
+
+pub overflow_sub-count : goal.overflow_sub-count
+overflow_sub-count c =
     let g = c.args in
     (checks_count g.method g.count (checks_done g.method g.count (sym c.check_method.ensures ∙ c.in_ok-check_method.was) (sym c.check_count.ensures ∙ c.in_ok-check_count.was))).0
 
@@ -17,7 +22,7 @@ times_others-requires c =
     let g = c.args in
     let n = checks_count g.method g.count (checks_done g.method g.count (sym c.check_method.ensures ∙ c.in_ok-check_method.was) (sym c.check_count.ensures ∙ c.in_ok-check_count.was)) in
     let z = read_small 1 _ _ (sym (arrays_by _ _ c.read_as.ensures c.in_ok-first.was)) in
-    (omega (arith, n.0, n.1), z.rows, z.columns, omega arith, omega arith)
+    (n.0, n.1, z.rows, z.columns)
 
 pub returns-in_err-first : goal.returns-in_err-first
 returns-in_err-first c =

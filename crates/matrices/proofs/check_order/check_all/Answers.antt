@@ -13,14 +13,14 @@ operands_tell : (a b : ℕ) (A B : Matrix) → check_operands a b A B ≡ done
 unfolding check_operands
 operands_tell a b A B e = let t = then_tells _ _ tt e in (lengths_tell 1 a _ _ t.0.1, lengths_tell 2 b _ _ t.1)
 
+pub overflow_mul-a_cells : goal.overflow_mul-a_cells
+overflow_mul-a_cells c = let s = sizes_tell _ _ _ _ (sym c.check_sizes.ensures ∙ c.in_ok-check_sizes.was) in omega (arith, small _ _ s.a_rows_below s.a_columns_below)
+
+pub overflow_mul-b_cells : goal.overflow_mul-b_cells
+overflow_mul-b_cells c = let s = sizes_tell _ _ _ _ (sym c.check_sizes.ensures ∙ c.in_ok-check_sizes.was) in omega (arith, small _ _ s.b_rows_below s.b_columns_below)
+
 pub overflow_mul-a : goal.overflow_mul-a
-overflow_mul-a c = let s = sizes_tell _ _ _ _ (sym c.check_sizes.ensures ∙ c.in_ok-check_sizes.was) in omega (arith, small _ _ s.a_rows_below s.a_columns_below)
-
-pub overflow_mul-b : goal.overflow_mul-b
-overflow_mul-b c = let s = sizes_tell _ _ _ _ (sym c.check_sizes.ensures ∙ c.in_ok-check_sizes.was) in omega (arith, small _ _ s.b_rows_below s.b_columns_below)
-
-pub overflow_mul-a_rows : goal.overflow_mul-a_rows
-overflow_mul-a_rows c = let s = sizes_tell _ _ _ _ (sym c.check_sizes.ensures ∙ c.in_ok-check_sizes.was) in omega (arith, small _ _ s.a_rows_below s.b_columns_below)
+overflow_mul-a c = let s = sizes_tell _ _ _ _ (sym c.check_sizes.ensures ∙ c.in_ok-check_sizes.was) in omega (arith, small _ _ s.a_rows_below s.b_columns_below)
 
 pub check_both-requires : goal.check_both-requires
 check_both-requires c =

@@ -9,4 +9,4 @@ pub returns-in-Err : goal.returns-in-Err
 returns-in-Err c =
     let g = c.args in
     ap refuses c.of_cell.ensures
-    ∙ cells_here g.matrix g.rows g.columns (of_bounds g.lowers.now g.uppers.now) c.loop-c.c c.in-Err.reason c.loop-c.invariant (omega arith) (sym c.in-Err.is ∙ c.check.ensures)
+    ∙ cells_here g.matrix g.cells.rows g.cells.columns (of_bounds g.cells.lowers.now g.cells.uppers.now) c.loop-c.c c.in-Err.reason c.loop-c.invariant (omega arith) (sym c.in-Err.is ∙ c.check.ensures)

@@ -3,6 +3,7 @@ use mathlib.Core.List.{List}
 use Prim.Native.Nat.{ℕ, ◌+◌, ◌*◌, ◌≤◌, ◌<◌}
 use native.Mathlib.Omega.{arith}
 use lib.ListN.{length, take}
+use Rattle.refusals.proofs.SizeLaws.{small}
 use Rattle.sheets.specs.Sheet.{cell_at, tally, count_to}
 use Rattle.sheets.proofs.Counting.{start, count_none, count_room, count_le, cells_more}
 use Rattle.sheets.proofs.records.put_cells.Goals as goal
@@ -22,7 +23,7 @@ pub put_cell-k-requires : goal.put_cell-k-requires
 put_cell-k-requires c =
     let a = c.args in
     let h = c.loop-p in
-    let r = roomy a.lowers.now a.uppers.now h.p h.k a.cells a.total (length a.out.now) (omega arith) (omega arith) h.invariant.0 c.requires.5 c.requires.6 in
+    let r = roomy a.matrix.lowers.now a.matrix.uppers.now h.p h.k (a.matrix.rows * a.matrix.columns) a.total (length a.out.now) (omega arith) (small _ _ c.requires.1 c.requires.2) h.invariant.0 c.requires.5 c.requires.6 in
     let long = h.invariant.1.long in
     (omega arith, omega arith)
 
@@ -30,6 +31,6 @@ pub loop-p-preserved : goal.loop-p-preserved
 loop-p-preserved c =
     let a = c.args in
     let h = c.loop-p in
-    let r = roomy a.lowers.now a.uppers.now h.p h.k a.cells a.total (length a.out.now) (omega arith) (omega arith) h.invariant.0 c.requires.5 c.requires.6 in
-    cells_more a.columns a.total _ _ h.p h.k (16 * (h.k + 1)) _ _ _ _ (take 16 a.out.now) h.invariant.0 refl
+    let r = roomy a.matrix.lowers.now a.matrix.uppers.now h.p h.k (a.matrix.rows * a.matrix.columns) a.total (length a.out.now) (omega arith) (small _ _ c.requires.1 c.requires.2) h.invariant.0 c.requires.5 c.requires.6 in
+    cells_more a.matrix.columns a.total _ _ h.p h.k (16 * (h.k + 1)) _ _ _ _ (take 16 a.out.now) h.invariant.0 refl
     c.put_cell-k.ensures.0 c.put_cell-k.ensures.1 r.0 h.invariant.1

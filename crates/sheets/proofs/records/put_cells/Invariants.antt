@@ -9,4 +9,4 @@ use Rattle.sheets.proofs.records.put_cells.Given as goal
 
 abbrev pub invariant-loop-p : goal.invariant-loop-p
 invariant-loop-p l =
-    (l.k ≡ count_to l.lowers l.uppers l.p) × Front (16 * (l.k + 1)) (take 16 l.initial.out ++ records_to l.columns l.total l.lowers l.uppers l.p) l.initial.out l.out
+    (l.k ≡ count_to l.matrix.lowers.now l.matrix.uppers.now l.p) × Front (16 * (l.k + 1)) (take 16 l.initial.out ++ records_to l.matrix.columns l.total l.matrix.lowers.now l.matrix.uppers.now l.p) l.initial.out l.out

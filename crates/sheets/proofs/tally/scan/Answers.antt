@@ -25,5 +25,5 @@ loop-p-preserved c =
       | then-is_some w ↦ (omega (arith, w.count-is), rw w.if-is_some.true (sym w.count-is))
       | else-is_some w ↦ (omega (arith, w.count-is), rw w.if-is_some.false (omega (arith, w.count-is)))
     ] in
-    let e = scan_counted a.columns a.lowers.now a.uppers.now h.p h.count _ _ _ h.invariant.1 c.handed.ensures c.in-Ok.is c.is_some.ensures in
+    let e = scan_counted a.matrix.columns a.matrix.lowers.now a.matrix.uppers.now h.p h.count _ _ _ h.invariant.1 c.handed.ensures c.in-Ok.is c.is_some.ensures in
     (omega (arith, k.0, h.invariant), e ∙ ap (λ (m : ℕ). gives m) k.1)

@@ -6,4 +6,4 @@ use Rattle.sheets.specs.Writing.{scan_to}
 use Rattle.sheets.proofs.tally.scan.Given as goal
 
 abbrev pub invariant-loop-p : goal.invariant-loop-p
-invariant-loop-p l = (l.count ≤ l.p) × (scan_to l.columns l.lowers l.uppers l.p ≡ gives l.count)
+invariant-loop-p l = (l.count ≤ l.p) × (scan_to l.matrix.columns l.matrix.lowers.now l.matrix.uppers.now l.p ≡ gives l.count)
