@@ -1,6 +1,6 @@
 // Operations on patterns where exponent field 255 means "none" (no finite number): the result is none where an operand is none, or where it is
 // too large for binary32. None is returned as minus infinity by rounding down, as infinity otherwise.
-// So of many steps only the last result must be tested: it is none if any step was.
+// So of many steps only the last result must be tested: it is none if any step was. No Option: the clauses promise a pattern (`hold D.NONE`).
 ghost use Rattle.std.specs.Prelude.{◌≡◌};
 ghost use Rattle.binary32.specs.Number.{hold};
 ghost use Rattle.binary32.specs.Operations.{add, sub, mul, midpoint, with₂};

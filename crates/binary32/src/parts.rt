@@ -1,4 +1,4 @@
-// A pattern split into significand and exponent, and a sign put before a magnitude. Used by exact.rt and funnel.rt.
+// A pattern split into significand and exponent, and a sign put before a magnitude. Used by exact.rt, funnel.rt and order.rt.
 ghost use Rattle.std.specs.Prelude.{◌≡◌};
 ghost use Rattle.binary32.specs.Number.{Finite, signed_by};
 ghost use Rattle.binary32.specs.Steps.{Decoded};

@@ -10,7 +10,7 @@ use refusals::Refusal;
 use running::Running;
 use running::cell::Gauged;
 
-// A start.
+// Starts the value.
 #[tactic(auto, unfolding(crate::specs::RunningValue::start_in))]
 fn start(value: &mut [u32]) -> Result<(), Refusal>
     ensures answer { result ≡ then (start_in value.old) done }
@@ -21,7 +21,7 @@ fn start(value: &mut [u32]) -> Result<(), Refusal>
     Ok(())
 }
 
-// A pair of cells.
+// Takes a pair of cells.
 #[tactic(auto, unfolding(crate::specs::RunningValue::take_in))]
 fn take(value: &mut [u32], a: Gauged, b: Gauged) -> Result<(), Refusal>
     ensures answer { result ≡ then (take_in value.old a b) done }
@@ -33,7 +33,7 @@ fn take(value: &mut [u32], a: Gauged, b: Gauged) -> Result<(), Refusal>
     Ok(())
 }
 
-// A load.
+// Exchanges the amounts.
 #[tactic(auto, unfolding(crate::specs::RunningValue::amounts_in))]
 fn exchange(value: &mut [u32], load: &[u8]) -> Result<(), Refusal>
     ensures answer { result ≡ then (amounts_in value.old load.now) done }

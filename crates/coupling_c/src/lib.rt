@@ -1,5 +1,6 @@
 // The library for callers in C: each function of coupling under the same name and with the same clauses, exported. Sheets and matrix products are in cells.rt;
-// the operations, the conversions and the running entry in files of their own.
+// the operations, the conversions and the running entry in files of their own. A crate is a library or a static library, not both: so each function
+// of coupling stands here once more, for C.
 #![tactic(auto)]
 
 ghost use Rattle.std.specs.Prelude.{◌≡◌, length};

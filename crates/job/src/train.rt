@@ -21,10 +21,7 @@ const MOST_SHEETS: u32 = 8;
 fn check_count(count: u32) -> Result<(), Refusal>
     ensures { result ≡ check_count count }
 {
-    if count < 1 {
-        return Err(Refusal::of_matrix(Reason::WrongCount, 0));
-    }
-    if MOST_SHEETS < count {
+    if count < 1 || MOST_SHEETS < count {
         return Err(Refusal::of_matrix(Reason::WrongCount, 0));
     }
     Ok(())

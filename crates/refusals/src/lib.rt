@@ -11,7 +11,7 @@ pub mod sizes;
 use reason::Reason;
 
 // The reason; the matrix: 1 A, 2 B, 3 the result, 0 none of them, and in a train the sheet's position, 1 to 8, or 9 for a product or the writing;
-// and the row and column of a cell, 0 where no cell is named.
+// and the row and column of a cell, 0 where no cell is named. The matrix is a number, since in a train it is a position.
 #[derive(Clone, Copy)]
 pub struct Refusal {
     pub reason: Reason,
@@ -25,12 +25,7 @@ impl Refusal {
     pub fn of_matrix(reason: Reason, matrix: u8) -> Self
         ensures { result ≡ of_matrix reason matrix }
     {
-        Refusal {
-            reason,
-            matrix,
-            row: 0,
-            column: 0,
-        }
+        Self::of_cell(reason, matrix, 0, 0)
     }
 
     // A refusal that names a cell.

@@ -5,7 +5,7 @@ ghost use Rattle.running.specs.Gauged.{gauged_of};
 use refusals::reason::Reason;
 use sheets::worn;
 
-// A cell as it was gauged: its bounds and its wear class.
+// A cell as it was gauged: its bounds and its wear class. The class is any number: `gauged_of` refuses those above 7.
 #[derive(Clone, Copy)]
 pub struct Gauged {
     pub lower: u32,
@@ -25,6 +25,7 @@ impl Gauged {
         if self.class > LAST_CLASS {
             return Err(Reason::UnknownClass);
         }
+        // A cast: `usize` has no `From<u32>`.
         let class = self.class as usize;
         worn::widened(self.lower, self.upper, amounts[class])
     }

@@ -10,7 +10,7 @@ use crate::layout::Record;
 use refusals::Refusal;
 use refusals::reason::Reason;
 
-// The kind of a sheet: what the last four bytes of a cell hold, a wear class or the wear amount itself.
+// The kind of a sheet, by a match for each record and no trait, since the definitions go by it: what the last four bytes of a cell hold, a wear class or the wear amount itself.
 #[derive(Clone, Copy, Debug, PartialEq, Eq)]
 pub enum Kind {
     Classes,

@@ -29,10 +29,7 @@ fn judge(rule: Rule, sizes: Sizes, least: usize, r: Record) -> Result<(), Refusa
     let Sizes { rows, columns } = sizes;
     let row = usize::from(r.row);
     let column = usize::from(r.column);
-    if row >= rows {
-        return Err(Refusal::of_matrix(Reason::Outside, 0));
-    }
-    if column >= columns {
+    if row >= rows || column >= columns {
         return Err(Refusal::of_matrix(Reason::Outside, 0));
     }
     let position = r.position(columns);

@@ -42,7 +42,7 @@ impl Record {
     }
 }
 
-// The two-byte number at byte p.
+// The two-byte number at byte p. Two functions: one for both widths would take a trait, longer than these two lines.
 #[tactic(auto, unfolding(crate::specs::Layout::u16_at))]
 pub fn u16_at(s: &[u8], p: usize) -> u16
     requires { p + 1 < length s.now }

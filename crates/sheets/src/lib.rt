@@ -24,7 +24,7 @@ use refusals::Refusal;
 use refusals::reason::Reason;
 use refusals::sizes::check_fit;
 
-// Rows and columns of a matrix.
+// Rows and columns of a matrix. No ghost field bounds them: `read_by` makes one of the two bytes of a head before they are checked.
 #[derive(Clone, Copy)]
 pub struct Sizes {
     pub rows: usize,
@@ -92,6 +92,7 @@ pub fn put(matrix: LentMatrix, out: &mut [u8]) -> Result<usize, Refusal>
 {
     let n = check_write(matrix, out.len())?;
     let total = n / 16 - 1;
+    // `as` loses nothing here; `TryFrom` would add an error that cannot come.
     records::put_head(
         out,
         records::next_of(total, 0),

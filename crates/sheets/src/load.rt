@@ -24,14 +24,14 @@ fn are_finite(amounts: &[u32; 8]) -> bool
     amounts.iter().all(|p| is_finite(*p))
 }
 
-// Whether none of them is below its forerunner.
+// Whether none of them is below the one before it.
 fn rise(amounts: &[u32; 8]) -> bool
     ensures { result ≡ rising amounts.now }
 {
     (0..7).all(|c| at_most(amounts[c], amounts[c + 1]))
 }
 
-// Whether the first amount is zero, of either sign, and none is below its forerunner.
+// Whether the first amount is zero, of either sign, and none is below the one before it.
 #[tactic(auto, unfolding(crate::specs::Load::ascending))]
 fn ascend(amounts: &[u32; 8]) -> bool
     ensures { result ≡ ascending amounts.now }
@@ -39,7 +39,7 @@ fn ascend(amounts: &[u32; 8]) -> bool
     magnitude(amounts[0]) == 0 && rise(amounts)
 }
 
-// The fault of eight amounts: NotFinite, one has exponent field 255; WrongLoad, the first is not zero or one is below its forerunner.
+// The fault of eight amounts: NotFinite, one has exponent field 255; WrongLoad, the first is not zero or one is below the one before it.
 #[tactic(auto, unfolding(crate::specs::Load::amounts_fault))]
 fn check(amounts: &[u32; 8]) -> Result<(), Reason>
     ensures { result ≡ amounts_fault amounts.now }

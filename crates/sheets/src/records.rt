@@ -63,23 +63,20 @@ fn put_cell(
     ensures { (result ≡ k + tally (handed_of lower upper))
         × (out.new ≡ over (16 * (k + 1)) (cell_bytes (next_of total (k + 1)) row column (handed_of lower upper)) out.old) }
 {
-    match handed(lower, upper) {
-        Ok(Some((lower, upper))) => {
-            let next = next_of(total, k + 1);
-            let cell = Record {
-                next,
-                row,
-                column,
-                lower,
-                upper,
-                wear: 0,
-            };
-            put_record(out, 16 * (k + 1), cell);
-            k + 1
-        }
-        Ok(None) => k,
-        Err(_) => k,
-    }
+    let Ok(Some((lower, upper))) = handed(lower, upper) else {
+        return k;
+    };
+    let next = next_of(total, k + 1);
+    let cell = Record {
+        next,
+        row,
+        column,
+        lower,
+        upper,
+        wear: 0,
+    };
+    put_record(out, 16 * (k + 1), cell);
+    k + 1
 }
 
 // Writes the records of all cells that are not [0, 0] behind the head.
@@ -98,6 +95,7 @@ pub fn put_cells(out: &mut [u8], total: usize, matrix: LentMatrix)
         uppers,
     } = matrix;
     let mut k = 0;
+    // By index: row and column come from it, and two slices are read side by side.
     for p in 0..rows * columns {
         k = put_cell(
             out,

@@ -19,6 +19,7 @@ pub fn scan(matrix: LentMatrix) -> Result<usize, Refusal>
         uppers,
     } = matrix;
     let mut count = 0;
+    // By index: row and column come from it, and two slices are read side by side.
     for p in 0..rows * columns {
         let cell = match handed(lowers[p], uppers[p]) {
             Ok(cell) => cell,

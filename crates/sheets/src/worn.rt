@@ -9,7 +9,7 @@ use binary32::order::{at_most, magnitude};
 use intervals::check;
 use refusals::reason::Reason;
 
-// The fault of a cell that is read: NotFinite, one of its bounds and its amount is not a number; Crossed, the lower bound is above the upper.
+// The fault of a cell that is read: NotFinite, a bound or the amount is not a number; Crossed, the lower bound is above the upper.
 #[tactic(auto, unfolding(crate::specs::Cell::worn_fault))]
 fn worn_fault(lower: u32, upper: u32, amount: u32) -> Result<(), Reason>
     ensures { result ≡ worn_fault lower upper amount }
@@ -33,7 +33,7 @@ pub fn widened(lower: u32, upper: u32, amount: u32) -> Result<(u32, u32), Reason
 // The pattern of 2^127. A sum of two numbers below it is at most the largest number.
 const HALF: u32 = 0x7F00_0000;
 
-// The reason alone why such a cell is refused. Nothing is worked out where amount and bounds are below 2^127 in magnitude.
+// Why such a cell is refused, without its widened bounds. Nothing is worked out where amount and bounds are below 2^127 in magnitude.
 pub fn check_worn(lower: u32, upper: u32, amount: u32) -> Result<(), Reason>
     ensures { result ≡ then (widened_of lower upper amount) done }
 {

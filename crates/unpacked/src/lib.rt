@@ -23,10 +23,10 @@ const LEAST_SIGNIFICAND: i64 = 0x80_0000;
 // The significand of none, which makes it a negative value in normal form.
 pub const NONE_SIGNIFICAND: i64 = -LEAST_SIGNIFICAND;
 
-// Number, Aligned and Product stay three types: each counts in units of its own, and no function serves two of them.
+// Number, Aligned and Product stay three types: each counts in units of its own, and no function but the change of sign serves two of them.
 
 // A number, sig × 2^(exp - BIAS) units, with |sig| from 2^23 to 2^24, or zero; or none, which stands for an overflow or a pattern with exponent field 255.
-// None is a negative value far below all numbers, so that a sum with it is far below all numbers too.
+// None is a negative value far below all numbers, so that a sum with it is far below all numbers too. No Option: the laws of sums speak of none as of a number.
 #[derive(Clone, Copy, Debug, PartialEq, Eq)]
 pub struct Number {
     pub sig: i64,
