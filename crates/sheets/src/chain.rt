@@ -29,7 +29,10 @@ fn judge(rule: Rule, sizes: Sizes, least: usize, r: Record) -> Result<(), Refusa
     let Sizes { rows, columns } = sizes;
     let row = usize::from(r.row);
     let column = usize::from(r.column);
-    if row >= rows || column >= columns {
+    if row >= rows {
+        return Err(Refusal::of_matrix(Reason::Outside, 0));
+    }
+    if column >= columns {
         return Err(Refusal::of_matrix(Reason::Outside, 0));
     }
     let position = r.position(columns);

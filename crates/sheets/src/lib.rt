@@ -90,14 +90,15 @@ pub fn put(matrix: LentMatrix, out: &mut [u8]) -> Result<usize, Refusal>
     ensures trip { TripOf
         matrix.entry.rows matrix.entry.columns matrix.entry.lowers.now matrix.entry.uppers.now result out.new }
 {
+    let LentMatrix { rows, columns, .. } = matrix;
     let n = check_write(matrix, out.len())?;
     let total = n / 16 - 1;
     // `as` loses nothing here; `TryFrom` would add an error that cannot come.
     records::put_head(
         out,
         records::next_of(total, 0),
-        matrix.rows as u8,
-        matrix.columns as u8,
+        rows as u8,
+        columns as u8,
         (total + 1) as u16,
     );
     records::put_cells(out, total, matrix);

@@ -63,20 +63,23 @@ fn put_cell(
     ensures { (result ≡ k + tally (handed_of lower upper))
         × (out.new ≡ over (16 * (k + 1)) (cell_bytes (next_of total (k + 1)) row column (handed_of lower upper)) out.old) }
 {
-    let Ok(Some((lower, upper))) = handed(lower, upper) else {
-        return k;
-    };
-    let next = next_of(total, k + 1);
-    let cell = Record {
-        next,
-        row,
-        column,
-        lower,
-        upper,
-        wear: 0,
-    };
-    put_record(out, 16 * (k + 1), cell);
-    k + 1
+    match handed(lower, upper) {
+        Ok(Some((lower, upper))) => {
+            let next = next_of(total, k + 1);
+            let cell = Record {
+                next,
+                row,
+                column,
+                lower,
+                upper,
+                wear: 0,
+            };
+            put_record(out, 16 * (k + 1), cell);
+            k + 1
+        }
+        Ok(None) => k,
+        Err(_) => k,
+    }
 }
 
 // Writes the records of all cells that are not [0, 0] behind the head.
