@@ -94,6 +94,10 @@ module _ (u w : ℕ) (z : magnitude_of u ≡ 0) (f : Finite w) where
   unfolding bind
   zero_product way e = with_held (mul way) u w (some (value_of u)) (some (value_of w)) (held_is u zero_finite) (held_is w f) ∙ ap (way binary32 (2 ^ 149)) (zero_left (value_of w) (zero_value u z)) ∙ e
 
+-- what is so of two patterns read is so of the pair that they are
+pub of_pair : (P : ℕ → ℕ → Type 0) {u w x y : ℕ} → u ≡ x → w ≡ y → P u w → P x y
+of_pair P {u} {w} {x} {y} e f h = subst (λ b. P x b) f (subst (λ a. P a w) e h)
+
 module _ (p : Line) where
   -- ---- a radius that grows
   unfoldable pub GrowthRuns : ℤ → ℕ → Number → Type 0

@@ -4,8 +4,10 @@ pub mod Classical
 pub mod Pair
 pub mod Centred
 pub mod Continued
+pub mod Line
 pub mod Row
 pub mod CentreSize
+pub mod Paired
 pub mod Derived
 pub mod MidRad
 pub mod Spot

@@ -7,7 +7,7 @@ ghost use Rattle.products.specs.Spot.{MiddleSum, spot};
 
 use crate::centred::Centred;
 use crate::entries::{Shape, Steps};
-use crate::operands::Operands;
+use crate::operands::{Line, Operands};
 use crate::radius::outer;
 use crate::sums::{Sums, ends};
 use unpacked::is_none;
@@ -55,7 +55,15 @@ impl<'a> Steps for Four<'a> {
 
     fn finish(self, _row: &(), s: Centred, i: usize, j: usize) -> Option<Sums> {
         let Shape { k, n, .. } = self.of.shape;
-        let radius = outer(s.radius, k, n, i, j, self.of.ra, self.wb);
+        let line = Line {
+            k,
+            n,
+            i,
+            j,
+            row: self.of.ra,
+            column: self.wb,
+        };
+        let radius = outer(s.radius, line);
         if is_none(radius) {
             return None;
         }

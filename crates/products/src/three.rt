@@ -9,7 +9,7 @@ use crate::centred::adds;
 use crate::entries::{Shape, Steps};
 use crate::nearest::Nearest;
 use crate::number::opposite;
-use crate::operands::Operands;
+use crate::operands::{Line, Operands};
 use crate::plus::plus_negative;
 use crate::radius::outer;
 use crate::sums::{Sums, ends};
@@ -76,7 +76,15 @@ impl<'a> Steps for Three<'a> {
         if is_none(inner) {
             return None;
         }
-        let radius = outer(inner, k, n, i, j, self.of.ra, self.wb);
+        let line = Line {
+            k,
+            n,
+            i,
+            j,
+            row: self.of.ra,
+            column: self.wb,
+        };
+        let radius = outer(inner, line);
         if is_none(radius) {
             return None;
         }

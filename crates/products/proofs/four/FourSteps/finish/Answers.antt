@@ -9,9 +9,8 @@ use Rattle.products.proofs.four.FourSteps.finish.Goals as goal
 pub outer-radius-requires : goal.outer-radius-requires
 outer-radius-requires c =
     let p = spot c.args.self.of c.args.i c.args.j in
-    let z = c.requires.0.0 in
     let a = middle_numbers p _ _ c.requires.4 in
-    (a.0.radius, a.1, reaches p _ _ _ (pair c.args.self.of.shape.m p z c.requires.1 c.requires.2) z.a.rads c.requires.0.1.long)
+    (a.0.radius, a.1)
 
 pub returns-then-is_none : goal.returns-then-is_none
 returns-then-is_none c =

@@ -11,7 +11,7 @@ pub outer-radius-requires : goal.outer-radius-requires
 outer-radius-requires c =
     let p = spot c.args.self.of c.args.i c.args.j in
     let a = middle_numbers p _ _ c.requires.4 in
-    (a.0.radius, a.1, reaches p _ _ _ (pair c.args.self.of.shape.m p c.requires.0.0 c.requires.1 c.requires.2) c.requires.0.0.a.rads c.requires.0.2.long)
+    (a.0.radius, a.1)
 
 pub returns-then-is_none : goal.returns-then-is_none
 returns-then-is_none c =
@@ -24,7 +24,7 @@ parts-t-requires c =
     let p = spot c.args.self.of c.args.i c.args.j in
     let a = (middle_numbers p _ _ c.requires.4).0 in
     let R = radius_runs c.args.self.of.shape.m p c.requires.0.0 c.requires.1 c.requires.2 _ c.requires.0.2 c.args.s.radius _ c.outer-radius.ensures (sym c.is_none.ensures ∙ c.if-is_none.false) in
-    (record { lower = a.lower; opposed = a.opposed; radius = R.number }, reaches p _ _ _ (pair c.args.self.of.shape.m p c.requires.0.0 c.requires.1 c.requires.2) c.requires.0.1.long c.requires.0.3.long, λ l m. held_number _ _ (made c.args.self.of.shape.m p c.requires.0.0 c.requires.1 c.requires.2 _ _ c.requires.0.1 c.requires.0.3 l m).second)
+    (record { lower = a.lower; opposed = a.opposed; radius = R.number }, λ l m. held_number _ _ (made c.args.self.of.shape.m p c.requires.0.0 c.requires.1 c.requires.2 _ _ c.requires.0.1 c.requires.0.3 l m).second)
 
 pub returns-then-refused : goal.returns-then-refused
 returns-then-refused c =

@@ -26,7 +26,7 @@ outer-radius-requires c =
     let p = spot c.args.self.of c.args.i c.args.j in
     let T = tiny_next p c.args.s c.minus_tiny.result c.plus_negative-inner.result c.requires.4 c.minus_tiny.ensures c.plus_negative-inner.ensures in
     let a = tiny_number p _ (tiny_sum p _ T (sym c.is_none.ensures ∙ c.if-is_none.false)) in
-    (a.0, a.1, reaches p _ _ _ (pair c.args.self.of.shape.m p c.requires.0.0 c.requires.1 c.requires.2) c.requires.0.0.a.rads c.requires.0.2.long)
+    (a.0, a.1)
 
 pub returns-then-is_none-2 : goal.returns-then-is_none-2
 returns-then-is_none-2 c =
