@@ -107,7 +107,7 @@ module _ (p : Spot) where
 
       module _ (s : Centred) (y : Number) (S : MiddleSum p p.k s) (R : Runs (negate (outers p (neg_ℤ (worth s.radius)) p.k)) y) where
         abbrev from : Centred
-        from = record { lower = s.lower; opposed = s.opposed; radius = y }
+        from = record { lower = s.lower; opposed = s.opposed; radius = y; lower_number = s.lower_number; opposed_number = s.opposed_number; radius_number = R.number }
 
         pub seven_parts : PartsNone (line p pa pb) from p.k → entry_by p seven c ≡ none
         seven_parts o = is ∙ ends_none radius (centred down) (centred up) (go o)

@@ -19,7 +19,8 @@ use Rattle.products.specs.declared.nearest.Nearest.{Nearest}
 use Rattle.products.specs.declared.sums.Sums.{Sums}
 use Rattle.unpacked.specs.Number.{worth, IsNumber, Below, Holds, Runs, Opposite, minus_tiny}
 use Rattle.products.specs.Running.{plus_down, Ended, HoldsRange}
-use Rattle.products.specs.Centred.{zero_nearest, NearNumbers, NearAdded, refused_nearest, NearestSum, adds_of, OneNone}
+use Rattle.products.specs.Centred.{zero_nearest, NearNumbers, NearAdded, refused_nearest, NearestSum, OneNone}
+use Rattle.products.specs.Terms.{adds_of}
 use Rattle.products.specs.Derived.{raised_of, factor_of}
 use Rattle.products.proofs.Carrying.{holds_runs, holds_none, zero_runs, zero_below, mirrored_is, negate_none, any_more, up_more, sum_stays}
 use Rattle.products.proofs.Radii.{plus_below, grown_below}

@@ -2,6 +2,7 @@ pub mod Apart
 pub mod Running
 pub mod Classical
 pub mod Pair
+pub mod Terms
 pub mod Centred
 pub mod Continued
 pub mod Line

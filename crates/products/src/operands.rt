@@ -36,11 +36,7 @@ impl<'a> Operands<'a> {
             return Some(s);
         }
         let b = l * self.shape.n + j;
-        let t = s.step::<METHOD>(x, self.mb[b], self.rb[b]);
-        if t.refused() {
-            return None;
-        }
-        Some(t)
+        s.step::<METHOD>(x, self.mb[b], self.rb[b])
     }
 }
 

@@ -1,7 +1,6 @@
 // Method 7: it continues the sums of method 4 over the parts p: pA × pB is added to both centres, and |pA| × |pB| is taken from the radius.
 ghost use Rattle.std.specs.Prelude.{◌*◌};
 ghost use Rattle.enclosure.specs.Methods.{seven};
-ghost use Rattle.products.specs.Centred.{AllNumbers};
 ghost use Rattle.products.specs.Continued.{Numbers, PartsAdded};
 ghost use Rattle.products.specs.Derived.{Derived, outer_of, part_of};
 ghost use Rattle.products.specs.Line.{line_of};
@@ -15,23 +14,20 @@ use crate::radius::outer;
 use crate::sums::{Sums, ends};
 use unpacked::is_none;
 
-// The sums after a step for each pair of the line. The loop ends at the first overflow, and the result is then refused. By index: the cells of a column are n
+// The sums after a step for each pair of the line, or None at the first overflow. By index: the cells of a column are n
 // apart, and step_by beside a row is no plainer.
-fn parts(sums: Centred, line: Line) -> Centred
-    requires { AllNumbers sums × Numbers (line_of line) }
+fn parts(sums: Centred, line: Line) -> Option<Centred>
+    requires { Numbers (line_of line) }
     ensures { PartsAdded (line_of line.entry) sums result }
 {
     let mut s = sums;
     for l in 0..line.k {
         let x = line.first(l);
         if is_nonzero(x) {
-            s = s.step_parts(x, line.second(l));
-            if s.refused() {
-                return s;
-            }
+            s = s.step_parts(x, line.second(l))?;
         }
     }
-    s
+    Some(s)
 }
 
 // pa and pb have the part p for each cell of A and of B, wb |m| + r for each cell of B.
@@ -101,10 +97,12 @@ impl<'a> Steps for Seven<'a> {
             row: self.pa,
             column: self.pb,
         };
-        let t = parts(Centred { radius, ..s }, cut);
-        if t.refused() {
-            return None;
-        }
+        let sums = Centred {
+            lower: s.lower,
+            opposed: s.opposed,
+            radius,
+        };
+        let t = parts(sums, cut)?;
         ends(t.lower, t.opposed, t.radius).whole()
     }
 }

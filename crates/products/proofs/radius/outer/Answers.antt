@@ -5,7 +5,8 @@ use Prim.Native.Nat.{◌+◌}
 use native.Mathlib.Omega.{arith}
 use lib.IntN.{neg_ℤ}
 use Rattle.unpacked.specs.Number.{worth}
-use Rattle.products.specs.Centred.{Grown, adds_of}
+use Rattle.products.specs.Centred.{Grown}
+use Rattle.products.specs.Terms.{adds_of}
 use Rattle.products.specs.Continued.{Line}
 use Rattle.products.specs.Line.{line_of}
 use Rattle.products.proofs.Continuing.{of_pair, GrowthRuns, growth_start, growth_number, growth_more, growth_skip, growth_none, growth_whole}
