@@ -150,7 +150,7 @@ module _ (p : Spot) where
     pub four_outer : (s : Centred) → MiddleSum p p.k s → outers (neg_ℤ (worth s.radius)) p.k ≡ none → entry_by four c ≡ none
     four_outer s S e = is ∙ ends_none radius (middles p down p.k) (middles p up p.k) (inr (inr (radius_is s S (λ v. outers v p.k) ∙ e)))
 
-    pub four_holds : (s : Centred) (x : Number) (e : Sums) → MiddleSum p p.k s → Runs (negate (outers (neg_ℤ (worth s.radius)) p.k)) x → Ended s.lower s.opposed x e → HoldsRange (entry_by four c) e
+    pub four_holds : (s : Centred) (x : Number) (e : Maybe Sums) → MiddleSum p p.k s → Runs (negate (outers (neg_ℤ (worth s.radius)) p.k)) x → Ended s.lower s.opposed x e → HoldsRange (entry_by four c) e
     unfolding MiddleSum
     four_holds s x e S R E =
         subst (λ m. HoldsRange m e) (sym is)

@@ -117,7 +117,7 @@ module _ (p : Spot) where
             go (inr (inl e)) = inr (inl (high_is s S ∙ parts_are up _ ∙ e))
             go (inr (inr e)) = inr (inr (radius_is s S y R ∙ shareds_are _ ∙ e))
 
-        pub seven_holds : (t : Centred) (e : Sums) → PartsSum (line p pa pb) from p.k t → Ended t.lower t.opposed t.radius e → HoldsRange (entry_by p seven c) e
+        pub seven_holds : (t : Centred) (e : Maybe Sums) → PartsSum (line p pa pb) from p.k t → Ended t.lower t.opposed t.radius e → HoldsRange (entry_by p seven c) e
         seven_holds t e Q E =
             subst (λ m. HoldsRange m e) (sym is)
             (ends_hold radius (centred down) (centred up) t.lower t.opposed t.radius e

@@ -18,7 +18,7 @@ use crate::operands::{Line, Operands};
 use crate::plus::plus;
 use crate::radius::outer;
 use crate::row::{Pairs, unpack_row};
-use crate::sums::{Sums, ends};
+use crate::sums::Sums;
 use binary32::direction::Down;
 use refusals::sizes::LARGEST_SIZE;
 use unpacked::{Number, is_none, zero};
@@ -133,6 +133,6 @@ impl<'a> Steps for Five<'a> {
         if is_none(r) {
             return None;
         }
-        ends(t.centre, opposite(t.centre), r).whole()
+        Sums::ends(t.centre, opposite(t.centre), r)
     }
 }

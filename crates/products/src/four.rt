@@ -9,7 +9,7 @@ use crate::centred::Centred;
 use crate::entries::{Shape, Steps};
 use crate::operands::{Line, Operands};
 use crate::radius::outer;
-use crate::sums::{Sums, ends};
+use crate::sums::Sums;
 use unpacked::is_none;
 
 // wb has |m| + r for each cell of B.
@@ -67,6 +67,6 @@ impl<'a> Steps for Four<'a> {
         if is_none(radius) {
             return None;
         }
-        ends(s.lower, s.opposed, radius).whole()
+        Sums::ends(s.lower, s.opposed, radius)
     }
 }

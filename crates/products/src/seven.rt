@@ -11,7 +11,7 @@ use crate::centred::{Centred, is_nonzero};
 use crate::entries::{Shape, Steps};
 use crate::operands::{Line, Operands};
 use crate::radius::outer;
-use crate::sums::{Sums, ends};
+use crate::sums::Sums;
 use unpacked::is_none;
 
 // The sums after a step for each pair of the line, or None at the first overflow. By index: the cells of a column are n
@@ -103,6 +103,6 @@ impl<'a> Steps for Seven<'a> {
             radius,
         };
         let t = parts(sums, cut)?;
-        ends(t.lower, t.opposed, t.radius).whole()
+        Sums::ends(t.lower, t.opposed, t.radius)
     }
 }

@@ -12,7 +12,7 @@ use crate::number::opposite;
 use crate::operands::{Line, Operands};
 use crate::plus::plus_negative;
 use crate::radius::outer;
-use crate::sums::{Sums, ends};
+use crate::sums::Sums;
 use binary32::direction::Down;
 use unpacked::{is_none, minus_tiny};
 
@@ -88,6 +88,6 @@ impl<'a> Steps for Three<'a> {
         if is_none(radius) {
             return None;
         }
-        ends(s.centre, opposite(s.centre), radius).whole()
+        Sums::ends(s.centre, opposite(s.centre), radius)
     }
 }

@@ -13,7 +13,6 @@ use Rattle.products.specs.Spot.{Spot, spot}
 use Rattle.products.proofs.Carrying.{zero_runs, zero_below}
 use Rattle.products.proofs.FiveEntry.{Lists, Prepared, mids, parts, outers, five_none, five_holds, mids_paired, parts_paired, outers_reach}
 use Rattle.products.proofs.FiveRange.{first_none, second_none, radius_none, range_holds}
-use Rattle.products.proofs.Wholes.{whole_holds}
 use Rattle.products.proofs.five.FiveSteps.finish.Goals as goal
 
 -- what was worked out before
@@ -112,6 +111,5 @@ returns c =
     let zs = zero_worth c.zero-2.ensures in
     let S = c.sum_pairs-s.ensures.numbers (sym c.refused.ensures ∙ c.if-refused.false) in
     let T = c.sum_pairs-t.ensures.numbers (sym c.refused-2.ensures ∙ c.if-refused-2.false) in
-    whole_holds _ c.ends.result c.whole.result c.whole.ensures
-    (five_holds p q W _ refl c.ends.result
-    (range_holds (mids p q) (parts p q) (outers p q) z zc zs c.sum_pairs-s.result S c.sum_pairs-t.result T c.radius-r.result c.radius-r.ensures c.opposite.result c.ends.result (sym c.is_none.ensures ∙ c.if-is_none.false) c.opposite.ensures c.ends.ensures))
+    five_holds p q W _ refl c.ends.result
+    (range_holds (mids p q) (parts p q) (outers p q) z zc zs c.sum_pairs-s.result S c.sum_pairs-t.result T c.radius-r.result c.radius-r.ensures c.opposite.result c.ends.result (sym c.is_none.ensures ∙ c.if-is_none.false) c.opposite.ensures c.ends.ensures)

@@ -3,7 +3,6 @@ use mathlib.Core.Path.{refl, sym, ◌∙◌}
 use Rattle.products.specs.Spot.{spot}
 use Rattle.products.proofs.FourEntry.{middle_below, reaches, four_outer, four_holds}
 use Rattle.products.proofs.Turns.{pair, radius_runs, radius_none}
-use Rattle.products.proofs.Wholes.{whole_holds}
 use Rattle.products.proofs.four.FourSteps.finish.Goals as goal
 
 pub outer-radius-requires : goal.outer-radius-requires
@@ -27,5 +26,4 @@ pub returns : goal.returns
 returns c =
     let p = spot c.args.self.of c.args.i c.args.j in
     let R = radius_runs c.args.self.of.shape.m p c.requires.0.0 c.requires.1 c.requires.2 _ c.requires.0.1 c.args.s.radius _ c.outer-radius.ensures (sym c.is_none.ensures ∙ c.if-is_none.false) in
-    whole_holds _ c.ends.result c.whole.result c.whole.ensures
-    (four_holds p _ refl c.requires.2 c.args.s _ c.ends.result c.requires.4 R c.ends.ensures)
+    four_holds p _ refl c.requires.2 c.args.s _ c.ends.result c.requires.4 R c.ends.ensures

@@ -2,13 +2,12 @@
 use mathlib.Core.Path.{refl, sym, ◌∙◌, subst}
 use Prim.Native.Nat.{◌+◌, ◌*◌}
 use Rattle.enclosure.specs.Methods.{seven}
-use Rattle.products.specs.Entries.{Whole}
+use Rattle.products.specs.Running.{HoldsRange}
 use Rattle.products.specs.MidRad.{entries_of}
 use Rattle.products.specs.Spot.{spot}
 use Rattle.products.proofs.FourEntry.{middle_below, reaches}
 use Rattle.products.proofs.SevenEntry.{seven_outer, seven_parts, seven_holds, held_number}
 use Rattle.products.proofs.Turns.{pair, radius_runs, radius_none, made}
-use Rattle.products.proofs.Wholes.{whole_holds}
 use Rattle.products.proofs.seven.SevenSteps.finish.Goals as goal
 
 pub outer-radius-requires : goal.outer-radius-requires
@@ -40,12 +39,11 @@ pub returns-in_err-t : goal.returns-in_err-t
 returns-in_err-t c =
     let p = spot c.args.self.of c.args.i c.args.j in
     let R = radius_runs c.args.self.of.shape.m p c.requires.0.0 c.requires.1 c.requires.2 _ c.requires.0.2 c.args.s.radius _ c.outer-radius.ensures (sym c.is_none.ensures ∙ c.if-is_none.false) in
-    subst (Whole (entries_of seven c.args.self.of (c.args.i * c.args.self.of.shape.n + c.args.j))) (sym c.from_residual.ensures)
+    subst (HoldsRange (entries_of seven c.args.self.of (c.args.i * c.args.self.of.shape.n + c.args.j))) (sym c.from_residual.ensures)
     (seven_parts p _ refl c.requires.2 _ _ (made c.args.self.of.shape.m p c.requires.0.0 c.requires.1 c.requires.2 _ _ c.requires.0.1 c.requires.0.3) _ _ c.requires.4 R c.in_err-t.ensures)
 
 pub returns : goal.returns
 returns c =
     let p = spot c.args.self.of c.args.i c.args.j in
     let R = radius_runs c.args.self.of.shape.m p c.requires.0.0 c.requires.1 c.requires.2 _ c.requires.0.2 c.args.s.radius _ c.outer-radius.ensures (sym c.is_none.ensures ∙ c.if-is_none.false) in
-    whole_holds _ c.ends.result c.whole.result c.whole.ensures
-    (seven_holds p _ refl c.requires.2 _ _ (made c.args.self.of.shape.m p c.requires.0.0 c.requires.1 c.requires.2 _ _ c.requires.0.1 c.requires.0.3) _ _ c.requires.4 R _ c.ends.result c.in_ok-t.ensures c.ends.ensures)
+    seven_holds p _ refl c.requires.2 _ _ (made c.args.self.of.shape.m p c.requires.0.0 c.requires.1 c.requires.2 _ _ c.requires.0.1 c.requires.0.3) _ _ c.requires.4 R _ c.ends.result c.in_ok-t.ensures c.ends.ensures
