@@ -1,6 +1,7 @@
 -- A pair of cells added to the sums of an entry: the fault of sums and cells by the tests of the code, and the answer from the running sums after the step.
 use mathlib.Core.Path.{◌≡◌, refl, sym, ap}
-use mathlib.Core.Bool.{Bool, true, false}
+use mathlib.Core.Bool.{Bool, true}
+use Rattle.std.specs.Prelude.{Some, None}
 use Prim.Native.Nat.{ℕ}
 use Rattle.rounding.specs.Format.{binary32}
 use Rattle.enclosure.specs.Arithmetic.{of}
@@ -12,7 +13,7 @@ use Rattle.binary32.specs.Number.{finites, pattern_of}
 use Rattle.intervals.specs.Conversion.{fault_of}
 use Rattle.products.specs.declared.sums.Sums.{Sums}
 use Rattle.products.specs.Classical.{pattern_cell}
-use Rattle.products.specs.Running.{HoldsRange, bounds_of, refused_sums}
+use Rattle.products.specs.Running.{HoldsRange, bounds_of}
 use Rattle.products.specs.Pair.{range_of, range_answer, pair_fault, pair_added}
 
 module _ (s a b : ℕ × ℕ) where
@@ -42,12 +43,13 @@ module _ (s a b : ℕ × ℕ) where
       let u = then_tells second _ tt t.1 in
       record { a_fine = t.0.1; b_fine = u.0.1; sums_fine = unless_tells numbers NotFinite u.1 }
 
-  -- r holds the sums with the pair added, or their refusal
-  module _ (r : Sums) (e : pair_fault s a b ≡ done) (h : HoldsRange (add_pair (of binary32) (range_of s) (pattern_cell a.0 a.1) (pattern_cell b.0 b.1)) r) where
-    pub added_refused : refused_sums r ≡ true → refuses TooLarge ≡ pair_added s a b
+  -- r holds the sums with the pair added; where it is none, they are refused
+  module _ (e : pair_fault s a b ≡ done) where
+    pub added_refused : HoldsRange (add_pair (of binary32) (range_of s) (pattern_cell a.0 a.1) (pattern_cell b.0 b.1)) None → refuses TooLarge ≡ pair_added s a b
     unfolding pair_added
-    added_refused t = then_gives _ tt _ _ e (ap range_answer (sym (h.refused t)))
+    added_refused h = then_gives _ tt _ _ e (ap range_answer (sym h))
 
-    pub added_given : refused_sums r ≡ false → gives (pattern_of (bounds_of r).lower, pattern_of (bounds_of r).upper) ≡ pair_added s a b
+    pub added_given : (r : Sums) → HoldsRange (add_pair (of binary32) (range_of s) (pattern_cell a.0 a.1) (pattern_cell b.0 b.1)) (Some r)
+        → gives (pattern_of (bounds_of r).lower, pattern_of (bounds_of r).upper) ≡ pair_added s a b
     unfolding pair_added
-    added_given t = then_gives _ tt _ _ e (ap range_answer (sym (h.whole t)))
+    added_given r h = then_gives _ tt _ _ e (ap range_answer (sym h))

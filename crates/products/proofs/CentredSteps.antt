@@ -1,10 +1,11 @@
 -- The running sums of methods 4 and 7: where they start, what a step makes of them, and that they go on or that one of them is refused.
-use mathlib.Core.Path.{◌≡◌, refl, ap, subst}
-use mathlib.Core.Bool.{true, false, cond}
-use mathlib.Core.Logic.{◌⊎◌, inl, inr}
+use mathlib.Core.Path.{◌≡◌, refl, sym, ap, subst}
+use mathlib.Core.Bool.{false}
+use mathlib.Core.Logic.{inl, inr}
+use Rattle.std.specs.Prelude.{Some, None}
 use mathlib.Core.Option.{Option, none, some}
-use Prim.Native.Nat.{ℕ, ◌+◌, ◌<◌}
-use lib.Dec.{ltb}
+use Prim.Native.Nat.{ℕ, ◌+◌, ◌≤◌, ◌<◌}
+use borrow.Author.Tests.{le-ltb}
 use lib.IntN.{ℤ, pos, neg_ℤ, neg_ℤ-neg_ℤ}
 use Rattle.rounding.specs.Format.{binary32}
 use Rattle.rounding.specs.Rounding.{up, down, negate}
@@ -12,45 +13,22 @@ use Rattle.enclosure.specs.Sums.{sum}
 use Rattle.binary32.specs.Operations.{mul, with₂}
 use Rattle.unpacked.specs.declared.Number.{Number}
 use Rattle.products.specs.declared.centred.Centred.{Centred}
-use Rattle.unpacked.specs.Number.{worth, IsNumber, Holds, Runs}
+use Rattle.unpacked.specs.Number.{worth, IsNumber, Holds, Runs, zero_number, no_number}
+use Rattle.unpacked.proofs.Packing.{exp_high}
+use Rattle.unpacked.proofs.Unpacking.{none_holds}
 use Rattle.products.specs.Running.{plus_down}
-use Rattle.products.specs.Centred.{zero_centred, AllNumbers, Added, refused_centred, CentredSum, OneNone}
-use Rattle.products.proofs.Or.{or_first, or_second, or_cases}
+use Rattle.products.specs.Centred.{Added, CentredSum, OneNone}
 use Rattle.products.proofs.Carrying.{holds_runs, runs_holds, holds_none, zero_runs, negate_none, down_more, up_more, sum_stays}
 
--- the same where each of the three is a number or none
-pub record CentredHolds (low high rad : Option ℤ) (s : Centred) : Type 0 where
-  pub lower : Holds low s.lower
-  pub upper : Holds (negate high) s.opposed
-  pub radius : Holds (negate rad) s.radius
+-- ---- a sum that is a number, or none
+pub held_fits : {m : Option ℤ} {x : Number} → Holds m x → x.exp ≤ 653 → IsNumber x
+held_fits {m} {x} h e = (holds_runs m x h (le-ltb 653 x.exp e)).number
 
-pub all_numbers : {low high rad : Option ℤ} (s : Centred) → CentredSum low high rad s → AllNumbers s
-all_numbers s h = record { lower = h.lower.number; opposed = h.upper.number; radius = h.radius.number }
+number_runs : {m : Option ℤ} {x : Number} → IsNumber x → Holds m x → Runs m x
+number_runs {m} {x} n h = holds_runs m x h (le-ltb 653 x.exp (exp_high x n))
 
-pub centred_holds : {low high rad : Option ℤ} (s : Centred) → CentredSum low high rad s → CentredHolds low high rad s
-centred_holds s h = record { lower = runs_holds h.lower; upper = runs_holds h.upper; radius = runs_holds h.radius }
-
--- ---- a test of the three
-module _ (low high rad : Option ℤ) (s : Centred) (h : CentredHolds low high rad s) where
-  pub centred_runs : refused_centred s ≡ false → CentredSum low high rad s
-  centred_runs e =
-      let f = or_second (ltb 653 s.lower.exp) (cond (ltb 653 s.opposed.exp) true (ltb 653 s.radius.exp)) e in
-      record {
-        lower = holds_runs low s.lower h.lower (or_first (ltb 653 s.lower.exp) _ e);
-        upper = holds_runs (negate high) s.opposed h.upper (or_first (ltb 653 s.opposed.exp) (ltb 653 s.radius.exp) f);
-        radius = holds_runs (negate rad) s.radius h.radius (or_second (ltb 653 s.opposed.exp) (ltb 653 s.radius.exp) f);
-      }
-
-  pub centred_none : refused_centred s ≡ true → OneNone low high rad
-  centred_none e = first (or_cases (ltb 653 s.lower.exp) (cond (ltb 653 s.opposed.exp) true (ltb 653 s.radius.exp)) e)
-    where
-      second : (ltb 653 s.opposed.exp ≡ true) ⊎ (ltb 653 s.radius.exp ≡ true) → (high ≡ none) ⊎ (rad ≡ none)
-      second (inl t) = inl (negate_none high (holds_none (negate high) s.opposed h.upper t))
-      second (inr t) = inr (negate_none rad (holds_none (negate rad) s.radius h.radius t))
-
-      first : (ltb 653 s.lower.exp ≡ true) ⊎ (cond (ltb 653 s.opposed.exp) true (ltb 653 s.radius.exp) ≡ true) → OneNone low high rad
-      first (inl t) = inl (holds_none low s.lower h.lower t)
-      first (inr t) = inr (second (or_cases (ltb 653 s.opposed.exp) (ltb 653 s.radius.exp) t))
+no_holds : {m : Option ℤ} → m ≡ none → Holds m no_number
+no_holds e = subst (λ m. Holds m no_number) (sym e) none_holds
 
 -- ---- a radius alone, kept with the other sign
 pub radius_from : (h : ℕ → Option ℤ) (x : Number) → IsNumber x → Runs (negate (sum (up binary32 1) h (neg_ℤ (worth x)) 0)) x
@@ -63,15 +41,22 @@ radius_more h c l x r t R e H = up_more h c l x r (h l) R refl (subst (λ u. Hol
 
 -- ---- the three sums of terms f, g and h, from a, b and c
 module _ (f g h : ℕ → Option ℤ) (a b c : ℤ) where
-  pub centred_more : (l : ℕ) (s r : Centred) (x y : ℕ) (t : Option ℤ) → CentredSum (sum (down binary32 1) f a l) (sum (up binary32 1) g b l) (sum (up binary32 1) h c l) s → Added s x y t r
-      → f l ≡ with₂ (mul down) x y → g l ≡ with₂ (mul up) x y → t ≡ negate (h l)
-      → CentredHolds (sum (down binary32 1) f a (l + 1)) (sum (up binary32 1) g b (l + 1)) (sum (up binary32 1) h c (l + 1)) r
-  centred_more l s r x y t S A e d q =
-      record {
-        lower = down_more f a l s.lower r.lower (with₂ (mul down) x y) S.lower e A.lower;
-        upper = up_more g b l s.opposed r.opposed (with₂ (mul up) x y) S.upper d A.opposed;
-        radius = radius_more h c l s.radius r.radius t S.radius q A.radius;
-      }
+  module _ (l : ℕ) (s : Centred) (x y : ℕ) (t : Option ℤ) (S : CentredSum (sum (down binary32 1) f a l) (sum (up binary32 1) g b l) (sum (up binary32 1) h c l) s)
+    (e : f l ≡ with₂ (mul down) x y) (d : g l ≡ with₂ (mul up) x y) (q : t ≡ negate (h l)) where
+    -- after a step
+    pub centred_more : (r : Centred) → Added s x y t (Some r) → CentredSum (sum (down binary32 1) f a (l + 1)) (sum (up binary32 1) g b (l + 1)) (sum (up binary32 1) h c (l + 1)) r
+    centred_more r A =
+        record {
+          lower = number_runs r.lower_number (down_more f a l s.lower r.lower (with₂ (mul down) x y) S.lower e (runs_holds A.lower));
+          upper = number_runs r.opposed_number (up_more g b l s.opposed r.opposed (with₂ (mul up) x y) S.upper d (runs_holds A.opposed));
+          radius = number_runs r.radius_number (radius_more h c l s.radius r.radius t S.radius q (runs_holds A.radius));
+        }
+
+    -- a step that has no numbers
+    pub centred_none : Added s x y t None → OneNone (sum (down binary32 1) f a (l + 1)) (sum (up binary32 1) g b (l + 1)) (sum (up binary32 1) h c (l + 1))
+    centred_none (inl n) = inl (holds_none _ no_number (down_more f a l s.lower no_number _ S.lower e (no_holds n)) refl)
+    centred_none (inr (inl n)) = inr (inl (negate_none _ (holds_none _ no_number (up_more g b l s.opposed no_number _ S.upper d (no_holds n)) refl)))
+    centred_none (inr (inr n)) = inr (inr (negate_none _ (holds_none _ no_number (radius_more h c l s.radius no_number t S.radius q (no_holds n)) refl)))
 
   -- a refusal stays
   pub one_stays : (l k : ℕ) → l < k → OneNone (sum (down binary32 1) f a (l + 1)) (sum (up binary32 1) g b (l + 1)) (sum (up binary32 1) h c (l + 1))
@@ -81,12 +66,12 @@ module _ (f g h : ℕ → Option ℤ) (a b c : ℤ) where
   one_stays l k m (inr (inr e)) = inr (inr (sum_stays (up binary32 1) h c l k m e))
 
 -- sums of no terms
-pub centred_none_yet : (f g h : ℕ → Option ℤ) → CentredSum (sum (down binary32 1) f (pos 0) 0) (sum (up binary32 1) g (pos 0) 0) (sum (up binary32 1) h (pos 0) 0) zero_centred
+pub centred_none_yet : (f g h : ℕ → Option ℤ) (s : Centred) → (s.lower ≡ zero_number) × (s.opposed ≡ zero_number) × (s.radius ≡ zero_number) → CentredSum (sum (down binary32 1) f (pos 0) 0) (sum (up binary32 1) g (pos 0) 0) (sum (up binary32 1) h (pos 0) 0) s
 unfolding sum
-centred_none_yet f g h = record { lower = zero_runs; upper = zero_runs; radius = zero_runs }
+centred_none_yet f g h s (a, b, c) = record { lower = subst (Runs (some (pos 0))) (sym a) zero_runs; upper = subst (Runs (some (pos 0))) (sym b) zero_runs; radius = subst (Runs (some (pos 0))) (sym c) zero_runs }
 
 -- sums that go on from numbers
-pub centred_from : (f g h : ℕ → Option ℤ) (s : Centred) → AllNumbers s
+pub centred_from : (f g h : ℕ → Option ℤ) (s : Centred)
     → CentredSum (sum (down binary32 1) f (worth s.lower) 0) (sum (up binary32 1) g (neg_ℤ (worth s.opposed)) 0) (sum (up binary32 1) h (neg_ℤ (worth s.radius)) 0) s
 unfolding sum
-centred_from f g h s N = record { lower = record { is = refl; number = N.lower }; upper = radius_from g s.opposed N.opposed; radius = radius_from h s.radius N.radius }
+centred_from f g h s = record { lower = record { is = refl; number = s.lower_number }; upper = radius_from g s.opposed s.opposed_number; radius = radius_from h s.radius s.radius_number }

@@ -4,6 +4,7 @@ use mathlib.Core.Path.{◌≡◌, refl, sym, ap, ap₂, ◌∙◌, subst}
 use mathlib.Core.Bool.{Bool, true, false, cond}
 use mathlib.Core.List.{[], ◌∷◌}
 use mathlib.Core.Option.{none, some, bind}
+use Rattle.std.specs.Prelude.{Some, None}
 use Prim.Native.Nat.{ℕ, ◌+◌, ◌^◌, ◌<◌}
 use native.Mathlib.Omega.{arith}
 use lib.Dec.{T, ltb}
@@ -26,14 +27,15 @@ use Rattle.unpacked.specs.declared.Product.{Product}
 use Rattle.products.specs.declared.centred.Centred.{Centred}
 use Rattle.unpacked.specs.Number.{worth, IsNumber, Below, Holds, Runs}
 use Rattle.unpacked.specs.Exact.{Exact, Exactly, RoundedDown, RoundedUp}
-use Rattle.products.specs.Centred.{adds_of, shrinkage, Grown, AllNumbers, Added, SizeDown, refused_centred}
+use Rattle.products.specs.Centred.{shrinkage, Grown, Added}
+use Rattle.products.specs.Terms.{adds_of, SizeDown}
 use Rattle.products.specs.Continued.{Line, first, second, grown_by, Continued, centre_by, shrunk_by, PartsSum, PartsNone, PartsAdded}
 use Rattle.unpacked.proofs.CornerRounding.{mirror}
 use Rattle.unpacked.proofs.CornerTerms.{zero_value, zero_left}
 use Rattle.unpacked.proofs.Patterns.{held_is, held_magnitude, magnitude_value, magnitude_test}
 use Rattle.products.proofs.Carrying.{true_false, holds_runs, runs_holds, holds_none, negate², negate_none, up_more, sum_stays}
 use Rattle.products.proofs.Radii.{abs_same, grown_below}
-use Rattle.products.proofs.CentredSteps.{CentredHolds, centred_holds, centred_runs, centred_none, centred_more, centred_from, one_stays, radius_from}
+use Rattle.products.proofs.CentredSteps.{centred_none, centred_more, centred_from, one_stays, radius_from}
 use Rattle.products.proofs.MidRadSteps.{with_held}
 use Rattle.products.proofs.Zeros.{up_same, centred_same, adds_not, magnitude_zero, down_zero, up_zero}
 
@@ -94,6 +96,10 @@ module _ (u w : ℕ) (z : magnitude_of u ≡ 0) (f : Finite w) where
   unfolding bind
   zero_product way e = with_held (mul way) u w (some (value_of u)) (some (value_of w)) (held_is u zero_finite) (held_is w f) ∙ ap (way binary32 (2 ^ 149)) (zero_left (value_of w) (zero_value u z)) ∙ e
 
+-- what is so of two patterns read is so of the pair that they are
+pub of_pair : (P : ℕ → ℕ → Type 0) {u w x y : ℕ} → u ≡ x → w ≡ y → P u w → P x y
+of_pair P {u} {w} {x} {y} e f h = subst (λ b. P x b) f (subst (λ a. P a w) e h)
+
 module _ (p : Line) where
   -- ---- a radius that grows
   unfoldable pub GrowthRuns : ℤ → ℕ → Number → Type 0
@@ -136,21 +142,18 @@ module _ (p : Line) where
   growth_whole x l r e S = subst (λ n. Holds (negate (grown_by p (neg_ℤ (worth x)) n)) r) e (runs_holds S.0)
 
   -- ---- the sums with method 7's parts
-  pub parts_start : (s : Centred) → AllNumbers s → PartsSum p s 0 s
+  pub parts_start : (s : Centred) → PartsSum p s 0 s
   unfolding centre_by shrunk_by
-  parts_start s N = centred_from _ _ _ s N
+  parts_start s = centred_from _ _ _ s
 
-  module _ (s : Centred) (l : ℕ) (r t : Centred) (S : PartsSum p s l r) (A : Added r (first p l) (second p l) (shrinkage (first p l) (second p l)) t) where
-    parts_next : CentredHolds (centre_by p down (worth s.lower) (l + 1)) (centre_by p up (neg_ℤ (worth s.opposed)) (l + 1)) (shrunk_by p (neg_ℤ (worth s.radius)) (l + 1)) t
+  module _ (s : Centred) (l : ℕ) (r : Centred) (S : PartsSum p s l r) where
+    pub parts_more : (t : Centred) → Added r (first p l) (second p l) (shrinkage (first p l) (second p l)) (Some t) → PartsSum p s (l + 1) t
     unfolding centre_by shrunk_by
-    parts_next = centred_more _ _ _ _ _ _ l r t (first p l) (second p l) _ S A refl refl (sym (negate² _))
+    parts_more t A = centred_more _ _ _ _ _ _ l r (first p l) (second p l) _ S refl refl (sym (negate² _)) t A
 
-    pub parts_more : refused_centred t ≡ false → PartsSum p s (l + 1) t
-    parts_more e = centred_runs _ _ _ t parts_next e
-
-    pub parts_none : l < p.k → refused_centred t ≡ true → PartsNone p s p.k
+    pub parts_none : l < p.k → Added r (first p l) (second p l) (shrinkage (first p l) (second p l)) None → PartsNone p s p.k
     unfolding centre_by shrunk_by
-    parts_none m e = one_stays _ _ _ _ _ _ l p.k m (centred_none _ _ _ t parts_next e)
+    parts_none m A = one_stays _ _ _ _ _ _ l p.k m (centred_none _ _ _ _ _ _ l r (first p l) (second p l) _ S refl refl (sym (negate² _)) A)
 
   -- where the first part is zero
   pub parts_skip : (s : Centred) (l : ℕ) (r : Centred) → PartsSum p s l r → Finite (second p l) → ltb 0 (magnitude_of (first p l)) ≡ false → PartsSum p s (l + 1) r
@@ -162,11 +165,5 @@ module _ (p : Line) where
       centred_same _ _ _ _ _ _ l r (zero_product u w z f down down_zero) (zero_product u w z f up up_zero) (ap negate (zero_sizes u w z f down down_zero)) S
 
   -- after all pairs
-  pub parts_whole : (s : Centred) (l : ℕ) (r : Centred) → l ≡ p.k → PartsSum p s l r → PartsAdded p s r
-  parts_whole s l r e S =
-      let W : PartsSum p s p.k r = subst (λ n. PartsSum p s n r) e S in
-      record { numbers = λ t. W; refused = λ t. centred_none _ _ _ r (centred_holds r W) t }
-
-  -- where a step was refused
-  pub parts_refused : (s : Centred) (r : Centred) → refused_centred r ≡ true → PartsNone p s p.k → PartsAdded p s r
-  parts_refused s r t N = record { numbers = λ f. true_false (sym t ∙ f); refused = λ u. N }
+  pub parts_whole : (s : Centred) (l : ℕ) (r : Centred) → l ≡ p.k → PartsSum p s l r → PartsAdded p s (Some r)
+  parts_whole s l r e S = subst (λ n. PartsSum p s n r) e S

@@ -3,6 +3,7 @@
 use mathlib.Core.Path.{◌≡◌, refl, sym, ap, ap₂, ◌∙◌, subst}
 use mathlib.Core.List.{List, [], ◌∷◌}
 use mathlib.Core.Logic.{inl, inr}
+use Rattle.std.specs.Prelude.{Option as Maybe}
 use mathlib.Core.Option.{Option, none, some, bind, none-ne-some}
 use Prim.Native.Nat.{ℕ, ◌+◌, ◌*◌, ◌≤◌, ◌<◌}
 use native.Mathlib.Omega.{arith}
@@ -43,7 +44,7 @@ sub_neg x y = lin_eq (x ∷ y ∷ []) [] (search reading depth 20) (omega arith)
 neg_add : (x y : ℤ) → neg_ℤ x +ℤ neg_ℤ y ≡ neg_ℤ (x +ℤ y)
 neg_add x y = lin_eq (x ∷ y ∷ []) [] (search reading depth 20) (omega arith)
 
-module _ (R L H : Option ℤ) (l o r : Number) (e : Sums) (a : Runs L l) (b : Runs (negate H) o) (c : Runs (negate R) r) (E : Ended l o r e) where
+module _ (R L H : Option ℤ) (l o r : Number) (e : Maybe Sums) (a : Runs L l) (b : Runs (negate H) o) (c : Runs (negate R) r) (E : Ended l o r e) where
   abbrev low : Option ℤ
   low = down binary32 1 (worth l +ℤ worth r)
 
@@ -58,7 +59,7 @@ module _ (R L H : Option ℤ) (l o r : Number) (e : Sums) (a : Runs L l) (b : Ru
 
   pub ends_hold : HoldsRange (ends (of binary32) R L H) e
   unfolding down
-  ends_hold = subst (λ m. HoldsRange m e) (sym are) (holds_both low high e E.lower E.opposed)
+  ends_hold = subst (λ m. HoldsRange m e) (sym are) (holds_both low high e E)
 
 -- ---- the entry at the place of row i and column j, c by rows
 module _ (method : Method) (k n i j c : ℕ) (e : c ≡ i * n + j) (h : j < n) where

@@ -1,6 +1,7 @@
 -- One entry of method 5: what `five::entry` computes from midpoints, parts and |m| + r is the entry of the definition.
 use mathlib.Core.Path.{◌≡◌, refl, sym, ap, ap₂, ◌∙◌, subst}
 use mathlib.Core.List.{List}
+use Rattle.std.specs.Prelude.{Option as Maybe}
 use mathlib.Core.Option.{Option, none, some, bind, some-injective}
 use Prim.Native.Nat.{ℕ, ◌+◌, ◌*◌, ◌≤◌, ◌<◌}
 use native.Mathlib.Omega.{arith}
@@ -152,5 +153,5 @@ module _ (p : Spot) (q : Lists) where
     pub five_none : (c : ℕ) → c ≡ p.i * p.n + p.j → range_of mids parts outers ≡ none → entry_by p five c ≡ none
     five_none c at e = sym (five_is c at) ∙ e
 
-    pub five_holds : (c : ℕ) → c ≡ p.i * p.n + p.j → (e : Sums) → HoldsRange (range_of mids parts outers) e → HoldsRange (entry_by p five c) e
+    pub five_holds : (c : ℕ) → c ≡ p.i * p.n + p.j → (e : Maybe Sums) → HoldsRange (range_of mids parts outers) e → HoldsRange (entry_by p five c) e
     five_holds c at e = subst (λ m. HoldsRange m e) (five_is c at)

@@ -2,6 +2,7 @@
 use mathlib.Core.Path.{◌≡◌, sym, ap, ◌∙◌, subst}
 use mathlib.Core.Bool.{true, false}
 use mathlib.Core.Logic.{◌⊎◌, inl, inr}
+use Rattle.std.specs.Prelude.{Option as Maybe}
 use mathlib.Core.Option.{Option, none, bind}
 use lib.IntN.{ℤ, pos, neg_ℤ}
 use lib.Dec.{ltb}
@@ -61,7 +62,7 @@ module _ (p q : Pairs) (w : Line) (z : CentreSize) (zc : worth z.centre ≡ pos 
         pub radius_runs : ltb 653 r.exp ≡ false → Runs (negate radius) r
         radius_runs e = subst (λ m. Runs (negate m) r) (sym radius_is) (holds_runs _ r R e)
 
-        pub range_holds : (o : Number) (e : Sums) → ltb 653 r.exp ≡ false → Opposite t.centre o → Ended t.centre o r e → HoldsRange (range_of p q w) e
+        pub range_holds : (o : Number) (e : Maybe Sums) → ltb 653 r.exp ≡ false → Opposite t.centre o → Ended t.centre o r e → HoldsRange (range_of p q w) e
         unfolding range_of
         range_holds o e f O E =
             let c : Runs (centre_over p q) t.centre = subst (λ m. Runs m t.centre) (sym centre_is) T.centre in

@@ -25,17 +25,17 @@ use Rattle.binary32.specs.Order.{magnitude_of}
 use Rattle.unpacked.specs.declared.Number.{Number}
 use Rattle.products.specs.declared.centred.Centred.{Centred}
 use Rattle.products.specs.declared.sums.Sums.{Sums}
-use Rattle.unpacked.specs.Number.{worth, Below, Holds, Runs}
+use Rattle.unpacked.specs.Number.{worth, Below, Holds, Runs, zero_number}
 use Rattle.products.specs.Running.{Ended, HoldsRange}
-use Rattle.products.specs.Centred.{growth, zero_centred, AllNumbers, Added, refused_centred, CentredSum, OneNone}
+use Rattle.products.specs.Centred.{growth, Added, CentredSum, OneNone}
 use Rattle.products.specs.Continued.{Line, Reaches, grown_by, Continued}
 use Rattle.products.specs.Derived.{outer_of}
 use Rattle.products.specs.MidRad.{mid_rad_at, entry_from}
 use Rattle.products.specs.Spot.{Spot, a_mid, a_rad, b_mid, b_rad, left, right, middles, inners, MiddleSum, MiddleNone, MiddleAfter}
-use Rattle.products.proofs.Carrying.{holds_runs, holds_none, zero_below, mirrored_is, negate_none}
+use Rattle.products.proofs.Carrying.{holds_runs, runs_holds, holds_none, zero_below, mirrored_is, negate_none}
 use Rattle.products.proofs.Radii.{grown_below}
 use Rattle.products.proofs.MidRadSteps.{mid_is, inner_is, outer_is}
-use Rattle.products.proofs.CentredSteps.{CentredHolds, all_numbers, centred_runs, centred_none, centred_more, centred_none_yet, one_stays}
+use Rattle.products.proofs.CentredSteps.{centred_none, centred_more, centred_none_yet, one_stays}
 use Rattle.products.proofs.Zeros.{centred_same, is_zero, down_zero, up_zero, mid_zero, inner_zero}
 use Rattle.products.proofs.Ending.{ends_none, ends_hold, Places, position_entry_from}
 
@@ -47,35 +47,40 @@ module _ (p : Spot) where
   abbrev pub entry_by : Method → ℕ → Option Range
   entry_by method c = entry_from method p.k p.n p.ma p.ra p.mb p.rb c
 
-  -- ---- the sums over midpoints after one pair more: each a number or none
-  unfoldable pub MiddleNext : ℕ → Centred → Type 0
-  MiddleNext l s = CentredHolds (middles p down (l + 1)) (middles p up (l + 1)) (inners p (l + 1)) s × Below s.radius
-
-  pub middle_start : MiddleSum p 0 zero_centred
+  -- ---- the sums over midpoints: of no pairs, and after one pair more
+  pub middle_start : (s : Centred) → (s.lower ≡ zero_number) × (s.opposed ≡ zero_number) × (s.radius ≡ zero_number) → MiddleSum p 0 s
   unfolding MiddleSum middles inners
-  middle_start = (centred_none_yet _ _ _, zero_below)
+  middle_start s e = (centred_none_yet _ _ _ s e, subst Below (sym e.2) zero_below)
 
-  pub middle_numbers : (l : ℕ) (s : Centred) → MiddleSum p l s → AllNumbers s × Below s.radius
+  pub middle_below : (l : ℕ) (s : Centred) → MiddleSum p l s → Below s.radius
   unfolding MiddleSum
-  middle_numbers l s S = (all_numbers s S.0, S.1)
+  middle_below l s S = S.1
 
-  pub middle_next : (l size : ℕ) (s r : Centred) → Read l size → MiddleSum p l s → Added s (a_mid p l) (b_mid p l) (growth (a_mid p l) (b_rad p l)) r → MiddleNext l r
-  unfolding MiddleSum MiddleNext middles inners
-  middle_next l size s r P S A = (
-    centred_more _ _ _ (pos 0) (pos 0) (pos 0) l s r (a_mid p l) (b_mid p l) _ S.0 A
-        (mid_is (a_mid p l) (a_rad p l) (b_mid p l) (b_rad p l) down P.cell_first.mid P.cell_second.mid)
-        (mid_is (a_mid p l) (a_rad p l) (b_mid p l) (b_rad p l) up P.cell_first.mid P.cell_second.mid)
-        (ap negate (sym (inner_is (a_mid p l) (a_rad p l) (b_mid p l) (b_rad p l) P.cell_first.mid P.cell_second.rad P.cell_second.nonneg))),
-    grown_below s.radius (a_mid p l) (b_rad p l) r.radius S.1 A.radius,
-  )
+  module _ (l size : ℕ) (s : Centred) (P : Read l size) (S : MiddleSum p l s) where
+    pub middle_more : (r : Centred) → Added s (a_mid p l) (b_mid p l) (growth (a_mid p l) (b_rad p l)) (Some r) → MiddleSum p (l + 1) r
+    unfolding MiddleSum middles inners
+    middle_more r A = (
+      centred_more _ _ _ (pos 0) (pos 0) (pos 0) l s (a_mid p l) (b_mid p l) _ S.0
+          (mid_is (a_mid p l) (a_rad p l) (b_mid p l) (b_rad p l) down P.cell_first.mid P.cell_second.mid)
+          (mid_is (a_mid p l) (a_rad p l) (b_mid p l) (b_rad p l) up P.cell_first.mid P.cell_second.mid)
+          (ap negate (sym (inner_is (a_mid p l) (a_rad p l) (b_mid p l) (b_rad p l) P.cell_first.mid P.cell_second.rad P.cell_second.nonneg)))
+          r A,
+      grown_below s.radius (a_mid p l) (b_rad p l) r.radius S.1 (runs_holds A.radius),
+    )
 
-  pub middle_more : (l : ℕ) (r : Centred) → MiddleNext l r → refused_centred r ≡ false → MiddleSum p (l + 1) r
-  unfolding MiddleSum MiddleNext
-  middle_more l r H t = (centred_runs _ _ _ r H.0 t, H.1)
+    pub middle_none : Added s (a_mid p l) (b_mid p l) (growth (a_mid p l) (b_rad p l)) None → l < p.k → MiddleNone p
+    unfolding MiddleSum MiddleNone middles inners
+    middle_none A h =
+        one_stays _ _ _ (pos 0) (pos 0) (pos 0) l p.k h
+        (centred_none _ _ _ (pos 0) (pos 0) (pos 0) l s (a_mid p l) (b_mid p l) _ S.0
+          (mid_is (a_mid p l) (a_rad p l) (b_mid p l) (b_rad p l) down P.cell_first.mid P.cell_second.mid)
+          (mid_is (a_mid p l) (a_rad p l) (b_mid p l) (b_rad p l) up P.cell_first.mid P.cell_second.mid)
+          (ap negate (sym (inner_is (a_mid p l) (a_rad p l) (b_mid p l) (b_rad p l) P.cell_first.mid P.cell_second.rad P.cell_second.nonneg)))
+          A)
 
-  pub middle_none : (l : ℕ) (r : Centred) → MiddleNext l r → l < p.k → refused_centred r ≡ true → MiddleNone p
-  unfolding MiddleNext MiddleNone middles inners
-  middle_none l r H h t = one_stays _ _ _ (pos 0) (pos 0) (pos 0) l p.k h (centred_none _ _ _ r H.0 t)
+    pub middle_after : (r : Maybe Centred) → Added s (a_mid p l) (b_mid p l) (growth (a_mid p l) (b_rad p l)) r → l < p.k → MiddleAfter p l r
+    middle_after (Some r) A h = middle_more r A
+    middle_after None A h = middle_none A h
 
   -- a midpoint of A that is zero adds nothing
   pub middle_skip : (l : ℕ) (s : Centred) → MiddleSum p l s → ltb 0 (magnitude_of (a_mid p l)) ≡ false → MiddleSum p (l + 1) s
@@ -145,7 +150,7 @@ module _ (p : Spot) where
     pub four_outer : (s : Centred) → MiddleSum p p.k s → outers (neg_ℤ (worth s.radius)) p.k ≡ none → entry_by four c ≡ none
     four_outer s S e = is ∙ ends_none radius (middles p down p.k) (middles p up p.k) (inr (inr (radius_is s S (λ v. outers v p.k) ∙ e)))
 
-    pub four_holds : (s : Centred) (x : Number) (e : Sums) → MiddleSum p p.k s → Runs (negate (outers (neg_ℤ (worth s.radius)) p.k)) x → Ended s.lower s.opposed x e → HoldsRange (entry_by four c) e
+    pub four_holds : (s : Centred) (x : Number) (e : Maybe Sums) → MiddleSum p p.k s → Runs (negate (outers (neg_ℤ (worth s.radius)) p.k)) x → Ended s.lower s.opposed x e → HoldsRange (entry_by four c) e
     unfolding MiddleSum
     four_holds s x e S R E =
         subst (λ m. HoldsRange m e) (sym is)

@@ -2,7 +2,6 @@
 pub mod Or
 pub mod Carrying
 pub mod Holding
-pub mod Wholes
 pub mod Rows
 pub mod EntryExt
 -- the sums of method 1

@@ -8,6 +8,7 @@ use native.Mathlib.Nat.{eq-zero-or-pos, zero-mul}
 use lib.Dec.{ltb}
 use lib.IntN.{pos, nat_abs, ◌*ℤ◌}
 use borrow.Author.Tests.{ltb-false}
+use Rattle.std.specs.Prelude.{Option as Maybe}
 use Rattle.rounding.specs.Format.{binary32}
 use Rattle.enclosure.specs.Arithmetic.{of}
 use Rattle.enclosure.specs.Cell.{Cell}
@@ -59,7 +60,7 @@ fine_cells al au bl bu a t f =
     }
 
 -- a step that adds the two adds the cells of these patterns
-pub step_cells : (al au : ℕ) (b : Cell) (a : Apart) → Taken al au a → (s : Range) (r : Sums)
+pub step_cells : (al au : ℕ) (b : Cell) (a : Apart) → Taken al au a → (s : Range) (r : Maybe Sums)
     → HoldsRange (add_pair (of binary32) s (apart_cell a) b) r → HoldsRange (add_pair (of binary32) s (pattern_cell al au) b) r
 step_cells al au b a t s r = subst (λ c. HoldsRange (add_pair (of binary32) s c b) r) (ap₂ (cell_of (of binary32)) t.lower.1 t.upper.1)
 

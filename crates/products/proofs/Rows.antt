@@ -20,7 +20,7 @@ use Rattle.matrices.proofs.Firsts.{first_none, first_more, first_here}
 use Rattle.matrices.proofs.Fronts.{Filled, filled_none, filled_more, filled_from, filled_is}
 use Rattle.matrices.proofs.Places.{below, position_row, position_column}
 use Rattle.products.specs.declared.sums.Sums.{Sums}
-use Rattle.products.specs.Running.{HoldsRange, refused_sums}
+use Rattle.products.specs.Running.{HoldsRange}
 use Rattle.products.specs.Written.{Found, place_of, Written}
 
 module _ (E : ℕ → Option Range) where
@@ -54,11 +54,10 @@ module _ (E : ℕ → Option Range) where
     }
 
     -- one entry more, x and y the patterns of its bounds
-    pub to_more : (s : Sums) (x y : ℕ) → HoldsRange (E at) s → refused_sums s ≡ false → at < length lo → at < length up
+    pub to_more : (s : Sums) (x y : ℕ) → HoldsRange (E at) (Some s) → at < length lo → at < length up
         → x ≡ pattern_of (worth s.lower) → y ≡ pattern_of (neg_ℤ (worth s.opposed)) → WrittenTo (at + 1) lo₀ up₀ (set lo at x) (set up at y) place
     unfolding stop_of
-    to_more s x y H t l u ex ey =
-        let e = H.whole t in
+    to_more s x y e l u ex ey =
         record {
           nowhere = W.nowhere;
           stop = first_more (λ c. refused (E c)) at W.stop (ap refused e);

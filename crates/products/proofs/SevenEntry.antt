@@ -107,7 +107,7 @@ module _ (p : Spot) where
 
       module _ (s : Centred) (y : Number) (S : MiddleSum p p.k s) (R : Runs (negate (outers p (neg_ℤ (worth s.radius)) p.k)) y) where
         abbrev from : Centred
-        from = record { lower = s.lower; opposed = s.opposed; radius = y }
+        from = record { lower = s.lower; opposed = s.opposed; radius = y; lower_number = s.lower_number; opposed_number = s.opposed_number; radius_number = R.number }
 
         pub seven_parts : PartsNone (line p pa pb) from p.k → entry_by p seven c ≡ none
         seven_parts o = is ∙ ends_none radius (centred down) (centred up) (go o)
@@ -117,7 +117,7 @@ module _ (p : Spot) where
             go (inr (inl e)) = inr (inl (high_is s S ∙ parts_are up _ ∙ e))
             go (inr (inr e)) = inr (inr (radius_is s S y R ∙ shareds_are _ ∙ e))
 
-        pub seven_holds : (t : Centred) (e : Sums) → PartsSum (line p pa pb) from p.k t → Ended t.lower t.opposed t.radius e → HoldsRange (entry_by p seven c) e
+        pub seven_holds : (t : Centred) (e : Maybe Sums) → PartsSum (line p pa pb) from p.k t → Ended t.lower t.opposed t.radius e → HoldsRange (entry_by p seven c) e
         seven_holds t e Q E =
             subst (λ m. HoldsRange m e) (sym is)
             (ends_hold radius (centred down) (centred up) t.lower t.opposed t.radius e

@@ -2,6 +2,7 @@
 use mathlib.Core.Path.{◌≡◌, refl, sym, ap, ◌∙◌, subst}
 use mathlib.Core.Bool.{true, false}
 use mathlib.Core.Logic.{◌⊎◌, inl, inr}
+use Rattle.std.specs.Prelude.{Option as Maybe}
 use mathlib.Core.Option.{Option, none, some, bind}
 use Prim.Native.Nat.{ℕ, ◌+◌, ◌*◌, ◌<◌}
 use lib.Dec.{ltb}
@@ -19,7 +20,8 @@ use Rattle.products.specs.declared.nearest.Nearest.{Nearest}
 use Rattle.products.specs.declared.sums.Sums.{Sums}
 use Rattle.unpacked.specs.Number.{worth, IsNumber, Below, Holds, Runs, Opposite, minus_tiny}
 use Rattle.products.specs.Running.{plus_down, Ended, HoldsRange}
-use Rattle.products.specs.Centred.{zero_nearest, NearNumbers, NearAdded, refused_nearest, NearestSum, adds_of, OneNone}
+use Rattle.products.specs.Centred.{zero_nearest, NearNumbers, NearAdded, refused_nearest, NearestSum, OneNone}
+use Rattle.products.specs.Terms.{adds_of}
 use Rattle.products.specs.Derived.{raised_of, factor_of}
 use Rattle.products.proofs.Carrying.{holds_runs, holds_none, zero_runs, zero_below, mirrored_is, negate_none, any_more, up_more, sum_stays}
 use Rattle.products.proofs.Radii.{plus_below, grown_below}
@@ -153,7 +155,7 @@ module _ (p : Spot) where
     pub three_outer : (y : Number) → TinySum y → outers p (neg_ℤ (worth y)) p.k ≡ none → entry_by p three c ≡ none
     three_outer y S e = is ∙ ends_none radius middle middle (inr (inr (radius_is y S ∙ e)))
 
-    pub three_holds : (s : Nearest) (y o x : Number) (e : Sums) → FirstSum p p.k s → TinySum y → Opposite s.centre o → Runs (negate (outers p (neg_ℤ (worth y)) p.k)) x → Ended s.centre o x e
+    pub three_holds : (s : Nearest) (y o x : Number) (e : Maybe Sums) → FirstSum p p.k s → TinySum y → Opposite s.centre o → Runs (negate (outers p (neg_ℤ (worth y)) p.k)) x → Ended s.centre o x e
         → HoldsRange (entry_by p three c) e
     unfolding FirstSum
     three_holds s y o x e F S O R E =

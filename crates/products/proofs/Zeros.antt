@@ -26,7 +26,8 @@ use Rattle.binary32.specs.Order.{magnitude_of}
 use Rattle.unpacked.specs.declared.Number.{Number}
 use Rattle.products.specs.declared.centred.Centred.{Centred}
 use Rattle.unpacked.specs.Number.{worth, Runs}
-use Rattle.products.specs.Centred.{adds_of, CentredSum}
+use Rattle.products.specs.Centred.{CentredSum}
+use Rattle.products.specs.Terms.{adds_of}
 use Rattle.products.specs.Derived.{raised_of, factor_of}
 use Rattle.unpacked.proofs.Packing.{num_of}
 use Rattle.products.proofs.Carrying.{sum_next, mirrored_is}

@@ -1,6 +1,7 @@
 -- The running sums of methods 3, 4 and 7. Definitions only, for the contracts of inner functions.
 use Rattle.std.specs.Prelude.{◌≡◌, Bool, true, cond, ◌⊎◌, ℕ, ◌*◌, ◌^◌, ◌<◌, leb, ltb, ℤ, ◌+ℤ◌}
 use Rattle.std.proofs.Math.Option.{Option, none, bind}
+use Rattle.std.specs.Prelude.{Option as Maybe, Some, None}
 use Rattle.algebra.specs.Absolute.{abs}
 use Rattle.rounding.specs.Format.{binary32}
 use Rattle.rounding.specs.Rounding.{up, down, near, negate}
@@ -27,33 +28,7 @@ shrinkage u v = with₂ (mul down) (magnitude_of u) (magnitude_of v)
 abbrev pub Grown : Number → ℕ → ℕ → Number → Type 0
 Grown x u v r = Holds (plus_down (worth x) (growth u v)) r
 
--- u is not zero, or w is none
-unfoldable pub adds_of : ℕ → ℕ → Bool
-adds_of u w = cond (ltb 0 (magnitude_of u)) true (leb (255 * 2 ^ 23) (magnitude_of w))
-
 -- ---- methods 4 and 7: two centres and a radius
-
-abbrev pub zero_centred : Centred
-zero_centred = record { lower = zero_number; opposed = zero_number; radius = zero_number }
-
-pub record AllNumbers (s : Centred) : Type 0 where
-  pub lower : IsNumber s.lower
-  pub opposed : IsNumber s.opposed
-  pub radius : IsNumber s.radius
-
--- r is s with x × y added to both centres and t to the radius
-pub record Added (s : Centred) (x y : ℕ) (t : Option ℤ) (r : Centred) : Type 0 where
-  pub lower : Holds (plus_down (worth s.lower) (with₂ (mul down) x y)) r.lower
-  pub opposed : Holds (plus_down (worth s.opposed) (negate (with₂ (mul up) x y))) r.opposed
-  pub radius : Holds (plus_down (worth s.radius) t) r.radius
-
--- r is |p| rounded down, none where a factor of p is none
-pub record SizeDown (p : Product) (r : Number) : Type 0 where
-  pub number : (X : ℤ) → Exact X p → Holds (down binary32 (2 ^ 149) (abs X)) r
-  pub none : 1307 < p.exp → Holds none r
-
-abbrev pub refused_centred : Centred → Bool
-refused_centred s = cond (ltb 653 s.lower.exp) true (cond (ltb 653 s.opposed.exp) true (ltb 653 s.radius.exp))
 
 -- s is the lower centre, the upper centre and the radius, the last two negated, and all are numbers
 pub record CentredSum (low high rad : Option ℤ) (s : Centred) : Type 0 where
@@ -64,6 +39,20 @@ pub record CentredSum (low high rad : Option ℤ) (s : Centred) : Type 0 where
 -- one of the three is none
 abbrev pub OneNone : (low high rad : Option ℤ) → Type 0
 OneNone low high rad = (low ≡ none) ⊎ ((high ≡ none) ⊎ (rad ≡ none))
+
+-- r has these three as its sums as they are kept; it is none where one of them is
+pub record Kept (low opp rad : Option ℤ) (r : Centred) : Type 0 where
+  pub lower : Runs low r.lower
+  pub opposed : Runs opp r.opposed
+  pub radius : Runs rad r.radius
+
+abbrev pub Stepped : (low opp rad : Option ℤ) → Maybe Centred → Type 0
+Stepped low opp rad None = OneNone low opp rad
+Stepped low opp rad (Some r) = Kept low opp rad r
+
+-- r is s with x × y added to both centres and t to the radius
+abbrev pub Added : (s : Centred) (x y : ℕ) (t : Option ℤ) → Maybe Centred → Type 0
+Added s x y t = Stepped (plus_down (worth s.lower) (with₂ (mul down) x y)) (plus_down (worth s.opposed) (negate (with₂ (mul up) x y))) (plus_down (worth s.radius) t)
 
 -- ---- method 3: one centre, to nearest, and a radius
 

@@ -1,5 +1,5 @@
 -- Method 1 on its way along a row and a column: the cells of a pair, and what the running sums hold after l pairs. Definitions only.
-use Rattle.std.specs.Prelude.{◌≡◌, false, ℕ, ◌+◌, ◌*◌}
+use Rattle.std.specs.Prelude.{ℕ, ◌+◌, ◌*◌, Some}
 use Rattle.std.proofs.Math.Option.{Option}
 use Rattle.rounding.specs.Format.{binary32}
 use Rattle.enclosure.specs.Arithmetic.{of}
@@ -12,7 +12,7 @@ use Rattle.matrices.specs.Matrix.{Matrix, cell_at}
 use Rattle.products.specs.declared.apart.Apart.{Apart}
 use Rattle.products.specs.declared.sums.Sums.{Sums}
 use Rattle.products.specs.Apart.{lower_number, upper_number}
-use Rattle.products.specs.Running.{HoldsRange, refused_sums}
+use Rattle.products.specs.Running.{HoldsRange}
 
 -- a cell whose bounds are unpacked, as that of A is in a step, and one whose bounds are patterns, as that of B is
 abbrev pub apart_cell : Apart → Cell
@@ -27,7 +27,6 @@ module _ (k n : ℕ) (A B : Matrix) (i j : ℕ) where
   unfoldable pub sums_to : ℕ → Option Range
   sums_to l = entry (of binary32) classical l (λ l. cell_at A (i * k + l)) (λ l. cell_at B (l * n + j))
 
-  -- s holds them, and neither is refused
-  pub record SumsAfter (l : ℕ) (s : Sums) : Type 0 where
-    pub holds : HoldsRange (sums_to l) s
-    pub going : refused_sums s ≡ false
+  -- s holds them
+  abbrev pub SumsAfter : ℕ → Sums → Type 0
+  SumsAfter l s = HoldsRange (sums_to l) (Some s)

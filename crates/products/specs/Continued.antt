@@ -1,6 +1,7 @@
 -- Sums continued over the pairs of a row and a column. Definitions only, for the contracts of inner functions.
 use Rattle.std.specs.Prelude.{◌≡◌, true, false, List, ℕ, ◌+◌, ◌*◌, ◌<◌, ℤ, neg_ℤ, length, get_or}
 use Rattle.std.proofs.Math.Option.{Option}
+use Rattle.std.specs.Prelude.{Option as Maybe, Some, None}
 use Rattle.rounding.specs.Format.{binary32}
 use Rattle.rounding.specs.Rounding.{up, down, negate}
 use Rattle.enclosure.specs.Sums.{sum}
@@ -10,7 +11,7 @@ use Rattle.binary32.specs.Order.{magnitude_of}
 use Rattle.unpacked.specs.declared.Number.{Number}
 use Rattle.unpacked.specs.Number.{worth, Holds}
 use Rattle.products.specs.declared.centred.Centred.{Centred}
-use Rattle.products.specs.Centred.{shrinkage, refused_centred, CentredSum, OneNone}
+use Rattle.products.specs.Centred.{shrinkage, CentredSum, OneNone}
 
 -- row i of patterns with k columns, and column j of patterns with n columns
 pub record Line : Type 0 where
@@ -61,7 +62,7 @@ module _ (p : Line) where
   abbrev pub PartsNone : Centred → ℕ → Type 0
   PartsNone s l = OneNone (centre_by down (worth s.lower) l) (centre_by up (neg_ℤ (worth s.opposed)) l) (shrunk_by (neg_ℤ (worth s.radius)) l)
 
-  -- r is s after all k pairs, or it is refused and one of the sums is none
-  pub record PartsAdded (s r : Centred) : Type 0 where
-    pub numbers : refused_centred r ≡ false → PartsSum s p.k r
-    pub refused : refused_centred r ≡ true → PartsNone s p.k
+  -- r is s after all k pairs, or none, where one of the sums is none
+  abbrev pub PartsAdded : Centred → Maybe Centred → Type 0
+  PartsAdded s None = PartsNone s p.k
+  PartsAdded s (Some r) = PartsSum s p.k r

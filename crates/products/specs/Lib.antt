@@ -2,10 +2,13 @@ pub mod Apart
 pub mod Running
 pub mod Classical
 pub mod Pair
+pub mod Terms
 pub mod Centred
 pub mod Continued
+pub mod Line
 pub mod Row
 pub mod CentreSize
+pub mod Paired
 pub mod Derived
 pub mod MidRad
 pub mod Spot

@@ -2,13 +2,14 @@
 ghost use Rattle.std.specs.Prelude.{◌≡◌};
 ghost use Rattle.binary32.specs.Number.{value_of, Finite};
 ghost use Rattle.unpacked.specs.Number.{worth, IsNumber};
-ghost use Rattle.products.specs.CentreSize.{SizedNumbers, SizedStep, Paired, SizedAll, refused_sized};
+ghost use Rattle.products.specs.CentreSize.{SizedNumbers, SizedStep, SizedAll, refused_sized};
+ghost use Rattle.products.specs.Paired.{pairs_of};
 
 use crate::number::negative;
 use crate::pattern::unpack;
 use crate::plus::{plus, plus_negative};
 use crate::rounded::rounded;
-use crate::row::number_of;
+use crate::row::Pairs;
 use crate::times::times;
 use binary32::direction::Near;
 use unpacked::{Number, ZERO_EXPONENT, is_none};
@@ -41,27 +42,17 @@ impl CentreSize {
     }
 }
 
-// The sums after a step for each l below k, where x is the number of the word row[l] and y in row l and column j of `column` (n columns).
-// The loop ends at the first overflow, and the result is then refused. A product with zero, which alone has the exponent 64, adds nothing. By index: the cells
-// of a column are n apart, and step_by beside a row is no plainer.
-pub fn sum_pairs(
-    centre: Number,
-    size: Number,
-    k: usize,
-    n: usize,
-    j: usize,
-    row: &[u64],
-    column: &[u32],
-) -> CentreSize
-    requires { SizedNumbers (record { centre = centre; size = size }) × Paired (record { k = k; n = n; j = j; row = row.now; column = column.now }) }
-    ensures { SizedAll (record { k = k; n = n; j = j; row = row.now; column = column.now })
-        (record { centre = centre; size = size }) result }
+// The sums after a step for each pair. The loop ends at the first overflow, and the result is then refused. A product with zero, which alone has the exponent
+// 64, adds nothing. By index: the cells of a column are n apart, and step_by beside a row is no plainer.
+pub fn sum_pairs(sums: CentreSize, pairs: Pairs) -> CentreSize
+    requires { SizedNumbers sums }
+    ensures { SizedAll (pairs_of pairs.entry) sums result }
 {
-    let mut s = CentreSize { centre, size };
-    for l in 0..k {
-        let x = number_of(row[l]);
+    let mut s = sums;
+    for l in 0..pairs.k {
+        let x = pairs.first(l);
         if ZERO_EXPONENT < x.exp {
-            s = s.step(x, column[l * n + j]);
+            s = s.step(x, pairs.second(l));
             if s.refused() {
                 return s;
             }

@@ -87,7 +87,7 @@ impl<'a> Steps for Classical<'a> {
         if !is_nonzero(y, z) {
             return Some(s);
         }
-        s.step::<1>(a, y, z).whole()
+        s.step::<1>(a, y, z)
     }
 
     fn finish(self, _row: &[Apart; LARGEST_SIZE], s: Sums, _i: usize, _j: usize) -> Option<Sums> {

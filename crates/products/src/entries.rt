@@ -3,7 +3,8 @@ ghost use Rattle.std.specs.Prelude.{ℕ, ◌≡◌, ◌≤◌, ◌<◌, ◌+◌,
 ghost use Rattle.std.proofs.Math.Option.{Option};
 ghost use Rattle.enclosure.specs.Methods.{Range};
 ghost use Rattle.products.specs.declared.entries.Shape.{Shape};
-ghost use Rattle.products.specs.Entries.{Going, Whole};
+ghost use Rattle.products.specs.Entries.{Going};
+ghost use Rattle.products.specs.Running.{HoldsRange};
 ghost use Rattle.products.specs.Written.{Written};
 
 use crate::sums::{Place, Sums};
@@ -66,7 +67,7 @@ pub trait Steps: Copy {
     fn finish(self, row: &Self::Row, s: Self::Sum, i: usize, j: usize) -> Option<Sums>
         requires { ready self × (i < (shape self).m) × (j < (shape self).n)
             × row_of self i row.now × after self i j (shape self).k s }
-        ensures { Whole (entry self (i * (shape self).n + j)) result };
+        ensures { HoldsRange (entry self (i * (shape self).n + j)) result };
 }
 
 // Writes the entries by rows until one is refused, and returns its row and column, or None. Rule of the project: nested loops over rows, columns and pairs,

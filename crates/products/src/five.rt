@@ -5,31 +5,31 @@ ghost use Rattle.rounding.specs.Rounding.{negate};
 ghost use Rattle.enclosure.specs.Methods.{five};
 ghost use Rattle.unpacked.specs.Number.{worth, IsNumber, Below, Holds};
 ghost use Rattle.products.specs.CentreSize.{radius_for};
-ghost use Rattle.products.specs.Continued.{Reaches};
 ghost use Rattle.products.specs.Derived.{Derived, outer_of, part_of};
+ghost use Rattle.products.specs.Line.{line_of};
 ghost use Rattle.products.specs.MidRad.{Fits, entries_of};
 ghost use Rattle.products.specs.Row.{RowUnpacked};
 
-use crate::centre_size::sum_pairs;
+use crate::centre_size::{CentreSize, sum_pairs};
 use crate::entries::{Shape, Steps};
 use crate::error::twice_error;
 use crate::number::opposite;
-use crate::operands::Operands;
+use crate::operands::{Line, Operands};
 use crate::plus::plus;
 use crate::radius::outer;
-use crate::row::unpack_row;
-use crate::sums::{Sums, ends};
+use crate::row::{Pairs, unpack_row};
+use crate::sums::Sums;
 use binary32::direction::Down;
 use refusals::sizes::LARGEST_SIZE;
 use unpacked::{Number, is_none, zero};
 
 // The radius, negated: the sum of (|mA| + rA) × (|mB| + rB), then - G, then + 2 × E. size is -G.
-fn radius(size: Number, k: usize, n: usize, i: usize, j: usize, wa: &[u32], wb: &[u32]) -> Number
-    requires { IsNumber size × Below size × (k ≤ 32) × Reaches (record { k = k; n = n; i = i; j = j; row = wa.now; column = wb.now }) }
-    ensures { Holds (negate (radius_for (record { k = k; n = n; i = i; j = j; row = wa.now; column = wb.now }) (neg_ℤ (worth size)))) result }
+fn radius(size: Number, line: Line) -> Number
+    requires { IsNumber size × Below size × (line.k ≤ 32) }
+    ensures { Holds (negate (radius_for (line_of line.entry) (neg_ℤ (worth size)))) result }
 {
-    let less = plus::<Down>(opposite(size), outer(zero(), k, n, i, j, wa, wb));
-    plus::<Down>(twice_error(size, k), less)
+    let less = plus::<Down>(opposite(size), outer(zero(), line));
+    plus::<Down>(twice_error(size, line.k), less)
 }
 
 // A row of A unpacked: the words of its midpoints and of its parts.
@@ -95,18 +95,44 @@ impl<'a> Steps for Five<'a> {
 
     fn finish(self, row: &Words, _s: (), i: usize, j: usize) -> Option<Sums> {
         let Shape { k, n, .. } = self.of.shape;
-        let s = sum_pairs(zero(), zero(), k, n, j, &row.mids, self.of.mb);
+        let none = CentreSize {
+            centre: zero(),
+            size: zero(),
+        };
+        let mids = Pairs {
+            k,
+            n,
+            j,
+            row: &row.mids,
+            column: self.of.mb,
+        };
+        let s = sum_pairs(none, mids);
         if s.refused() {
             return None;
         }
-        let t = sum_pairs(s.centre, s.size, k, n, j, &row.parts, self.pb);
+        let parts = Pairs {
+            k,
+            n,
+            j,
+            row: &row.parts,
+            column: self.pb,
+        };
+        let t = sum_pairs(s, parts);
         if t.refused() {
             return None;
         }
-        let r = radius(t.size, k, n, i, j, self.wa, self.wb);
+        let line = Line {
+            k,
+            n,
+            i,
+            j,
+            row: self.wa,
+            column: self.wb,
+        };
+        let r = radius(t.size, line);
         if is_none(r) {
             return None;
         }
-        ends(t.centre, opposite(t.centre), r).whole()
+        Sums::ends(t.centre, opposite(t.centre), r)
     }
 }

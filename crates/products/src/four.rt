@@ -7,9 +7,9 @@ ghost use Rattle.products.specs.Spot.{MiddleSum, spot};
 
 use crate::centred::Centred;
 use crate::entries::{Shape, Steps};
-use crate::operands::Operands;
+use crate::operands::{Line, Operands};
 use crate::radius::outer;
-use crate::sums::{Sums, ends};
+use crate::sums::Sums;
 use unpacked::is_none;
 
 // wb has |m| + r for each cell of B.
@@ -55,10 +55,18 @@ impl<'a> Steps for Four<'a> {
 
     fn finish(self, _row: &(), s: Centred, i: usize, j: usize) -> Option<Sums> {
         let Shape { k, n, .. } = self.of.shape;
-        let radius = outer(s.radius, k, n, i, j, self.of.ra, self.wb);
+        let line = Line {
+            k,
+            n,
+            i,
+            j,
+            row: self.of.ra,
+            column: self.wb,
+        };
+        let radius = outer(s.radius, line);
         if is_none(radius) {
             return None;
         }
-        ends(s.lower, s.opposed, radius).whole()
+        Sums::ends(s.lower, s.opposed, radius)
     }
 }

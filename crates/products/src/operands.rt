@@ -1,7 +1,5 @@
-// The matrices of a product by methods 3, 4, 5 and 7, and the step over midpoints that methods 4 and 7 share.
-ghost use Rattle.std.specs.Prelude.{◌<◌, ◌*◌};
-ghost use Rattle.products.specs.MidRad.{Fits};
-ghost use Rattle.products.specs.Spot.{MiddleSum, MiddleAfter, spot};
+// The matrices of a product by methods 3, 4, 5 and 7, the step over midpoints that methods 4 and 7 share, and the pairs of a row and a column.
+ghost use Rattle.products.specs.Continued.{Reaches};
 
 use crate::centred::{Centred, is_nonzero};
 use crate::entries::Shape;
@@ -17,6 +15,10 @@ pub struct Operands<'a> {
 }
 
 impl<'a> Operands<'a> {
+    ghost use Rattle.std.specs.Prelude.{◌<◌, ◌*◌};
+    ghost use Rattle.products.specs.MidRad.{Fits};
+    ghost use Rattle.products.specs.Spot.{MiddleSum, MiddleAfter, spot};
+
     // The sums in row i and column j with pair l added, or None where one of them is refused.
     pub fn step<const METHOD: u32>(
         self,
@@ -34,10 +36,40 @@ impl<'a> Operands<'a> {
             return Some(s);
         }
         let b = l * self.shape.n + j;
-        let t = s.step::<METHOD>(x, self.mb[b], self.rb[b]);
-        if t.refused() {
-            return None;
-        }
-        Some(t)
+        s.step::<METHOD>(x, self.mb[b], self.rb[b])
+    }
+}
+
+// Row i of patterns with k columns, and column j of patterns with n columns: their k pairs are within the slices.
+#[derive(Clone, Copy)]
+pub struct Line<'a> {
+    pub k: usize,
+    pub n: usize,
+    pub i: usize,
+    pub j: usize,
+    pub row: &'a [u32],
+    pub column: &'a [u32],
+    ghost reaches: { Reaches (record { k = k; n = n; i = i; j = j; row = row.now; column = column.now }) },
+}
+
+impl<'a> Line<'a> {
+    ghost use Rattle.std.specs.Prelude.{◌≡◌, ◌<◌};
+    ghost use Rattle.products.specs.Continued.{first, second};
+    ghost use Rattle.products.specs.Line.{line_of};
+
+    // The pattern of pair l in the row.
+    pub fn first(self, l: usize) -> u32
+        requires { l < self.k }
+        ensures { result ≡ first (line_of self.entry) l }
+    {
+        self.row[self.i * self.k + l]
+    }
+
+    // The pattern of pair l in the column.
+    pub fn second(self, l: usize) -> u32
+        requires { l < self.k }
+        ensures { result ≡ second (line_of self.entry) l }
+    {
+        self.column[l * self.n + self.j]
     }
 }

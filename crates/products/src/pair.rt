@@ -36,9 +36,8 @@ pub fn add_pair(
     ensures { result ≡ pair_added (lower, upper) (al, au) (bl, bu) }
 {
     pair_fault(lower, upper, al, au, bl, bu)?;
-    let s = Sums::of_bounds(lower, upper).step::<2>(Apart::new(al, au), bl, bu);
-    if s.refused() {
+    let Some(s) = Sums::of_bounds(lower, upper).step::<2>(Apart::new(al, au), bl, bu) else {
         return Err(Reason::TooLarge);
-    }
+    };
     Ok((s.lower(), s.upper()))
 }

@@ -1,6 +1,7 @@
-// A row of patterns unpacked, once for all entries of the row: each number in one word of 64 bits. Used by method 5.
+// A row of patterns unpacked, once for all entries of the row: each number in one word of 64 bits; and its pairs with a column. Used by method 5.
 ghost use Rattle.std.specs.Prelude.{◌≡◌, ◌≤◌, length};
 ghost use Rattle.unpacked.specs.Number.{Part};
+ghost use Rattle.products.specs.CentreSize.{Paired};
 ghost use Rattle.products.specs.Row.{number_of, RowReaches, RowUnpacked};
 
 use crate::pattern::unpack;
@@ -37,5 +38,38 @@ pub fn unpack_row(k: usize, i: usize, patterns: &[u32], out: &mut [u64])
 {
     for l in 0..k {
         out[l] = word_of(unpack(patterns[i * k + l]));
+    }
+}
+
+// The first k words of a row, and column j of patterns with n columns: their k pairs are within the slices, and numbers.
+#[derive(Clone, Copy)]
+pub struct Pairs<'a> {
+    pub k: usize,
+    pub n: usize,
+    pub j: usize,
+    pub row: &'a [u64],
+    pub column: &'a [u32],
+    ghost paired: { Paired (record { k = k; n = n; j = j; row = row.now; column = column.now }) },
+}
+
+impl<'a> Pairs<'a> {
+    ghost use Rattle.std.specs.Prelude.{◌<◌};
+    ghost use Rattle.products.specs.CentreSize.{number, pattern};
+    ghost use Rattle.products.specs.Paired.{pairs_of};
+
+    // The number of pair l in the row.
+    pub fn first(self, l: usize) -> Number
+        requires { l < self.k }
+        ensures { result ≡ number (pairs_of self.entry) l }
+    {
+        number_of(self.row[l])
+    }
+
+    // The pattern of pair l in the column.
+    pub fn second(self, l: usize) -> u32
+        requires { l < self.k }
+        ensures { result ≡ pattern (pairs_of self.entry) l }
+    {
+        self.column[l * self.n + self.j]
     }
 }

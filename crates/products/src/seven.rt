@@ -1,53 +1,33 @@
 // Method 7: it continues the sums of method 4 over the parts p: pA × pB is added to both centres, and |pA| × |pB| is taken from the radius.
 ghost use Rattle.std.specs.Prelude.{◌*◌};
 ghost use Rattle.enclosure.specs.Methods.{seven};
-ghost use Rattle.products.specs.Centred.{AllNumbers};
-ghost use Rattle.products.specs.Continued.{Reaches, Numbers, PartsAdded};
+ghost use Rattle.products.specs.Continued.{Numbers, PartsAdded};
 ghost use Rattle.products.specs.Derived.{Derived, outer_of, part_of};
+ghost use Rattle.products.specs.Line.{line_of};
 ghost use Rattle.products.specs.MidRad.{Fits, entries_of};
 ghost use Rattle.products.specs.Spot.{MiddleSum, spot};
 
 use crate::centred::{Centred, is_nonzero};
 use crate::entries::{Shape, Steps};
-use crate::operands::Operands;
+use crate::operands::{Line, Operands};
 use crate::radius::outer;
-use crate::sums::{Sums, ends};
-use unpacked::{Number, is_none};
+use crate::sums::Sums;
+use unpacked::is_none;
 
-// The sums after a step for each l below k, where x is in row i and column l of pa (k columns) and y in row l and column j of pb (n columns).
-// The loop ends at the first overflow, and the result is then refused. By index: the cells of a column are n apart, and step_by beside a row is no plainer.
-fn parts(
-    lower: Number,
-    opposed: Number,
-    radius: Number,
-    k: usize,
-    n: usize,
-    i: usize,
-    j: usize,
-    pa: &[u32],
-    pb: &[u32],
-) -> Centred
-    requires { AllNumbers (record { lower = lower; opposed = opposed; radius = radius })
-        × Reaches (record { k = k; n = n; i = i; j = j; row = pa.now; column = pb.now })
-        × Numbers (record { k = k; n = n; i = i; j = j; row = pa.now; column = pb.now }) }
-    ensures { PartsAdded (record { k = k; n = n; i = i; j = j; row = pa.now; column = pb.now })
-        (record { lower = lower; opposed = opposed; radius = radius }) result }
+// The sums after a step for each pair of the line, or None at the first overflow. By index: the cells of a column are n
+// apart, and step_by beside a row is no plainer.
+fn parts(sums: Centred, line: Line) -> Option<Centred>
+    requires { Numbers (line_of line) }
+    ensures { PartsAdded (line_of line.entry) sums result }
 {
-    let mut s = Centred {
-        lower,
-        opposed,
-        radius,
-    };
-    for l in 0..k {
-        let x = pa[i * k + l];
+    let mut s = sums;
+    for l in 0..line.k {
+        let x = line.first(l);
         if is_nonzero(x) {
-            s = s.step_parts(x, pb[l * n + j]);
-            if s.refused() {
-                return s;
-            }
+            s = s.step_parts(x, line.second(l))?;
         }
     }
-    s
+    Some(s)
 }
 
 // pa and pb have the part p for each cell of A and of B, wb |m| + r for each cell of B.
@@ -97,14 +77,32 @@ impl<'a> Steps for Seven<'a> {
 
     fn finish(self, _row: &(), s: Centred, i: usize, j: usize) -> Option<Sums> {
         let Shape { k, n, .. } = self.of.shape;
-        let radius = outer(s.radius, k, n, i, j, self.of.ra, self.wb);
+        let wide = Line {
+            k,
+            n,
+            i,
+            j,
+            row: self.of.ra,
+            column: self.wb,
+        };
+        let radius = outer(s.radius, wide);
         if is_none(radius) {
             return None;
         }
-        let t = parts(s.lower, s.opposed, radius, k, n, i, j, self.pa, self.pb);
-        if t.refused() {
-            return None;
-        }
-        ends(t.lower, t.opposed, t.radius).whole()
+        let cut = Line {
+            k,
+            n,
+            i,
+            j,
+            row: self.pa,
+            column: self.pb,
+        };
+        let sums = Centred {
+            lower: s.lower,
+            opposed: s.opposed,
+            radius,
+        };
+        let t = parts(sums, cut)?;
+        Sums::ends(t.lower, t.opposed, t.radius)
     }
 }

@@ -1,14 +1,5 @@
 // The running sums of one entry by method 1: a value that a step takes, with a pair of cells, and returns. Its last step, `ends`, serves all methods.
-ghost use Rattle.std.specs.Prelude.{◌≡◌, true, neg_ℤ};
-ghost use Rattle.rounding.specs.Format.{binary32};
-ghost use Rattle.enclosure.specs.Arithmetic.{of};
-ghost use Rattle.enclosure.specs.RunningSums.{add_pair};
-ghost use Rattle.binary32.specs.Number.{finites, pattern_of};
-ghost use Rattle.unpacked.specs.Number.{worth, IsNumber};
-ghost use Rattle.products.specs.Apart.{Cells};
-ghost use Rattle.products.specs.Classical.{apart_cell, pattern_cell};
-ghost use Rattle.products.specs.Pair.{range_of};
-ghost use Rattle.products.specs.Running.{BothNumbers, HoldsRange, Ended, bounds_of, refused_sums, whole_of, zero_sums};
+ghost use Rattle.unpacked.specs.Number.{IsNumber};
 
 use crate::apart::Apart;
 use crate::corners::{corner_by_sign, greater, lesser};
@@ -19,11 +10,13 @@ use crate::rounded::{rounded, rounded_up};
 use binary32::direction::Down;
 use unpacked::{Number, is_none, zero};
 
-// The lower sum, and the negated upper sum: rounding x up is negating -x rounded down, so both sums are rounded down. Each is a number or none.
+// The lower sum, and the negated upper sum: rounding x up is negating -x rounded down, so both sums are rounded down. Both are numbers: a step that overflows gives None.
 #[derive(Clone, Copy)]
 pub struct Sums {
     pub lower: Number,
     pub opposed: Number,
+    ghost lower_number: { IsNumber lower },
+    ghost opposed_number: { IsNumber opposed },
 }
 
 // The row and column of an entry that is refused.
@@ -34,9 +27,21 @@ pub struct Place {
 }
 
 impl Sums {
+    ghost use Rattle.std.proofs.Math.Option.{Option};
+    ghost use Rattle.std.specs.Prelude.{◌≡◌, ◌≤◌, true, ℤ, neg_ℤ};
+    ghost use Rattle.rounding.specs.Format.{binary32};
+    ghost use Rattle.enclosure.specs.Arithmetic.{of};
+    ghost use Rattle.enclosure.specs.RunningSums.{add_pair};
+    ghost use Rattle.binary32.specs.Number.{finites, pattern_of};
+    ghost use Rattle.unpacked.specs.Number.{worth, Holds, zero_number};
+    ghost use Rattle.products.specs.Apart.{Cells};
+    ghost use Rattle.products.specs.Classical.{apart_cell, pattern_cell};
+    ghost use Rattle.products.specs.Pair.{range_of};
+    ghost use Rattle.products.specs.Running.{HoldsRange, Summed, Ended, bounds_of};
+
     // Both sums are zero.
     pub fn new() -> Self
-        ensures { result ≡ zero_sums }
+        ensures { (result.lower ≡ zero_number) × (result.opposed ≡ zero_number) }
     {
         Sums {
             lower: zero(),
@@ -47,7 +52,7 @@ impl Sums {
     // The sums with these two numbers as bounds.
     pub fn of_bounds(lower: u32, upper: u32) -> Self
         requires { finites lower upper ≡ true }
-        ensures { BothNumbers result × (bounds_of result ≡ range_of (lower, upper)) }
+        ensures { bounds_of result ≡ range_of (lower, upper) }
     {
         Sums {
             lower: unpack(lower),
@@ -55,11 +60,22 @@ impl Sums {
         }
     }
 
+    // These sums, or None where one of them is none.
+    fn whole(lower: Number, opposed: Number) -> Option<Sums>
+        requires { (lower.exp ≤ 653 → IsNumber lower) × (opposed.exp ≤ 653 → IsNumber opposed) }
+        ensures { (l o : Option ℤ) → Holds l lower → Holds o opposed → Summed l o result }
+    {
+        if is_none(lower) || is_none(opposed) {
+            return None;
+        }
+        Some(Sums { lower, opposed })
+    }
+
     // Adds a pair of cells, a of A and [bl, bu] of B: the least of their four corner products to the lower sum, all rounded down, and the greatest to the
     // upper sum, all rounded up. USE changes nothing of that: each caller gets a copy of its own. The compiler inlines a function with one caller, and a
     // step is too large to be inlined twice.
-    pub fn step<const USE: u32>(self, a: Apart, bl: u32, bu: u32) -> Sums
-        requires { BothNumbers self × Cells a bl bu }
+    pub fn step<const USE: u32>(self, a: Apart, bl: u32, bu: u32) -> Option<Sums>
+        requires { Cells a bl bu }
         ensures { HoldsRange (add_pair (of binary32) (bounds_of self) (apart_cell a) (pattern_cell bl bu)) result }
     {
         let w = a.lower();
@@ -68,32 +84,22 @@ impl Sums {
         let z = unpack(bu);
         let low = lesser(corner_by_sign(w, y, z), corner_by_sign(x, y, z)).product;
         let high = greater(corner_by_sign(w, z, y), corner_by_sign(x, z, y)).product;
-        Sums {
-            lower: plus::<Down>(self.lower, rounded::<Down>(low)),
-            opposed: plus::<Down>(self.opposed, rounded_up(high)),
-        }
+        let lower = plus::<Down>(self.lower, rounded::<Down>(low));
+        let opposed = plus::<Down>(self.opposed, rounded_up(high));
+        Sums::whole(lower, opposed)
     }
 
-    // Whether one of the sums is none: a step overflowed.
-    pub fn refused(self) -> bool
-        ensures { result ≡ refused_sums self }
+    // The bounds of an entry by methods 3, 4, 5 and 7: lower centre - radius, rounded down, and upper centre + radius, rounded up.
+    // `opposed` is the negated upper centre, and `radius` the negated radius.
+    pub fn ends(lower: Number, opposed: Number, radius: Number) -> Option<Sums>
+        requires { IsNumber lower × IsNumber opposed × IsNumber radius }
+        ensures { Ended lower opposed radius result }
     {
-        is_none(self.lower) || is_none(self.opposed)
-    }
-
-    // These sums, or None where one of them is none.
-    pub fn whole(self) -> Option<Sums>
-        ensures { result ≡ whole_of self }
-    {
-        if self.refused() {
-            return None;
-        }
-        Some(self)
+        Sums::whole(plus::<Down>(lower, radius), plus::<Down>(opposed, radius))
     }
 
     // The pattern of the lower sum.
     pub fn lower(self) -> u32
-        requires { BothNumbers self }
         ensures { result ≡ pattern_of (worth self.lower) }
     {
         pack(self.lower)
@@ -101,21 +107,8 @@ impl Sums {
 
     // The pattern of the upper sum.
     pub fn upper(self) -> u32
-        requires { BothNumbers self }
         ensures { result ≡ pattern_of (neg_ℤ (worth self.opposed)) }
     {
         pack(opposite(self.opposed))
-    }
-}
-
-// The bounds of an entry by methods 3, 4, 5 and 7: lower centre - radius, rounded down, and upper centre + radius, rounded up.
-// `opposed` is the negated upper centre, and `radius` the negated radius.
-pub fn ends(lower: Number, opposed: Number, radius: Number) -> Sums
-    requires { IsNumber lower × IsNumber opposed × IsNumber radius }
-    ensures { Ended lower opposed radius result }
-{
-    Sums {
-        lower: plus::<Down>(lower, radius),
-        opposed: plus::<Down>(opposed, radius),
     }
 }

@@ -9,10 +9,10 @@ use crate::centred::adds;
 use crate::entries::{Shape, Steps};
 use crate::nearest::Nearest;
 use crate::number::opposite;
-use crate::operands::Operands;
+use crate::operands::{Line, Operands};
 use crate::plus::plus_negative;
 use crate::radius::outer;
-use crate::sums::{Sums, ends};
+use crate::sums::Sums;
 use binary32::direction::Down;
 use unpacked::{is_none, minus_tiny};
 
@@ -76,10 +76,18 @@ impl<'a> Steps for Three<'a> {
         if is_none(inner) {
             return None;
         }
-        let radius = outer(inner, k, n, i, j, self.of.ra, self.wb);
+        let line = Line {
+            k,
+            n,
+            i,
+            j,
+            row: self.of.ra,
+            column: self.wb,
+        };
+        let radius = outer(inner, line);
         if is_none(radius) {
             return None;
         }
-        ends(s.centre, opposite(s.centre), radius).whole()
+        Sums::ends(s.centre, opposite(s.centre), radius)
     }
 }

@@ -4,6 +4,7 @@ use Prim.Native.Nat.{ℕ, ◌+◌, ◌*◌, ◌≤◌}
 use native.Mathlib.Nat.{zero-mul}
 use native.Mathlib.Omega.{arith}
 use lib.ListN.{length}
+use Rattle.std.specs.Prelude.{Some}
 use Rattle.products.specs.declared.entries.Shape.{Shape}
 use Rattle.products.specs.Running.{HoldsRange}
 use Rattle.products.proofs.Rows.{to_from, to_none, to_place, to_start, to_still, to_more, to_at, next_row}
@@ -25,10 +26,10 @@ loop-j-preserved g c =
     let m : c.shape-m.result.m ≡ (g.M.Steps.shape c.args.of).m = ap rows_of S in
     let n : c.shape-m.result.n ≡ (g.M.Steps.shape c.args.of).n = ap columns_of S in
     let r = c.requires in
-    let H = subst (λ (t : ℕ). HoldsRange (E (c.search.i * t + c.loop-j.j)) c.in-Some-finish.e) (sym n) c.in-Some-finish.ensures.0 in
+    let H = subst (λ (t : ℕ). HoldsRange (E (c.search.i * t + c.loop-j.j)) (Some c.in-Some-finish.e)) (sym n) c.in-Some-finish.ensures in
     let out = to_place E (to_from E c.search.invariant.0 (omega arith) c.loop-j.invariant) c.shape-m.result.m c.shape-m.result.n c.search.i c.loop-j.j (omega (arith, m, r.1)) (omega (arith, n, r.2))
     (subst (λ (s : Shape). s.m * s.n ≤ length c.args.lo.now) (sym S) r.3) (subst (λ (s : Shape). s.m * s.n ≤ length c.args.up.now) (sym S) r.4) (omega arith) (omega arith) (omega arith) in
-    to_at E (to_more E (to_still E c.loop-j.invariant c.loop-l.invariant.0) c.in-Some-finish.e _ _ H c.in-Some-finish.ensures.1 out.1 out.2 c.lower.ensures c.upper.ensures) (omega arith)
+    to_at E (to_more E (to_still E c.loop-j.invariant c.loop-l.invariant.0) c.in-Some-finish.e _ _ H out.1 out.2 c.lower.ensures c.upper.ensures) (omega arith)
 
 pub search-preserved : goal.search-preserved
 search-preserved g c =

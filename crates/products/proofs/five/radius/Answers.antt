@@ -10,12 +10,10 @@ use Rattle.unpacked.specs.declared.Number.{Number}
 use Rattle.unpacked.specs.Number.{worth, IsNumber, Below, Holds, zero_number}
 use Rattle.unpacked.proofs.Packing.{num_of}
 use Rattle.products.specs.Continued.{Line, Continued, grown_by}
+use Rattle.products.specs.Line.{line_of}
 use Rattle.products.proofs.Carrying.{zero_runs, zero_below}
 use Rattle.products.proofs.ErrorBounds.{twice_number, less_holds, radius_holds}
 use Rattle.products.proofs.five.radius.Goals as goal
-
-abbrev line : (k n i j : ℕ) (row column : List ℕ) → Line
-line k n i j row column = record { k = k; n = n; i = i; j = j; row = row; column = column }
 
 -- the sum that `outer` returns, from zero
 sums : (w : Line) (z r : Number) → z ≡ zero_number → Continued w z r → Holds (negate (grown_by w (pos 0) w.k)) r
@@ -28,11 +26,11 @@ number size n = num_neg (num_of size n)
 pub outer-requires : goal.outer-requires
 outer-requires c =
     let z : (c.zero.result ≡ zero_number) = c.zero.ensures in
-    (subst IsNumber (sym z) zero_runs.number, subst Below (sym z) zero_below, c.requires.3)
+    (subst IsNumber (sym z) zero_runs.number, subst Below (sym z) zero_below)
 
 pub plus-requires : goal.plus-requires
 plus-requires c =
-    let w = line c.args.k c.args.n c.args.i c.args.j c.args.wa.now c.args.wb.now in
+    let w = line_of c.args.line in
     let g = number c.args.size c.requires.0 in
     let S = sums w c.zero.result c.outer.result c.zero.ensures c.outer.ensures in
     let L = less_holds w.k c.requires.2 _ g w refl c.opposite.result c.plus-less.result c.opposite.ensures.worths (c.plus-less.ensures _ S) in
@@ -40,7 +38,7 @@ plus-requires c =
 
 pub returns : goal.returns
 returns c =
-    let w = line c.args.k c.args.n c.args.i c.args.j c.args.wa.now c.args.wb.now in
+    let w = line_of c.args.line in
     let g = number c.args.size c.requires.0 in
     let S = sums w c.zero.result c.outer.result c.zero.ensures c.outer.ensures in
     let L = less_holds w.k c.requires.2 _ g w refl c.opposite.result c.plus-less.result c.opposite.ensures.worths (c.plus-less.ensures _ S) in

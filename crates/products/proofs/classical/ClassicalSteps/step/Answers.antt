@@ -1,6 +1,8 @@
 -- `Classical::step` meets its contract: the cells of a pair, a pair that is passed over, and the sums after a pair.
 use mathlib.Core.Path.{◌≡◌, refl, sym, ◌∙◌, subst}
 use Prim.Native.Nat.{ℕ, ◌+◌, ◌*◌, ◌<◌}
+use Rattle.std.specs.Prelude.{Option as Maybe}
+use Rattle.products.specs.Entries.{Going}
 use Rattle.rounding.specs.Format.{binary32}
 use Rattle.enclosure.specs.Arithmetic.{of}
 use Rattle.enclosure.specs.Methods.{Range, classical}
@@ -13,9 +15,8 @@ use Rattle.products.specs.Apart.{IsApart, Cells}
 use Rattle.products.specs.Classical.{SumsAfter, apart_cell, pattern_cell}
 use Rattle.products.specs.Running.{HoldsRange}
 use Rattle.products.specs.Written.{Sizes}
-use Rattle.products.proofs.ClassicalSums.{after_more, after_zero, entry_refused}
+use Rattle.products.proofs.ClassicalSums.{after_step, after_zero}
 use Rattle.products.proofs.Pairs.{Taken, fine_taken, fine_cells, step_cells, apart_zero, patterns_zero}
-use Rattle.products.proofs.Wholes.{whole_goes}
 use Rattle.products.proofs.classical.ClassicalSteps.step.Goals as goal
 
 -- the cells of pair l of row i and column j: that of A, a, is taken apart
@@ -27,7 +28,7 @@ module _ {m k n : ℕ} {A B : Matrix} {lo up : ℕ} (z : Sizes m k n A B lo up) 
   cells g = fine_cells _ _ _ _ a taken (z.b_fine (l * n + j) (below l k j n e g))
 
   -- what a step gives
-  stepped : (s : Range) (r : Sums) → HoldsRange (add_pair (of binary32) s (apart_cell a) (pattern_cell (lower_at B (l * n + j)) (upper_at B (l * n + j)))) r
+  stepped : (s : Range) (r : Maybe Sums) → HoldsRange (add_pair (of binary32) s (apart_cell a) (pattern_cell (lower_at B (l * n + j)) (upper_at B (l * n + j)))) r
       → HoldsRange (add_pair (of binary32) s (cell_at A (i * k + l)) (cell_at B (l * n + j))) r
   unfolding cell_at
   stepped s r = step_cells _ _ (cell_at B (l * n + j)) a taken s r
@@ -50,8 +51,7 @@ returns-then-not-is_nonzero-2 c =
 
 pub step-requires : goal.step-requires
 step-requires c =
-    let S = c.requires.5 in
-    (S.holds.numbers S.going, cells c.requires.0 c.args._i c.args.j c.args.l c.requires.1 c.requires.3 _ (c.requires.4.1 c.args.l c.requires.3) c.requires.2)
+    cells c.requires.0 c.args._i c.args.j c.args.l c.requires.1 c.requires.3 _ (c.requires.4.1 c.args.l c.requires.3) c.requires.2
 
 pub returns : goal.returns
 returns c =
@@ -59,5 +59,5 @@ returns c =
     let A = of_bounds s.al.now s.au.now in
     let B = of_bounds s.bl.now s.bu.now in
     let H = stepped c.requires.0 c.args._i c.args.j c.args.l c.requires.1 c.requires.3 _ (c.requires.4.1 c.args.l c.requires.3) _ _ c.step.ensures in
-    whole_goes _ c.step.result c.whole.result c.whole.ensures _ (after_more s.shape.k s.shape.n A B c.args._i c.args.j c.args.l c.args.s c.requires.5 c.step.result H)
-    (λ t. position_entry classical s.shape.k s.shape.n c.args._i c.args.j _ refl c.requires.2 A B ∙ entry_refused s.shape.k s.shape.n A B c.args._i c.args.j c.args.l c.args.s c.requires.5 c.step.result H c.requires.3 t)
+    subst (λ m. Going (SumsAfter s.shape.k s.shape.n A B c.args._i c.args.j (c.args.l + 1)) m c.step.result) (sym (position_entry classical s.shape.k s.shape.n c.args._i c.args.j _ refl c.requires.2 A B))
+    (after_step s.shape.k s.shape.n A B c.args._i c.args.j c.args.l c.args.s c.requires.5 c.step.result H c.requires.3)

@@ -13,7 +13,6 @@ use Rattle.products.specs.Spot.{Spot, spot}
 use Rattle.products.proofs.Carrying.{zero_runs, zero_below}
 use Rattle.products.proofs.FiveEntry.{Lists, Prepared, mids, parts, outers, five_none, five_holds, mids_paired, parts_paired, outers_reach}
 use Rattle.products.proofs.FiveRange.{first_none, second_none, radius_none, range_holds}
-use Rattle.products.proofs.Wholes.{whole_holds}
 use Rattle.products.proofs.five.FiveSteps.finish.Goals as goal
 
 -- what was worked out before
@@ -43,14 +42,15 @@ zero_worth : {x : Number} → x ≡ zero_number → worth x ≡ pos 0
 unfolding worth
 zero_worth e = ap worth e
 
-pub sum_pairs-s-requires : goal.sum_pairs-s-requires
-sum_pairs-s-requires c =
+pub invariant_of-mids : goal.invariant_of-mids
+invariant_of-mids c =
     let p = spot c.args.self.of c.args.i c.args.j in
     let q = lists c.args.row.now.mids c.args.row.now.parts c.args.self.wa.now c.args.self.pa.now c.args.self.wb.now c.args.self.pb.now in
-    let W = prepared p q c.args.self.of.shape.m c.requires.0 c.requires.1 c.requires.2 c.requires.3 in (
-      record { centre = subst IsNumber (sym c.zero.ensures) zero_runs.number; size = subst IsNumber (sym c.zero-2.ensures) zero_runs.number; below = subst Below (sym c.zero-2.ensures) zero_below },
-      mids_paired p q W,
-    )
+    record { paired = mids_paired p q (prepared p q c.args.self.of.shape.m c.requires.0 c.requires.1 c.requires.2 c.requires.3) }
+
+pub sum_pairs-s-requires : goal.sum_pairs-s-requires
+sum_pairs-s-requires c =
+    record { centre = subst IsNumber (sym c.zero.ensures) zero_runs.number; size = subst IsNumber (sym c.zero-2.ensures) zero_runs.number; below = subst Below (sym c.zero-2.ensures) zero_below }
 
 pub returns-then-refused : goal.returns-then-refused
 returns-then-refused c =
@@ -62,13 +62,16 @@ returns-then-refused c =
     let zs = zero_worth c.zero-2.ensures in
     five_none p q W _ refl (first_none (mids p q) (parts p q) (outers p q) z zc zs (c.sum_pairs-s.ensures.refused (sym c.refused.ensures ∙ c.if-refused.true)))
 
-pub sum_pairs-t-requires : goal.sum_pairs-t-requires
-sum_pairs-t-requires c =
+pub invariant_of-parts : goal.invariant_of-parts
+invariant_of-parts c =
     let p = spot c.args.self.of c.args.i c.args.j in
     let q = lists c.args.row.now.mids c.args.row.now.parts c.args.self.wa.now c.args.self.pa.now c.args.self.wb.now c.args.self.pb.now in
-    let W = prepared p q c.args.self.of.shape.m c.requires.0 c.requires.1 c.requires.2 c.requires.3 in
+    record { paired = parts_paired p q (prepared p q c.args.self.of.shape.m c.requires.0 c.requires.1 c.requires.2 c.requires.3) }
+
+pub sum_pairs-t-requires : goal.sum_pairs-t-requires
+sum_pairs-t-requires c =
     let S = c.sum_pairs-s.ensures.numbers (sym c.refused.ensures ∙ c.if-refused.false) in
-    (record { centre = S.centre.number; size = S.size.number; below = S.below }, parts_paired p q W)
+    record { centre = S.centre.number; size = S.size.number; below = S.below }
 
 pub returns-then-refused-2 : goal.returns-then-refused-2
 returns-then-refused-2 c =
@@ -83,11 +86,8 @@ returns-then-refused-2 c =
 
 pub radius-r-requires : goal.radius-r-requires
 radius-r-requires c =
-    let p = spot c.args.self.of c.args.i c.args.j in
-    let q = lists c.args.row.now.mids c.args.row.now.parts c.args.self.wa.now c.args.self.pa.now c.args.self.wb.now c.args.self.pb.now in
-    let W = prepared p q c.args.self.of.shape.m c.requires.0 c.requires.1 c.requires.2 c.requires.3 in
     let T = c.sum_pairs-t.ensures.numbers (sym c.refused-2.ensures ∙ c.if-refused-2.false) in
-    (T.size.number, T.below, c.requires.0.0.inner, outers_reach p q W)
+    (T.size.number, T.below, c.requires.0.0.inner)
 
 pub returns-then-is_none : goal.returns-then-is_none
 returns-then-is_none c =
@@ -111,6 +111,5 @@ returns c =
     let zs = zero_worth c.zero-2.ensures in
     let S = c.sum_pairs-s.ensures.numbers (sym c.refused.ensures ∙ c.if-refused.false) in
     let T = c.sum_pairs-t.ensures.numbers (sym c.refused-2.ensures ∙ c.if-refused-2.false) in
-    whole_holds _ c.ends.result c.whole.result c.whole.ensures
-    (five_holds p q W _ refl c.ends.result
-    (range_holds (mids p q) (parts p q) (outers p q) z zc zs c.sum_pairs-s.result S c.sum_pairs-t.result T c.radius-r.result c.radius-r.ensures c.opposite.result c.ends.result (sym c.is_none.ensures ∙ c.if-is_none.false) c.opposite.ensures c.ends.ensures))
+    five_holds p q W _ refl c.ends.result
+    (range_holds (mids p q) (parts p q) (outers p q) z zc zs c.sum_pairs-s.result S c.sum_pairs-t.result T c.radius-r.result c.radius-r.ensures c.opposite.result c.ends.result (sym c.is_none.ensures ∙ c.if-is_none.false) c.opposite.ensures c.ends.ensures)

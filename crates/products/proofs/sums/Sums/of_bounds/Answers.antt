@@ -23,9 +23,10 @@ opposite-requires c = (upper_is c).0.normal
 abbrev range : ℤ → ℤ → Range
 range l u = record { lower = l; upper = u }
 
+pub invariant_of-result : goal.invariant_of-result
+invariant_of-result c = record { lower_number = (lower_is c.before).0; opposed_number = opposite_number (upper_is c.before).0 c.opposite.ensures }
+
 pub returns : goal.returns
 returns c =
-    let o = c.opposite.ensures in (
-      record { lower = (lower_is c.before).0; opposed = opposite_number (upper_is c.before).0 o },
-      ap₂ range (lower_is c.before).1 (ap neg_ℤ o.worths ∙ neg_ℤ-neg_ℤ (worth c.unpack-2.result) ∙ (upper_is c.before).1),
-    )
+    let o = c.opposite.ensures in
+    ap₂ range (lower_is c.before.before).1 (ap neg_ℤ o.worths ∙ neg_ℤ-neg_ℤ (worth c.unpack-2.result) ∙ (upper_is c.before.before).1)

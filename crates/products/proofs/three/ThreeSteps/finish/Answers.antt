@@ -6,7 +6,6 @@ use Rattle.products.proofs.FourEntry.{reaches}
 use Rattle.products.proofs.NearestSteps.{tiny_holds, tiny_below}
 use Rattle.products.proofs.ThreeSteps.{first_numbers, tiny_next, tiny_sum, tiny_number, tiny_none, three_tiny, three_outer, three_holds}
 use Rattle.products.proofs.Turns.{pair, radius_runs, radius_none}
-use Rattle.products.proofs.Wholes.{whole_holds}
 use Rattle.products.proofs.three.ThreeSteps.finish.Goals as goal
 
 pub plus_negative-inner-requires : goal.plus_negative-inner-requires
@@ -26,7 +25,7 @@ outer-radius-requires c =
     let p = spot c.args.self.of c.args.i c.args.j in
     let T = tiny_next p c.args.s c.minus_tiny.result c.plus_negative-inner.result c.requires.4 c.minus_tiny.ensures c.plus_negative-inner.ensures in
     let a = tiny_number p _ (tiny_sum p _ T (sym c.is_none.ensures ∙ c.if-is_none.false)) in
-    (a.0, a.1, reaches p _ _ _ (pair c.args.self.of.shape.m p c.requires.0.0 c.requires.1 c.requires.2) c.requires.0.0.a.rads c.requires.0.2.long)
+    (a.0, a.1)
 
 pub returns-then-is_none-2 : goal.returns-then-is_none-2
 returns-then-is_none-2 c =
@@ -52,5 +51,4 @@ returns c =
     let T = tiny_next p c.args.s c.minus_tiny.result c.plus_negative-inner.result c.requires.4 c.minus_tiny.ensures c.plus_negative-inner.ensures in
     let Y = tiny_sum p _ T (sym c.is_none.ensures ∙ c.if-is_none.false) in
     let R = radius_runs c.args.self.of.shape.m p c.requires.0.0 c.requires.1 c.requires.2 _ c.requires.0.2 c.plus_negative-inner.result _ c.outer-radius.ensures (sym c.is_none-2.ensures ∙ c.if-is_none-2.false) in
-    whole_holds _ c.ends.result c.whole.result c.whole.ensures
-    (three_holds p _ refl c.requires.2 c.args.s _ c.opposite.result _ c.ends.result c.requires.4 Y c.opposite.ensures R c.ends.ensures)
+    three_holds p _ refl c.requires.2 c.args.s _ c.opposite.result _ c.ends.result c.requires.4 Y c.opposite.ensures R c.ends.ensures
