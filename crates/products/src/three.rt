@@ -62,11 +62,7 @@ impl<'a> Steps for Three<'a> {
         if !adds(x, v) {
             return Some(s);
         }
-        let t = s.step(x, self.of.mb[b], v);
-        if t.refused() {
-            return None;
-        }
-        Some(t)
+        s.step(x, self.of.mb[b], v)
     }
 
     // The radius gets 2^-125 between its two sums.

@@ -2,7 +2,7 @@
 use mathlib.Core.Option.{some, bind}
 use Rattle.unpacked.specs.Number.{worth}
 use Rattle.unpacked.proofs.Limits.{number_part, number_holds}
-use Rattle.products.proofs.CentredSteps.{held_fits}
+use Rattle.products.proofs.Carrying.{held_fits}
 use Rattle.products.proofs.sums.Sums.ends.Goals as goal
 
 pub plus-requires : goal.plus-requires
