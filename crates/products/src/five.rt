@@ -10,7 +10,7 @@ ghost use Rattle.products.specs.Line.{line_of};
 ghost use Rattle.products.specs.MidRad.{Fits, entries_of};
 ghost use Rattle.products.specs.Row.{RowUnpacked};
 
-use crate::centre_size::{CentreSize, sum_pairs};
+use crate::centre_size::CentreSize;
 use crate::entries::{Shape, Steps};
 use crate::error::twice_error;
 use crate::number::opposite;
@@ -95,10 +95,6 @@ impl<'a> Steps for Five<'a> {
 
     fn finish(self, row: &Words, _s: (), i: usize, j: usize) -> Option<Sums> {
         let Shape { k, n, .. } = self.of.shape;
-        let none = CentreSize {
-            centre: zero(),
-            size: zero(),
-        };
         let mids = Pairs {
             k,
             n,
@@ -106,10 +102,7 @@ impl<'a> Steps for Five<'a> {
             row: &row.mids,
             column: self.of.mb,
         };
-        let s = sum_pairs(none, mids);
-        if s.refused() {
-            return None;
-        }
+        let s = CentreSize::new().sum_pairs(mids)?;
         let parts = Pairs {
             k,
             n,
@@ -117,10 +110,7 @@ impl<'a> Steps for Five<'a> {
             row: &row.parts,
             column: self.pb,
         };
-        let t = sum_pairs(s, parts);
-        if t.refused() {
-            return None;
-        }
+        let t = s.sum_pairs(parts)?;
         let line = Line {
             k,
             n,
