@@ -80,10 +80,10 @@ impl<'a> Steps for Three<'a> {
             row: self.of.ra,
             column: self.wb,
         };
-        let radius = outer(inner, line);
+        let radius = outer::<3>(inner, line);
         if is_none(radius) {
             return None;
         }
-        Sums::ends(s.centre, opposite(s.centre), radius)
+        Sums::ends::<3>(s.centre, opposite(s.centre), radius)
     }
 }
