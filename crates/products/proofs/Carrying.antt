@@ -18,7 +18,8 @@ use Rattle.rounding.specs.Rounding.{up, down, near, negate}
 use Rattle.rounding.proofs.Nearest.{near_odd}
 use Rattle.enclosure.specs.Sums.{sum}
 use Rattle.unpacked.specs.declared.Number.{Number}
-use Rattle.unpacked.specs.Number.{worth, Below, Holds, Runs, IsNumber, zero_number}
+use Rattle.unpacked.specs.Number.{worth, Below, Holds, Runs, IsNumber, zero_number, no_number}
+use Rattle.unpacked.proofs.Unpacking.{none_holds}
 use Rattle.products.specs.Running.{plus_down}
 use Rattle.unpacked.proofs.Packing.{exp_high}
 use Rattle.unpacked.proofs.Limits.{number_holds}
@@ -52,6 +53,16 @@ holds_none (some v) x h t = true_false (sym t ∙ le-ltb 653 x.exp (exp_high x n
   where
     number : IsNumber x
     number = record { normal = h.part.normal; within = subst (λ w. nat_abs w ≤ MAX binary32) (sym h.is.0) h.is.1 }
+
+-- what is none or a number, and what it is by its exponent
+pub held_fits : {m : Option ℤ} {x : Number} → Holds m x → x.exp ≤ 653 → IsNumber x
+held_fits {m} {x} h e = (holds_runs m x h (le-ltb 653 x.exp e)).number
+
+pub number_runs : {m : Option ℤ} {x : Number} → IsNumber x → Holds m x → Runs m x
+number_runs {m} {x} n h = holds_runs m x h (le-ltb 653 x.exp (exp_high x n))
+
+pub no_holds : {m : Option ℤ} → m ≡ none → Holds m no_number
+no_holds e = subst (λ m. Holds m no_number) (sym e) none_holds
 
 -- the start of a sum
 pub zero_worth : worth zero_number ≡ pos 0

@@ -1,11 +1,11 @@
 -- The running sums of method 5's centre taken apart: a step makes sums of one pair more of them, a pair with a zero factor is passed over,
 -- and a sum that was refused stays refused.
 use mathlib.Core.Path.{◌≡◌, refl, sym, ap, ◌∙◌, subst}
-use mathlib.Core.Bool.{true, false}
-use mathlib.Core.Logic.{◌⊎◌, inl, inr, ⊎_elim}
+use Rattle.std.specs.Prelude.{Some, None}
+use mathlib.Core.Logic.{inl, inr}
 use mathlib.Core.Option.{Option, none, some, map}
 use Prim.Native.Nat.{ℕ, ◌+◌, ◌^◌, ◌≤◌, ◌<◌}
-use lib.Dec.{ltb, lit<}
+use lib.Dec.{lit<}
 use lib.IntN.{ℤ, pos, neg_ℤ, ◌*ℤ◌, neg_ℤ-neg_ℤ}
 use Rattle.algebra.specs.Absolute.{abs}
 use Rattle.algebra.specs.Order.{◌≼◌}
@@ -21,15 +21,14 @@ use Rattle.binary32.specs.Operations.{mul}
 use Rattle.unpacked.specs.declared.Number.{Number}
 use Rattle.unpacked.specs.declared.Product.{Product}
 use Rattle.unpacked.specs.Exact.{Exact, ProductIs}
-use Rattle.unpacked.specs.Number.{worth, IsNumber, Below, Holds, Unpacked}
+use Rattle.unpacked.specs.Number.{worth, IsNumber, Below, Holds, Unpacked, no_number}
 use Rattle.unpacked.proofs.CornerTerms.{zero_left}
 use Rattle.unpacked.proofs.ExactProducts.{exact_worths}
 use Rattle.unpacked.proofs.Multiplying.{held_number}
 use Rattle.unpacked.proofs.Patterns.{held_is}
 use Rattle.products.specs.declared.centre_size.CentreSize.{CentreSize}
-use Rattle.products.specs.CentreSize.{Pairs, number, pattern, centre_from, size_from, plus_near, minus_size, SizedNumbers, SizedStep, SizedSum, SizedNone, SizedAll, refused_sized}
-use Rattle.products.proofs.Carrying.{true_false, holds_runs, runs_holds, holds_none, negate_none, any_more, near_more, sum_stays}
-use Rattle.products.proofs.Or.{or_first, or_second, or_cases}
+use Rattle.products.specs.CentreSize.{Pairs, number, pattern, centre_from, size_from, plus_near, minus_size, SizedStep, SizedSum, SizedNone, SizedAll}
+use Rattle.products.proofs.Carrying.{number_runs, no_holds, runs_holds, holds_none, negate_none, any_more, near_more, sum_stays}
 use Rattle.products.proofs.Pairs.{none_worth}
 use Rattle.products.proofs.Radii.{NotBelow, NotAbove, abs_same, abs_above, negate_above, holds_below, plus_under}
 use Rattle.products.proofs.Zeros.{near_same, near_mirrored_same, near_zero}
@@ -61,41 +60,38 @@ near_under X h = subst NotAbove (sym turn) (negate_above (map abs (near binary32
     turn : near binary32 1 X ≡ negate (map abs (near binary32 1 X))
     turn = ap (near binary32 1) (sym (neg_ℤ-neg_ℤ X)) ∙ near_odd binary32 1 (lit< tt) (neg_ℤ X) ∙ ap negate (ap (near binary32 1) (sym size) ∙ near_abs binary32 1 X)
 
-size_under : (s : Number) (x y : ℤ) (r : Number) → Below s → Holds (plus_near (worth s) (minus_size x y)) r → Below r
+pub size_under : (s : Number) (x y : ℤ) (r : Number) → Below s → Holds (plus_near (worth s) (minus_size x y)) r → Below r
 size_under s x y r b h =
     let k : NotAbove (minus_size x y) = subst NotAbove (minus_size_is x y) (negate_above (map abs (mul near x y)) (sizes_above (mul near x y))) in
     holds_below _ r h (plus_under (near binary32 1) near_under (worth s) (minus_size x y) b k)
 
 module _ (p : Pairs) where
   -- ---- the start
-  pub sized_start : (s : CentreSize) → SizedNumbers s → SizedSum p s 0 s
+  pub sized_start : (s : CentreSize) → SizedSum p s 0 s
   unfolding centre_from size_from sum
-  sized_start s N = record { centre = record { is = refl; number = N.centre }; size = record { is = ap some (neg_ℤ-neg_ℤ (worth s.size)); number = N.size }; below = N.below }
+  sized_start s = record { centre = record { is = refl; number = s.centre_number }; size = record { is = ap some (neg_ℤ-neg_ℤ (worth s.size)); number = s.size_number }; below = s.below }
 
-  -- ---- after a step each is a number or none
-  module _ (s : CentreSize) (l : ℕ) (r t : CentreSize) (S : SizedSum p s l r) (A : SizedStep r (worth (number p l)) (value_of (pattern p l)) t) where
-    centre_next : Holds (centre_from p (worth s.centre) (l + 1)) t.centre
+  -- ---- after a step
+  module _ (s : CentreSize) (l : ℕ) (r : CentreSize) (S : SizedSum p s l r) where
+    centre_next : (t : Number) → Holds (plus_near (worth r.centre) (mul near (worth (number p l)) (value_of (pattern p l)))) t → Holds (centre_from p (worth s.centre) (l + 1)) t
     unfolding centre_from
-    centre_next = any_more _ _ (near binary32 1) l r.centre t.centre _ S.centre refl A.centre
+    centre_next t A = any_more _ _ (near binary32 1) l r.centre t _ S.centre refl A
 
-    size_next : Holds (negate (size_from p (neg_ℤ (worth s.size)) (l + 1))) t.size
+    size_next : (t : Number) → Holds (plus_near (worth r.size) (minus_size (worth (number p l)) (value_of (pattern p l)))) t → Holds (negate (size_from p (neg_ℤ (worth s.size)) (l + 1))) t
     unfolding size_from
-    size_next = near_more _ _ l r.size t.size _ S.size refl A.size
+    size_next t A = near_more _ _ l r.size t _ S.size refl A
 
-    pub sized_more : refused_sized t ≡ false → SizedSum p s (l + 1) t
-    sized_more e = record {
-      centre = holds_runs _ t.centre centre_next (or_first (ltb 653 t.centre.exp) (ltb 653 t.size.exp) e);
-      size = holds_runs _ t.size size_next (or_second (ltb 653 t.centre.exp) (ltb 653 t.size.exp) e);
-      below = size_under r.size (worth (number p l)) (value_of (pattern p l)) t.size S.below A.size;
+    pub sized_more : (t : CentreSize) → SizedStep r (worth (number p l)) (value_of (pattern p l)) (Some t) → SizedSum p s (l + 1) t
+    sized_more t A = record {
+      centre = number_runs t.centre_number (centre_next t.centre (runs_holds A.0));
+      size = number_runs t.size_number (size_next t.size (runs_holds A.1));
+      below = t.below;
     }
 
-    pub sized_none : l < p.k → refused_sized t ≡ true → SizedNone p s p.k
+    pub sized_none : l < p.k → SizedStep r (worth (number p l)) (value_of (pattern p l)) None → SizedNone p s p.k
     unfolding centre_from size_from
-    sized_none m e = go (or_cases (ltb 653 t.centre.exp) (ltb 653 t.size.exp) e)
-      where
-        go : (ltb 653 t.centre.exp ≡ true) ⊎ (ltb 653 t.size.exp ≡ true) → SizedNone p s p.k
-        go (inl q) = inl (sum_stays (near binary32 1) _ _ l p.k m (holds_none _ t.centre centre_next q))
-        go (inr q) = inr (sum_stays (near binary32 1) _ _ l p.k m (negate_none _ (holds_none _ t.size size_next q)))
+    sized_none m (inl e) = inl (sum_stays (near binary32 1) _ _ l p.k m (holds_none _ no_number (centre_next no_number (no_holds e)) refl))
+    sized_none m (inr e) = inr (sum_stays (near binary32 1) _ _ l p.k m (negate_none _ (holds_none _ no_number (size_next no_number (no_holds e)) refl)))
 
   -- ---- where the first factor is zero, which alone has the exponent 64
   pub sized_skip : (s : CentreSize) (l : ℕ) (r : CentreSize) → SizedSum p s l r → IsNumber (number p l) → (number p l).exp ≤ 64 → SizedSum p s (l + 1) r
@@ -109,11 +105,6 @@ module _ (p : Pairs) where
         below = S.below;
       }
 
-  -- ---- after all pairs, and where a step was refused
-  pub sized_whole : (s : CentreSize) (l : ℕ) (r : CentreSize) → l ≡ p.k → SizedSum p s l r → SizedAll p s r
-  sized_whole s l r e S =
-      let W : SizedSum p s p.k r = subst (λ n. SizedSum p s n r) e S in
-      record { numbers = λ t. W; refused = λ t. ⊎_elim (λ q. inl (holds_none _ r.centre (runs_holds W.centre) q)) (λ q. inr (negate_none _ (holds_none _ r.size (runs_holds W.size) q))) (or_cases (ltb 653 r.centre.exp) (ltb 653 r.size.exp) t) }
-
-  pub sized_refused : (s r : CentreSize) → refused_sized r ≡ true → SizedNone p s p.k → SizedAll p s r
-  sized_refused s r t N = record { numbers = λ f. true_false (sym t ∙ f); refused = λ u. N }
+  -- ---- after all pairs
+  pub sized_whole : (s : CentreSize) (l : ℕ) (r : CentreSize) → l ≡ p.k → SizedSum p s l r → SizedAll p s (Some r)
+  sized_whole s l r e S = subst (λ n. SizedSum p s n r) e S

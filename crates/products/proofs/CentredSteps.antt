@@ -18,17 +18,7 @@ use Rattle.unpacked.proofs.Packing.{exp_high}
 use Rattle.unpacked.proofs.Unpacking.{none_holds}
 use Rattle.products.specs.Running.{plus_down}
 use Rattle.products.specs.Centred.{Added, CentredSum, OneNone}
-use Rattle.products.proofs.Carrying.{holds_runs, runs_holds, holds_none, zero_runs, negate_none, down_more, up_more, sum_stays}
-
--- ---- a sum that is a number, or none
-pub held_fits : {m : Option ℤ} {x : Number} → Holds m x → x.exp ≤ 653 → IsNumber x
-held_fits {m} {x} h e = (holds_runs m x h (le-ltb 653 x.exp e)).number
-
-number_runs : {m : Option ℤ} {x : Number} → IsNumber x → Holds m x → Runs m x
-number_runs {m} {x} n h = holds_runs m x h (le-ltb 653 x.exp (exp_high x n))
-
-no_holds : {m : Option ℤ} → m ≡ none → Holds m no_number
-no_holds e = subst (λ m. Holds m no_number) (sym e) none_holds
+use Rattle.products.proofs.Carrying.{number_runs, no_holds, runs_holds, holds_none, zero_runs, negate_none, down_more, up_more, sum_stays}
 
 -- ---- a radius alone, kept with the other sign
 pub radius_from : (h : ℕ → Option ℤ) (x : Number) → IsNumber x → Runs (negate (sum (up binary32 1) h (neg_ℤ (worth x)) 0)) x

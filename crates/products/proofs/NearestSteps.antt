@@ -1,47 +1,19 @@
 -- The running sums of method 3 taken apart: they go on, or one of them is refused; the centre with the other sign; and 2^-125 more in the radius.
 use mathlib.Core.Path.{◌≡◌, refl, sym, ap, ◌∙◌, subst}
-use mathlib.Core.Bool.{true, false}
-use mathlib.Core.Logic.{◌⊎◌, inl, inr}
 use mathlib.Core.Option.{Option, none, some, bind}
 use Prim.Native.Nat.{ℕ, ◌^◌, ◌≤◌}
 use native.Mathlib.Omega.{arith}
-use lib.Dec.{ltb, lit≤}
+use lib.Dec.{lit≤}
 use lib.IntN.{ℤ, pos, neg_ℤ, ◌+ℤ◌, ◌*ℤ◌, neg_ℤ-neg_ℤ}
 use Rattle.algebra.specs.Order.{◌≼◌}
 use Rattle.rounding.proofs.Sign.{neg_le_pos}
 use Rattle.rounding.specs.Format.{binary32, MAX}
 use Rattle.rounding.specs.Rounding.{up, negate}
 use Rattle.unpacked.specs.declared.Number.{Number}
-use Rattle.products.specs.declared.nearest.Nearest.{Nearest}
 use Rattle.unpacked.specs.Number.{worth, Below, Holds, Runs, Opposite, minus_tiny}
 use Rattle.products.specs.Running.{plus_down}
-use Rattle.products.specs.Centred.{refused_nearest, NearestSum}
-use Rattle.products.proofs.Carrying.{holds_runs, holds_none, negate_none, mirror_plus, mirrored_is}
+use Rattle.products.proofs.Carrying.{mirror_plus, mirrored_is}
 use Rattle.unpacked.proofs.Opposites.{opposite_number}
-use Rattle.products.proofs.Or.{or_first, or_second, or_cases}
-
--- the same where each of the two is a number or none
-pub record NearestHolds (mid rad : Option ℤ) (s : Nearest) : Type 0 where
-  pub centre : Holds mid s.centre
-  pub radius : Holds (negate rad) s.radius
-  pub below : Below s.radius
-
--- ---- a test of the two
-module _ (mid rad : Option ℤ) (s : Nearest) (h : NearestHolds mid rad s) where
-  pub near_runs : refused_nearest s ≡ false → NearestSum mid rad s
-  near_runs e =
-      record {
-        centre = holds_runs mid s.centre h.centre (or_first (ltb 653 s.centre.exp) (ltb 653 s.radius.exp) e);
-        radius = holds_runs (negate rad) s.radius h.radius (or_second (ltb 653 s.centre.exp) (ltb 653 s.radius.exp) e);
-        below = h.below;
-      }
-
-  pub near_none : refused_nearest s ≡ true → (mid ≡ none) ⊎ (rad ≡ none)
-  near_none e = go (or_cases (ltb 653 s.centre.exp) (ltb 653 s.radius.exp) e)
-    where
-      go : (ltb 653 s.centre.exp ≡ true) ⊎ (ltb 653 s.radius.exp ≡ true) → (mid ≡ none) ⊎ (rad ≡ none)
-      go (inl t) = inl (holds_none mid s.centre h.centre t)
-      go (inr t) = inr (negate_none rad (holds_none (negate rad) s.radius h.radius t))
 
 -- ---- the other sign
 pub opposite_runs : (m : Option ℤ) (x r : Number) → Runs m x → Opposite x r → Runs (negate m) r

@@ -2,7 +2,8 @@
 use mathlib.Core.Path.{◌≡◌, refl, sym, ap, ◌∙◌, subst}
 use mathlib.Core.Bool.{true, false}
 use mathlib.Core.Logic.{◌⊎◌, inl, inr}
-use Rattle.std.specs.Prelude.{Option as Maybe}
+use Rattle.std.specs.Prelude.{Option as Maybe, Some, None}
+use Rattle.products.specs.Entries.{Going}
 use mathlib.Core.Option.{Option, none, some, bind}
 use Prim.Native.Nat.{ℕ, ◌+◌, ◌*◌, ◌<◌}
 use lib.Dec.{ltb}
@@ -18,17 +19,17 @@ use Rattle.binary32.specs.Operations.{mul, with₂}
 use Rattle.unpacked.specs.declared.Number.{Number}
 use Rattle.products.specs.declared.nearest.Nearest.{Nearest}
 use Rattle.products.specs.declared.sums.Sums.{Sums}
-use Rattle.unpacked.specs.Number.{worth, IsNumber, Below, Holds, Runs, Opposite, minus_tiny}
+use Rattle.unpacked.specs.Number.{worth, IsNumber, Below, Holds, Runs, Opposite, minus_tiny, zero_number, no_number}
 use Rattle.products.specs.Running.{plus_down, Ended, HoldsRange}
-use Rattle.products.specs.Centred.{zero_nearest, NearNumbers, NearAdded, refused_nearest, NearestSum, OneNone}
+use Rattle.products.specs.Centred.{growth, NearAdded, NearestSum, OneNone}
 use Rattle.products.specs.Terms.{adds_of}
 use Rattle.products.specs.Derived.{raised_of, factor_of}
-use Rattle.products.proofs.Carrying.{holds_runs, holds_none, zero_runs, zero_below, mirrored_is, negate_none, any_more, up_more, sum_stays}
-use Rattle.products.proofs.Radii.{plus_below, grown_below}
+use Rattle.products.proofs.Carrying.{holds_runs, runs_holds, number_runs, no_holds, holds_none, zero_runs, mirrored_is, negate_none, any_more, up_more, sum_stays}
+use Rattle.products.proofs.Radii.{plus_below}
 use Rattle.unpacked.proofs.CornerTerms.{zero_value}
 use Rattle.products.proofs.Zeros.{near_same, up_same, adds_not, near_zero, mid_zero, raised_zero}
 use Rattle.products.proofs.MidRadSteps.{mid_is, raised_is}
-use Rattle.products.proofs.NearestSteps.{NearestHolds, near_runs, near_none, opposite_runs, tiny, tiny_holds, tinied, tiny_more}
+use Rattle.products.proofs.NearestSteps.{opposite_runs, tiny, tiny_holds, tinied, tiny_more}
 use Rattle.products.proofs.Ending.{ends_none, ends_hold, position_entry_from}
 use Rattle.products.specs.Spot.{Spot, a_mid, a_rad, b_mid, b_rad, left, right, middles, raiseds, FirstSum}
 use Rattle.products.proofs.FourEntry.{Read, entry_by, outers}
@@ -39,37 +40,34 @@ nested none g = refl
 nested (some s) g = refl
 
 module _ (p : Spot) where
-  -- ---- the first sums after one pair more: each a number or none
-  unfoldable pub FirstNext : ℕ → Nearest → Type 0
-  FirstNext l s = NearestHolds (middles p near (l + 1)) (raiseds p (l + 1)) s
-
   -- one of them is none in the end
   unfoldable pub FirstNone : Type 0
   FirstNone = (middles p near p.k ≡ none) ⊎ (raiseds p p.k ≡ none)
 
-  pub first_start : FirstSum p 0 zero_nearest
+  pub first_start : (s : Nearest) → (s.centre ≡ zero_number) × (s.radius ≡ zero_number) → FirstSum p 0 s
   unfolding FirstSum middles raiseds sum
-  first_start = record { centre = zero_runs; radius = zero_runs; below = zero_below }
+  first_start s e = record { centre = subst (Runs (some (pos 0))) (sym e.0) zero_runs; radius = subst (Runs (some (pos 0))) (sym e.1) zero_runs; below = s.below }
 
-  pub first_numbers : (l : ℕ) (s : Nearest) → FirstSum p l s → NearNumbers s
-  unfolding FirstSum
-  first_numbers l s S = record { centre = S.centre.number; radius = S.radius.number; below = S.below }
+  -- ---- after one pair more
+  module _ (l size v : ℕ) (s : Nearest) (P : Read p l size) (S : FirstSum p l s) (d : held v ≡ raised_of (factor_of p.k) (value_of (b_mid p l)) (value_of (b_rad p l))) where
+    centre_next : (r : Number) → Holds (bind (with₂ (mul near) (a_mid p l) (b_mid p l)) λ t. near binary32 1 (worth s.centre +ℤ t)) r → Holds (middles p near (l + 1)) r
+    unfolding FirstSum middles
+    centre_next r =
+        any_more _ (pos 0) (near binary32 1) l s.centre r (with₂ (mul near) (a_mid p l) (b_mid p l)) S.centre (mid_is (a_mid p l) (a_rad p l) (b_mid p l) (b_rad p l) near P.cell_first.mid P.cell_second.mid)
 
-  pub first_next : (l size v : ℕ) (s r : Nearest) → Read p l size → FirstSum p l s → held v ≡ raised_of (factor_of p.k) (value_of (b_mid p l)) (value_of (b_rad p l))
-      → NearAdded s (a_mid p l) (b_mid p l) (a_mid p l) v r → FirstNext l r
-  unfolding FirstSum FirstNext middles raiseds
-  first_next l size v s r P S d A =
-      let mid = mid_is (a_mid p l) (a_rad p l) (b_mid p l) (b_rad p l) near P.cell_first.mid P.cell_second.mid in
-      let rad = raised_is (a_mid p l) (a_rad p l) (b_mid p l) (b_rad p l) p.k v P.cell_first.mid P.cell_second.nonneg d in
-      record {
-        centre = any_more _ (pos 0) (near binary32 1) l s.centre r.centre (with₂ (mul near) (a_mid p l) (b_mid p l)) S.centre mid A.centre;
-        radius = up_more _ (pos 0) l s.radius r.radius _ S.radius rad A.radius;
-        below = grown_below s.radius (a_mid p l) v r.radius S.below A.radius;
-      }
+    radius_next : (r : Number) → Holds (plus_down (worth s.radius) (growth (a_mid p l) v)) r → Holds (negate (raiseds p (l + 1))) r
+    unfolding FirstSum raiseds
+    radius_next r = up_more _ (pos 0) l s.radius r _ S.radius (raised_is (a_mid p l) (a_rad p l) (b_mid p l) (b_rad p l) p.k v P.cell_first.mid P.cell_second.nonneg d)
 
-  pub first_more : (l : ℕ) (r : Nearest) → FirstNext l r → refused_nearest r ≡ false → FirstSum p (l + 1) r
-  unfolding FirstSum FirstNext
-  first_more l r H t = near_runs _ _ r H t
+    pub first_more : (r : Nearest) → NearAdded s (a_mid p l) (b_mid p l) (a_mid p l) v (Some r) → FirstSum p (l + 1) r
+    unfolding FirstSum
+    first_more r A =
+        record { centre = number_runs r.centre_number (centre_next r.centre (runs_holds A.0)); radius = number_runs r.radius_number (radius_next r.radius (runs_holds A.1)); below = r.below }
+
+    pub first_none : NearAdded s (a_mid p l) (b_mid p l) (a_mid p l) v None → l < p.k → FirstNone
+    unfolding FirstNone middles raiseds
+    first_none (inl e) h = inl (sum_stays (near binary32 1) _ (pos 0) l p.k h (holds_none _ no_number (centre_next no_number (no_holds e)) refl))
+    first_none (inr e) h = inr (sum_stays (up binary32 1) _ (pos 0) l p.k h (negate_none _ (holds_none _ no_number (radius_next no_number (no_holds e)) refl)))
 
   -- a pair that is passed over adds nothing
   pub first_skip : (l v : ℕ) (s : Nearest) → FirstSum p l s → held v ≡ raised_of (factor_of p.k) (value_of (b_mid p l)) (value_of (b_rad p l)) → adds_of (a_mid p l) v ≡ false → FirstSum p (l + 1) s
@@ -82,14 +80,6 @@ module _ (p : Spot) where
         radius = up_same _ (pos 0) l (raised_zero (left p l) (right p l) p.k v m z.1 d) s.radius S.radius;
         below = S.below;
       }
-
-  pub first_none : (l : ℕ) (r : Nearest) → FirstNext l r → l < p.k → refused_nearest r ≡ true → FirstNone
-  unfolding FirstNext FirstNone middles raiseds
-  first_none l r H h t = go (near_none _ _ r H t)
-    where
-      go : (middles p near (l + 1) ≡ none) ⊎ (raiseds p (l + 1) ≡ none) → FirstNone
-      go (inl e) = inl (sum_stays (near binary32 1) _ (pos 0) l p.k h e)
-      go (inr e) = inr (sum_stays (up binary32 1) _ (pos 0) l p.k h e)
 
   -- ---- the radius with 2^-125 more
   unfoldable pub TinyNext : Number → Type 0
@@ -143,6 +133,12 @@ module _ (p : Spot) where
         go : FirstNone → OneNone middle middle radius
         go (inl e) = inl e
         go (inr e) = inr (inr (ap (λ m. continued (tinied m)) e))
+
+    -- the sums after a pair more, or no entry
+    pub three_goes : (l size v : ℕ) (s : Nearest) (P : Read p l size) → FirstSum p l s → held v ≡ raised_of (factor_of p.k) (value_of (b_mid p l)) (value_of (b_rad p l)) → l < p.k
+        → (r : Maybe Nearest) → NearAdded s (a_mid p l) (b_mid p l) (a_mid p l) v r → Going (FirstSum p (l + 1)) (entry_by p three c) r
+    three_goes l size v s P S d h (Some r) A = first_more l size v s P S d r A
+    three_goes l size v s P S d h None A = three_first (first_none l size v s P S d A h)
 
     pub three_tiny : TinyNone → entry_by p three c ≡ none
     unfolding TinyNone bind

@@ -1,5 +1,5 @@
 -- The running sums of method 5's centre: C and G. Definitions only, for the contracts of private functions.
-use Rattle.std.specs.Prelude.{◌≡◌, Bool, true, false, cond, ◌⊎◌, List, ℕ, ◌+◌, ◌*◌, ◌≤◌, ◌<◌, ltb, length, get_or, ℤ, pos, neg_ℤ, ◌+ℤ◌, ◌*ℤ◌, ◌-ℤ◌}
+use Rattle.std.specs.Prelude.{◌≡◌, ◌⊎◌, Option as Maybe, Some, None, List, ℕ, ◌+◌, ◌*◌, ◌≤◌, ◌<◌, length, get_or, ℤ, pos, neg_ℤ, ◌+ℤ◌, ◌*ℤ◌, ◌-ℤ◌}
 use Rattle.std.proofs.Math.Option.{Option, none, bind}
 use Rattle.algebra.specs.Absolute.{abs}
 use Rattle.rounding.specs.Format.{binary32}
@@ -23,19 +23,14 @@ plus_near v t = bind t λ u. near binary32 1 (v +ℤ u)
 abbrev pub minus_size : ℤ → ℤ → Option ℤ
 minus_size x y = negate (mul near (abs x) (abs y))
 
--- both are numbers; G is kept negated, so `size` is not above zero
-pub record SizedNumbers (s : CentreSize) : Type 0 where
-  pub centre : IsNumber s.centre
-  pub size : IsNumber s.size
-  pub below : Below s.size
+-- r has these two as its sums as they are kept, G negated; it is none where one of them is
+abbrev pub Sized : (c g : Option ℤ) → Maybe CentreSize → Type 0
+Sized c g None = (c ≡ none) ⊎ (g ≡ none)
+Sized c g (Some r) = Runs c r.centre × Runs g r.size
 
 -- r is s with x × y added to C and |x| × |y| to G
-pub record SizedStep (s : CentreSize) (x y : ℤ) (r : CentreSize) : Type 0 where
-  pub centre : Holds (plus_near (worth s.centre) (mul near x y)) r.centre
-  pub size : Holds (plus_near (worth s.size) (minus_size x y)) r.size
-
-abbrev pub refused_sized : CentreSize → Bool
-refused_sized s = cond (ltb 653 s.centre.exp) true (ltb 653 s.size.exp)
+abbrev pub SizedStep : (s : CentreSize) (x y : ℤ) → Maybe CentreSize → Type 0
+SizedStep s x y = Sized (plus_near (worth s.centre) (mul near x y)) (plus_near (worth s.size) (minus_size x y))
 
 -- ---- sums over the pairs of a row, unpacked into words, and of column j of patterns with n columns
 pub record Pairs : Type 0 where
@@ -76,10 +71,10 @@ module _ (p : Pairs) where
   abbrev pub SizedNone : CentreSize → ℕ → Type 0
   SizedNone s l = (centre_from (worth s.centre) l ≡ none) ⊎ (size_from (neg_ℤ (worth s.size)) l ≡ none)
 
-  -- r is s after all k pairs, or it is refused and one of the sums is none
-  pub record SizedAll (s r : CentreSize) : Type 0 where
-    pub numbers : refused_sized r ≡ false → SizedSum s p.k r
-    pub refused : refused_sized r ≡ true → SizedNone s p.k
+  -- r is s after all k pairs, or none, where one of the sums is none
+  abbrev pub SizedAll : CentreSize → Maybe CentreSize → Type 0
+  SizedAll s None = SizedNone s p.k
+  SizedAll s (Some r) = SizedSum s p.k r
 
 -- ---- the entry
 

@@ -56,20 +56,14 @@ Added s x y t = Stepped (plus_down (worth s.lower) (with₂ (mul down) x y)) (pl
 
 -- ---- method 3: one centre, to nearest, and a radius
 
-abbrev pub zero_nearest : Nearest
-zero_nearest = record { centre = zero_number; radius = zero_number }
+-- r has these two as its sums as they are kept; it is none where one of them is
+abbrev pub NearStepped : (mid rad : Option ℤ) → Maybe Nearest → Type 0
+NearStepped mid rad None = (mid ≡ none) ⊎ (rad ≡ none)
+NearStepped mid rad (Some r) = Runs mid r.centre × Runs rad r.radius
 
-pub record NearNumbers (s : Nearest) : Type 0 where
-  pub centre : IsNumber s.centre
-  pub radius : IsNumber s.radius
-  pub below : Below s.radius
-
-pub record NearAdded (s : Nearest) (x y u v : ℕ) (r : Nearest) : Type 0 where
-  pub centre : Holds (bind (with₂ (mul near) x y) λ t. near binary32 1 (worth s.centre +ℤ t)) r.centre
-  pub radius : Grown s.radius u v r.radius
-
-abbrev pub refused_nearest : Nearest → Bool
-refused_nearest s = cond (ltb 653 s.centre.exp) true (ltb 653 s.radius.exp)
+-- r is s with x × y added to the centre and |u| × |v| to the radius
+abbrev pub NearAdded : (s : Nearest) (x y u v : ℕ) → Maybe Nearest → Type 0
+NearAdded s x y u v = NearStepped (bind (with₂ (mul near) x y) λ t. near binary32 1 (worth s.centre +ℤ t)) (plus_down (worth s.radius) (growth u v))
 
 pub record NearestSum (mid rad : Option ℤ) (s : Nearest) : Type 0 where
   pub centre : Runs mid s.centre

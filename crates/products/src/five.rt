@@ -10,7 +10,7 @@ ghost use Rattle.products.specs.Line.{line_of};
 ghost use Rattle.products.specs.MidRad.{Fits, entries_of};
 ghost use Rattle.products.specs.Row.{RowUnpacked};
 
-use crate::centre_size::{CentreSize, sum_pairs};
+use crate::centre_size::CentreSize;
 use crate::entries::{Shape, Steps};
 use crate::error::twice_error;
 use crate::number::opposite;
@@ -28,7 +28,7 @@ fn radius(size: Number, line: Line) -> Number
     requires { IsNumber size × Below size × (line.k ≤ 32) }
     ensures { Holds (negate (radius_for (line_of line.entry) (neg_ℤ (worth size)))) result }
 {
-    let less = plus::<Down>(opposite(size), outer(zero(), line));
+    let less = plus::<Down>(opposite(size), outer::<5>(zero(), line));
     plus::<Down>(twice_error(size, line.k), less)
 }
 
@@ -95,10 +95,6 @@ impl<'a> Steps for Five<'a> {
 
     fn finish(self, row: &Words, _s: (), i: usize, j: usize) -> Option<Sums> {
         let Shape { k, n, .. } = self.of.shape;
-        let none = CentreSize {
-            centre: zero(),
-            size: zero(),
-        };
         let mids = Pairs {
             k,
             n,
@@ -106,10 +102,7 @@ impl<'a> Steps for Five<'a> {
             row: &row.mids,
             column: self.of.mb,
         };
-        let s = sum_pairs(none, mids);
-        if s.refused() {
-            return None;
-        }
+        let s = CentreSize::new().sum_pairs::<1>(mids)?;
         let parts = Pairs {
             k,
             n,
@@ -117,10 +110,7 @@ impl<'a> Steps for Five<'a> {
             row: &row.parts,
             column: self.pb,
         };
-        let t = sum_pairs(s, parts);
-        if t.refused() {
-            return None;
-        }
+        let t = s.sum_pairs::<2>(parts)?;
         let line = Line {
             k,
             n,
@@ -133,6 +123,6 @@ impl<'a> Steps for Five<'a> {
         if is_none(r) {
             return None;
         }
-        Sums::ends(t.centre, opposite(t.centre), r)
+        Sums::ends::<5>(t.centre, opposite(t.centre), r)
     }
 }

@@ -63,10 +63,10 @@ impl<'a> Steps for Four<'a> {
             row: self.of.ra,
             column: self.wb,
         };
-        let radius = outer(s.radius, line);
+        let radius = outer::<4>(s.radius, line);
         if is_none(radius) {
             return None;
         }
-        Sums::ends(s.lower, s.opposed, radius)
+        Sums::ends::<4>(s.lower, s.opposed, radius)
     }
 }

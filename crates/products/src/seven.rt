@@ -85,7 +85,7 @@ impl<'a> Steps for Seven<'a> {
             row: self.of.ra,
             column: self.wb,
         };
-        let radius = outer(s.radius, wide);
+        let radius = outer::<7>(s.radius, wide);
         if is_none(radius) {
             return None;
         }
@@ -103,6 +103,6 @@ impl<'a> Steps for Seven<'a> {
             radius,
         };
         let t = parts(sums, cut)?;
-        Sums::ends(t.lower, t.opposed, t.radius)
+        Sums::ends::<7>(t.lower, t.opposed, t.radius)
     }
 }

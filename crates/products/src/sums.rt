@@ -90,8 +90,8 @@ impl Sums {
     }
 
     // The bounds of an entry by methods 3, 4, 5 and 7: lower centre - radius, rounded down, and upper centre + radius, rounded up.
-    // `opposed` is the negated upper centre, and `radius` the negated radius.
-    pub fn ends(lower: Number, opposed: Number, radius: Number) -> Option<Sums>
+    // `opposed` is the negated upper centre, and `radius` the negated radius. METHOD changes nothing, as USE above.
+    pub fn ends<const METHOD: u32>(lower: Number, opposed: Number, radius: Number) -> Option<Sums>
         requires { IsNumber lower × IsNumber opposed × IsNumber radius }
         ensures { Ended lower opposed radius result }
     {

@@ -62,11 +62,7 @@ impl<'a> Steps for Three<'a> {
         if !adds(x, v) {
             return Some(s);
         }
-        let t = s.step(x, self.of.mb[b], v);
-        if t.refused() {
-            return None;
-        }
-        Some(t)
+        s.step(x, self.of.mb[b], v)
     }
 
     // The radius gets 2^-125 between its two sums.
@@ -84,10 +80,10 @@ impl<'a> Steps for Three<'a> {
             row: self.of.ra,
             column: self.wb,
         };
-        let radius = outer(inner, line);
+        let radius = outer::<3>(inner, line);
         if is_none(radius) {
             return None;
         }
-        Sums::ends(s.centre, opposite(s.centre), radius)
+        Sums::ends::<3>(s.centre, opposite(s.centre), radius)
     }
 }

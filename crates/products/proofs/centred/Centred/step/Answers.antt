@@ -6,7 +6,7 @@ use Rattle.unpacked.proofs.Opposites.{absolute_unpacked}
 use Rattle.unpacked.proofs.Multiplying.{exactly_of}
 use Rattle.unpacked.proofs.RoundedProducts.{exactly_formed, down_exactly, up_exactly}
 use Rattle.products.proofs.Radii.{by_sizes, term_below}
-use Rattle.products.proofs.CentredSteps.{held_fits}
+use Rattle.products.proofs.Carrying.{held_fits}
 use Rattle.products.proofs.centred.Centred.step.Goals as goal
 
 pub rounded_up-requires : goal.rounded_up-requires

@@ -4,7 +4,7 @@ use Rattle.binary32.specs.Operations.{mul, with₂}
 use Rattle.unpacked.proofs.Multiplying.{exactly_of}
 use Rattle.unpacked.proofs.RoundedProducts.{exactly_formed, down_exactly, up_exactly}
 use Rattle.products.proofs.Continuing.{size_exactly}
-use Rattle.products.proofs.CentredSteps.{held_fits}
+use Rattle.products.proofs.Carrying.{held_fits}
 use Rattle.products.proofs.centred.Centred.step_parts.Goals as goal
 
 pub rounded-below-requires : goal.rounded-below-requires

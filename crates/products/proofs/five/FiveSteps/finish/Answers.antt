@@ -1,13 +1,15 @@
 -- `Five::finish` meets its contract: the sums over midpoints, then over parts, the radius, and the bounds that they end in.
 use mathlib.Core.Path.{◌≡◌, refl, sym, ap, ◌∙◌, subst}
 use mathlib.Core.List.{List}
-use Prim.Native.Nat.{ℕ, ◌*◌, ◌<◌}
+use Prim.Native.Nat.{ℕ, ◌+◌, ◌*◌, ◌<◌}
+use Rattle.enclosure.specs.Methods.{five}
+use Rattle.products.specs.Running.{HoldsRange}
 use lib.IntN.{pos}
 use Rattle.unpacked.specs.declared.Number.{Number}
 use Rattle.unpacked.specs.Number.{worth, IsNumber, Below, zero_number}
 use Rattle.products.specs.declared.centre_size.CentreSize.{CentreSize}
 use Rattle.products.specs.Derived.{Derived, outer_of, part_of}
-use Rattle.products.specs.MidRad.{Sized}
+use Rattle.products.specs.MidRad.{Sized, entries_of}
 use Rattle.products.specs.Row.{RowUnpacked}
 use Rattle.products.specs.Spot.{Spot, spot}
 use Rattle.products.proofs.Carrying.{zero_runs, zero_below}
@@ -34,10 +36,6 @@ prepared p q m z row column r = record {
   part_row = r.1;
 }
 
--- the sums that it starts from
-abbrev start : (centre size : Number) → CentreSize
-start centre size = record { centre = centre; size = size }
-
 zero_worth : {x : Number} → x ≡ zero_number → worth x ≡ pos 0
 unfolding worth
 zero_worth e = ap worth e
@@ -48,19 +46,16 @@ invariant_of-mids c =
     let q = lists c.args.row.now.mids c.args.row.now.parts c.args.self.wa.now c.args.self.pa.now c.args.self.wb.now c.args.self.pb.now in
     record { paired = mids_paired p q (prepared p q c.args.self.of.shape.m c.requires.0 c.requires.1 c.requires.2 c.requires.3) }
 
-pub sum_pairs-s-requires : goal.sum_pairs-s-requires
-sum_pairs-s-requires c =
-    record { centre = subst IsNumber (sym c.zero.ensures) zero_runs.number; size = subst IsNumber (sym c.zero-2.ensures) zero_runs.number; below = subst Below (sym c.zero-2.ensures) zero_below }
-
-pub returns-then-refused : goal.returns-then-refused
-returns-then-refused c =
+pub returns-in_err-s : goal.returns-in_err-s
+returns-in_err-s c =
     let p = spot c.args.self.of c.args.i c.args.j in
     let q = lists c.args.row.now.mids c.args.row.now.parts c.args.self.wa.now c.args.self.pa.now c.args.self.wb.now c.args.self.pb.now in
     let W = prepared p q c.args.self.of.shape.m c.requires.0 c.requires.1 c.requires.2 c.requires.3 in
-    let z = start c.zero.result c.zero-2.result in
-    let zc = zero_worth c.zero.ensures in
-    let zs = zero_worth c.zero-2.ensures in
-    five_none p q W _ refl (first_none (mids p q) (parts p q) (outers p q) z zc zs (c.sum_pairs-s.ensures.refused (sym c.refused.ensures ∙ c.if-refused.true)))
+    let z = c.new.result in
+    let zc = zero_worth c.new.ensures.0 in
+    let zs = zero_worth c.new.ensures.1 in
+    subst (HoldsRange (entries_of five c.args.self.of (c.args.i * c.args.self.of.shape.n + c.args.j))) (sym c.from_residual.ensures)
+    (five_none p q W _ refl (first_none (mids p q) (parts p q) (outers p q) z zc zs c.in_err-s.ensures))
 
 pub invariant_of-parts : goal.invariant_of-parts
 invariant_of-parts c =
@@ -68,48 +63,38 @@ invariant_of-parts c =
     let q = lists c.args.row.now.mids c.args.row.now.parts c.args.self.wa.now c.args.self.pa.now c.args.self.wb.now c.args.self.pb.now in
     record { paired = parts_paired p q (prepared p q c.args.self.of.shape.m c.requires.0 c.requires.1 c.requires.2 c.requires.3) }
 
-pub sum_pairs-t-requires : goal.sum_pairs-t-requires
-sum_pairs-t-requires c =
-    let S = c.sum_pairs-s.ensures.numbers (sym c.refused.ensures ∙ c.if-refused.false) in
-    record { centre = S.centre.number; size = S.size.number; below = S.below }
-
-pub returns-then-refused-2 : goal.returns-then-refused-2
-returns-then-refused-2 c =
+pub returns-in_err-t : goal.returns-in_err-t
+returns-in_err-t c =
     let p = spot c.args.self.of c.args.i c.args.j in
     let q = lists c.args.row.now.mids c.args.row.now.parts c.args.self.wa.now c.args.self.pa.now c.args.self.wb.now c.args.self.pb.now in
     let W = prepared p q c.args.self.of.shape.m c.requires.0 c.requires.1 c.requires.2 c.requires.3 in
-    let z = start c.zero.result c.zero-2.result in
-    let zc = zero_worth c.zero.ensures in
-    let zs = zero_worth c.zero-2.ensures in
-    let S = c.sum_pairs-s.ensures.numbers (sym c.refused.ensures ∙ c.if-refused.false) in
-    five_none p q W _ refl (second_none (mids p q) (parts p q) (outers p q) z zc zs c.sum_pairs-s.result S (c.sum_pairs-t.ensures.refused (sym c.refused-2.ensures ∙ c.if-refused-2.true)))
+    let z = c.new.result in
+    let zc = zero_worth c.new.ensures.0 in
+    let zs = zero_worth c.new.ensures.1 in
+    subst (HoldsRange (entries_of five c.args.self.of (c.args.i * c.args.self.of.shape.n + c.args.j))) (sym c.from_residual-in_err-t.ensures)
+    (five_none p q W _ refl (second_none (mids p q) (parts p q) (outers p q) z zc zs c.in_ok-s.s c.in_ok-s.ensures c.in_err-t.ensures))
 
 pub radius-r-requires : goal.radius-r-requires
 radius-r-requires c =
-    let T = c.sum_pairs-t.ensures.numbers (sym c.refused-2.ensures ∙ c.if-refused-2.false) in
-    (T.size.number, T.below, c.requires.0.0.inner)
+    (c.in_ok-t.t.size_number, c.in_ok-t.t.below, c.requires.0.0.inner)
 
 pub returns-then-is_none : goal.returns-then-is_none
 returns-then-is_none c =
     let p = spot c.args.self.of c.args.i c.args.j in
     let q = lists c.args.row.now.mids c.args.row.now.parts c.args.self.wa.now c.args.self.pa.now c.args.self.wb.now c.args.self.pb.now in
     let W = prepared p q c.args.self.of.shape.m c.requires.0 c.requires.1 c.requires.2 c.requires.3 in
-    let z = start c.zero.result c.zero-2.result in
-    let zc = zero_worth c.zero.ensures in
-    let zs = zero_worth c.zero-2.ensures in
-    let S = c.sum_pairs-s.ensures.numbers (sym c.refused.ensures ∙ c.if-refused.false) in
-    let T = c.sum_pairs-t.ensures.numbers (sym c.refused-2.ensures ∙ c.if-refused-2.false) in
-    five_none p q W _ refl (radius_none (mids p q) (parts p q) (outers p q) z zc zs c.sum_pairs-s.result S c.sum_pairs-t.result T c.radius-r.result c.radius-r.ensures (sym c.is_none.ensures ∙ c.if-is_none.true))
+    let z = c.new.result in
+    let zc = zero_worth c.new.ensures.0 in
+    let zs = zero_worth c.new.ensures.1 in
+    five_none p q W _ refl (radius_none (mids p q) (parts p q) (outers p q) z zc zs c.in_ok-s.s c.in_ok-s.ensures c.in_ok-t.t c.in_ok-t.ensures c.radius-r.result c.radius-r.ensures (sym c.is_none.ensures ∙ c.if-is_none.true))
 
 pub returns : goal.returns
 returns c =
     let p = spot c.args.self.of c.args.i c.args.j in
     let q = lists c.args.row.now.mids c.args.row.now.parts c.args.self.wa.now c.args.self.pa.now c.args.self.wb.now c.args.self.pb.now in
     let W = prepared p q c.args.self.of.shape.m c.requires.0 c.requires.1 c.requires.2 c.requires.3 in
-    let z = start c.zero.result c.zero-2.result in
-    let zc = zero_worth c.zero.ensures in
-    let zs = zero_worth c.zero-2.ensures in
-    let S = c.sum_pairs-s.ensures.numbers (sym c.refused.ensures ∙ c.if-refused.false) in
-    let T = c.sum_pairs-t.ensures.numbers (sym c.refused-2.ensures ∙ c.if-refused-2.false) in
+    let z = c.new.result in
+    let zc = zero_worth c.new.ensures.0 in
+    let zs = zero_worth c.new.ensures.1 in
     five_holds p q W _ refl c.ends.result
-    (range_holds (mids p q) (parts p q) (outers p q) z zc zs c.sum_pairs-s.result S c.sum_pairs-t.result T c.radius-r.result c.radius-r.ensures c.opposite.result c.ends.result (sym c.is_none.ensures ∙ c.if-is_none.false) c.opposite.ensures c.ends.ensures)
+    (range_holds (mids p q) (parts p q) (outers p q) z zc zs c.in_ok-s.s c.in_ok-s.ensures c.in_ok-t.t c.in_ok-t.ensures c.radius-r.result c.radius-r.ensures c.opposite.result c.ends.result (sym c.is_none.ensures ∙ c.if-is_none.false) c.opposite.ensures c.ends.ensures)

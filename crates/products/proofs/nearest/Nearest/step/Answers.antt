@@ -12,7 +12,8 @@ use Rattle.unpacked.specs.Exact.{ProductIs, RoundedUp}
 use Rattle.unpacked.proofs.Opposites.{absolute_unpacked}
 use Rattle.unpacked.proofs.Multiplying.{exactly_of}
 use Rattle.unpacked.proofs.RoundedProducts.{exactly_formed, near_exactly, up_exactly}
-use Rattle.products.proofs.Radii.{by_sizes, term_below}
+use Rattle.products.proofs.Radii.{by_sizes, grown_below, term_below}
+use Rattle.products.proofs.Carrying.{held_fits}
 use Rattle.products.proofs.nearest.Nearest.step.Goals as goal
 
 -- what the radius gets
@@ -30,7 +31,7 @@ absolute-requires c = c.unpack-f.ensures.part.normal
 pub times-q-requires : goal.times-q-requires
 times-q-requires c =
     record {
-      first = (absolute_unpacked c.args.x c.unpack-f.result c.absolute.result c.requires.1 c.unpack-f.ensures c.absolute.ensures).part;
+      first = (absolute_unpacked c.args.x c.unpack-f.result c.absolute.result c.requires c.unpack-f.ensures c.absolute.ensures).part;
       second = c.unpack-2.ensures.part;
     }
 
@@ -38,24 +39,34 @@ pub rounded-requires : goal.rounded-requires
 rounded-requires c =
     exactly_formed (exactly_of c.args.x c.args.y c.unpack-f.result c.unpack.result c.times-p.result c.unpack-f.ensures c.unpack.ensures c.times-p.ensures)
 
-pub plus-requires : goal.plus-requires
-plus-requires c =
+pub plus-centre-requires : goal.plus-centre-requires
+plus-centre-requires c =
     let first = exactly_of c.args.x c.args.y c.unpack-f.result c.unpack.result c.times-p.result c.unpack-f.ensures c.unpack.ensures c.times-p.ensures in
-    (c.requires.0.centre, (near_exactly first c.rounded.ensures).part)
+    (c.args.self.centre_number, (near_exactly first c.rounded.ensures).part)
 
 pub rounded_up-requires : goal.rounded_up-requires
 rounded_up-requires c =
-    let size = absolute_unpacked c.args.x c.unpack-f.result c.absolute.result c.requires.1 c.unpack-f.ensures c.absolute.ensures in
+    let size = absolute_unpacked c.args.x c.unpack-f.result c.absolute.result c.requires c.unpack-f.ensures c.absolute.ensures in
     exactly_formed (exactly_of (magnitude_of c.args.x) _ c.absolute.result c.unpack-2.result c.times-q.result size c.unpack-2.ensures c.times-q.ensures)
 
-pub plus_negative-requires : goal.plus_negative-requires
-plus_negative-requires c =
+pub plus_negative-radius-requires : goal.plus_negative-radius-requires
+plus_negative-radius-requires c =
     let a = c.args in
-    let p = c.requires.0 in
     let g =
     grows a.x a.v c.magnitude-w.result c.unpack-f.result c.absolute.result c.unpack-2.result c.rounded_up.result c.times-q.result
-    c.requires.1 c.unpack-f.ensures c.absolute.ensures c.magnitude-w.ensures c.unpack-2.ensures c.times-q.ensures c.rounded_up.ensures in
-    (p.radius, g.part, p.below, term_below _ _ c.rounded_up.result g)
+    c.requires c.unpack-f.ensures c.absolute.ensures c.magnitude-w.ensures c.unpack-2.ensures c.times-q.ensures c.rounded_up.ensures in
+    (a.self.radius_number, g.part, a.self.below, term_below _ _ c.rounded_up.result g)
+
+pub whole-requires : goal.whole-requires
+whole-requires c =
+    let a = c.args in
+    let first = exactly_of a.x a.y c.unpack-f.result c.unpack.result c.times-p.result c.unpack-f.ensures c.unpack.ensures c.times-p.ensures in
+    let g =
+    grows a.x a.v c.magnitude-w.result c.unpack-f.result c.absolute.result c.unpack-2.result c.rounded_up.result c.times-q.result
+    c.requires c.unpack-f.ensures c.absolute.ensures c.magnitude-w.ensures c.unpack-2.ensures c.times-q.ensures c.rounded_up.ensures in
+    let m = c.plus-centre.ensures (with₂ (mul near) a.x a.y) (near_exactly first c.rounded.ensures) in
+    let r = c.plus_negative-radius.ensures _ g in
+    (held_fits m, held_fits r, grown_below a.self.radius a.x a.v c.plus_negative-radius.result a.self.below r)
 
 pub returns : goal.returns
 returns c =
@@ -63,8 +74,7 @@ returns c =
     let first = exactly_of a.x a.y c.unpack-f.result c.unpack.result c.times-p.result c.unpack-f.ensures c.unpack.ensures c.times-p.ensures in
     let g =
     grows a.x a.v c.magnitude-w.result c.unpack-f.result c.absolute.result c.unpack-2.result c.rounded_up.result c.times-q.result
-    c.requires.1 c.unpack-f.ensures c.absolute.ensures c.magnitude-w.ensures c.unpack-2.ensures c.times-q.ensures c.rounded_up.ensures in
-    record {
-      centre = c.plus.ensures (with₂ (mul near) a.x a.y) (near_exactly first c.rounded.ensures);
-      radius = c.plus_negative.ensures _ g;
-    }
+    c.requires c.unpack-f.ensures c.absolute.ensures c.magnitude-w.ensures c.unpack-2.ensures c.times-q.ensures c.rounded_up.ensures in
+    let m = c.plus-centre.ensures (with₂ (mul near) a.x a.y) (near_exactly first c.rounded.ensures) in
+    let r = c.plus_negative-radius.ensures _ g in
+    c.whole.ensures _ _ m r

@@ -1,7 +1,7 @@
 -- `products::sums::Sums::step` meets its contract: the least and the greatest corner product, each rounded and added to its sum (PairStep).
 use Rattle.unpacked.proofs.RoundedProducts.{exact_formed}
 use Rattle.products.proofs.ClassicalSums.{pair_holds}
-use Rattle.products.proofs.CentredSteps.{held_fits}
+use Rattle.products.proofs.Carrying.{held_fits}
 use Rattle.products.proofs.PairStep as step
 use Rattle.products.proofs.PairStep.{bounds_of}
 use Rattle.products.proofs.sums.Sums.step.Goals as goal

@@ -4,15 +4,15 @@ use Rattle.unpacked.proofs.Opposites.{opposite_number}
 use Rattle.products.specs.Spot.{spot}
 use Rattle.products.proofs.FourEntry.{reaches}
 use Rattle.products.proofs.NearestSteps.{tiny_holds, tiny_below}
-use Rattle.products.proofs.ThreeSteps.{first_numbers, tiny_next, tiny_sum, tiny_number, tiny_none, three_tiny, three_outer, three_holds}
+use Rattle.products.proofs.ThreeSteps.{tiny_next, tiny_sum, tiny_number, tiny_none, three_tiny, three_outer, three_holds}
 use Rattle.products.proofs.Turns.{pair, radius_runs, radius_none}
 use Rattle.products.proofs.three.ThreeSteps.finish.Goals as goal
 
 pub plus_negative-inner-requires : goal.plus_negative-inner-requires
 plus_negative-inner-requires c =
-    let n = first_numbers (spot c.args.self.of c.args.i c.args.j) _ _ c.requires.4 in
+    let s = c.args.s in
     let t = c.minus_tiny in
-    (n.radius, (tiny_holds t.result t.ensures).part, n.below, tiny_below t.result t.ensures)
+    (s.radius_number, (tiny_holds t.result t.ensures).part, s.below, tiny_below t.result t.ensures)
 
 pub returns-then-is_none : goal.returns-then-is_none
 returns-then-is_none c =
@@ -36,12 +36,12 @@ returns-then-is_none-2 c =
     (radius_none c.args.self.of.shape.m p c.requires.0.0 c.requires.1 c.requires.2 _ c.requires.0.2 c.plus_negative-inner.result _ c.outer-radius.ensures (sym c.is_none-2.ensures ∙ c.if-is_none-2.true))
 
 pub opposite-requires : goal.opposite-requires
-opposite-requires c = (first_numbers (spot c.args.self.of c.args.i c.args.j) _ _ c.requires.4).centre.normal
+opposite-requires c = c.args.s.centre_number.normal
 
 pub ends-requires : goal.ends-requires
 ends-requires c =
     let p = spot c.args.self.of c.args.i c.args.j in
-    let f = (first_numbers p _ _ c.requires.4).centre in
+    let f = c.args.s.centre_number in
     let R = radius_runs c.args.self.of.shape.m p c.requires.0.0 c.requires.1 c.requires.2 _ c.requires.0.2 c.plus_negative-inner.result _ c.outer-radius.ensures (sym c.is_none-2.ensures ∙ c.if-is_none-2.false) in
     (f, opposite_number f c.opposite.ensures, R.number)
 
