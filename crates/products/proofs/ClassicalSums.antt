@@ -83,8 +83,19 @@ module _ (k n : ℕ) (A B : Matrix) (i j : ℕ) where
     pub after_zero : ZeroTerms (a l) (b l) → SumsAfter k n A B i j (l + 1) s
     after_zero z = next ∙ pair_zero s (a l) (b l) z
 
-    -- a step: the sums over one pair more, or none, and then there is no entry
-    pub after_step : (r : Maybe Sums) → HoldsRange (add_pair (of binary32) (bounds_of s) (a l) (b l)) r → l < k → Going (SumsAfter k n A B i j (l + 1)) (entry_of classical k n A B i j) r
-    unfolding sums_to entry_of
-    after_step None h m = sums_stay (of binary32) a b (l + 1) k (omega arith) (next ∙ h)
-    after_step (Some r) h m = next ∙ h
+    -- a step
+    module _ (r : Maybe Sums) (h : HoldsRange (add_pair (of binary32) (bounds_of s) (a l) (b l)) r) where
+      -- it holds the sums over one pair more, or the refusal that either gives
+      pub after_step : HoldsRange (sums_to k n A B i j (l + 1)) r
+      after_step = subst (λ m. HoldsRange m r) (sym next) h
+
+      -- which refuses the entry
+      pub entry_refused : l < k → r ≡ None → entry_of classical k n A B i j ≡ none
+      unfolding sums_to entry_of
+      entry_refused m e = sums_stay (of binary32) a b (l + 1) k (omega arith) (subst (HoldsRange (sums_to k n A B i j (l + 1))) e after_step)
+
+    -- both, as the loop asks for them
+    pub after_going : (r : Maybe Sums) → HoldsRange (add_pair (of binary32) (bounds_of s) (a l) (b l)) r → l < k
+        → Going (SumsAfter k n A B i j (l + 1)) (entry_of classical k n A B i j) r
+    after_going None h m = entry_refused None h m refl
+    after_going (Some r) h m = after_step (Some r) h

@@ -15,7 +15,7 @@ use Rattle.products.specs.Apart.{IsApart, Cells}
 use Rattle.products.specs.Classical.{SumsAfter, apart_cell, pattern_cell}
 use Rattle.products.specs.Running.{HoldsRange}
 use Rattle.products.specs.Written.{Sizes}
-use Rattle.products.proofs.ClassicalSums.{after_step, after_zero}
+use Rattle.products.proofs.ClassicalSums.{after_going, after_zero}
 use Rattle.products.proofs.Pairs.{Taken, fine_taken, fine_cells, step_cells, apart_zero, patterns_zero}
 use Rattle.products.proofs.classical.ClassicalSteps.step.Goals as goal
 
@@ -60,4 +60,4 @@ returns c =
     let B = of_bounds s.bl.now s.bu.now in
     let H = stepped c.requires.0 c.args._i c.args.j c.args.l c.requires.1 c.requires.3 _ (c.requires.4.1 c.args.l c.requires.3) _ _ c.step.ensures in
     subst (λ m. Going (SumsAfter s.shape.k s.shape.n A B c.args._i c.args.j (c.args.l + 1)) m c.step.result) (sym (position_entry classical s.shape.k s.shape.n c.args._i c.args.j _ refl c.requires.2 A B))
-    (after_step s.shape.k s.shape.n A B c.args._i c.args.j c.args.l c.args.s c.requires.5 c.step.result H c.requires.3)
+    (after_going s.shape.k s.shape.n A B c.args._i c.args.j c.args.l c.args.s c.requires.5 c.step.result H c.requires.3)
