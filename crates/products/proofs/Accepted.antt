@@ -43,32 +43,6 @@ module _ (g : Given) (ok : check_of g ≡ done) where
         b_fine = subst (AllFine g.B) (sym inner) known.b_fine;
       }
 
-  -- what the entries' function asks for by method 1
-  pub bounds_ready :
-      let n = g.a_rows * g.b_columns in
-      Sizes g.a_rows g.a_columns g.b_columns g.A g.B n n × (g.a_rows ≤ 32) × (g.b_columns ≤ 32) × (n ≤ g.lowers) × (n ≤ g.uppers)
-  bounds_ready =
-      let s = sizes in (
-        record {
-          rows = s.rows;
-          inner = s.inner;
-          columns = s.columns;
-          positive = s.positive;
-          a_lowers = s.a_lowers;
-          a_uppers = s.a_uppers;
-          b_lowers = s.b_lowers;
-          b_uppers = s.b_uppers;
-          lowers = omega arith;
-          uppers = omega arith;
-          a_fine = s.a_fine;
-          b_fine = s.b_fine;
-        },
-        s.rows,
-        s.columns,
-        s.lowers,
-        s.uppers,
-      )
-
   -- ---- methods 3, 4, 5 and 7
 
   -- what the two conversions ask for

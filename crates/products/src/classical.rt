@@ -6,11 +6,11 @@ ghost use Rattle.matrices.specs.Matrix.{of_bounds};
 ghost use Rattle.matrices.specs.Entries.{entry_at};
 ghost use Rattle.products.specs.Apart.{IsApart, zero_apart};
 ghost use Rattle.products.specs.Classical.{SumsAfter};
-ghost use Rattle.products.specs.Written.{Sizes};
+ghost use Rattle.products.specs.Written.{Sizes, Written};
 
 use crate::apart::Apart;
-use crate::entries::{Shape, Steps};
-use crate::sums::Sums;
+use crate::entries::{Shape, Steps, entries};
+use crate::sums::{Place, Sums};
 use binary32::Binary32;
 use refusals::sizes::LARGEST_SIZE;
 
@@ -93,4 +93,28 @@ impl<'a> Steps for Classical<'a> {
     fn finish(self, _row: &[Apart; LARGEST_SIZE], s: Sums, _i: usize, _j: usize) -> Option<Sums> {
         Some(s)
     }
+}
+
+// Writes the entries by rows until one is refused, and returns its row and column, or None.
+pub fn by_bounds(
+    shape: Shape,
+    al: &[u32],
+    au: &[u32],
+    bl: &[u32],
+    bu: &[u32],
+    lo: &mut [u32],
+    up: &mut [u32],
+) -> Option<Place>
+    requires { Sizes shape.m shape.k shape.n (of_bounds al.now au.now) (of_bounds bl.now bu.now) (length lo.old) (length up.old) }
+    ensures { Written (entry_at classical shape.k shape.n (of_bounds al.now au.now) (of_bounds bl.now bu.now))
+        shape.m shape.n lo.old up.old result lo.new up.new }
+{
+    let steps = Classical {
+        shape,
+        al,
+        au,
+        bl,
+        bu,
+    };
+    entries(steps, lo, up)
 }

@@ -7,9 +7,9 @@ ghost use Rattle.products.specs.Written.{InReach, Finished};
 ghost use Rattle.matrices.specs.Demand.{KeepsCalled};
 
 use cells::convert;
-use classical::Classical;
+use classical::by_bounds;
 use converted::converted;
-use entries::{Shape, entries};
+use entries::Shape;
 use intervals::matrix::LentMatrix;
 use intervals::slices::clear;
 use matrices::check_order::{Lent, check_all};
@@ -104,16 +104,7 @@ pub fn product(
         n: b.columns,
     };
     match by {
-        Method::Classical => {
-            let steps = Classical {
-                shape,
-                al: a.lowers,
-                au: a.uppers,
-                bl: b.lowers,
-                bu: b.uppers,
-            };
-            finish(entries(steps, lo, up), count, lo, up)
-        }
+        Method::Classical => finish(by_bounds(shape, a.lowers, a.uppers, b.lowers, b.uppers, lo, up), count, lo, up),
         _ => {
             convert(a.rows * a.columns, a.lowers, a.uppers, ma, ra);
             convert(b.rows * b.columns, b.lowers, b.uppers, mb, rb);

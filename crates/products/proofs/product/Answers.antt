@@ -4,7 +4,7 @@ use native.Mathlib.Omega.{arith}
 use borrow.Author.Rules.{rules}
 use Rattle.refusals.proofs.SizeLaws.{small}
 use Rattle.matrices.proofs.Keeping.{left_keeps}
-use Rattle.products.proofs.Accepted.{inner, sizes, bounds_ready, a_convertible, b_convertible, a_converted, b_converted, ready}
+use Rattle.products.proofs.Accepted.{inner, sizes, a_convertible, b_convertible, a_converted, b_converted, ready}
 use Rattle.matrices.proofs.MethodLaws.{classical_number, other_number, method_chosen}
 use Rattle.products.proofs.Chosen.{by_mid_rad}
 use Rattle.products.proofs.Leaving.{reached, left_refused, number_refused, left_classical, left_converted}
@@ -25,13 +25,13 @@ returns-in_err-check_all c =
 pub overflow_mul-count : goal.overflow_mul-count
 overflow_mul-count c = let f = sizes _ (sym c.check_all.ensures ∙ c.in_ok-check_all.was) in omega (arith, small _ _ f.rows f.columns)
 
-pub entries-requires : goal.entries-requires
-entries-requires c = bounds_ready _ (sym c.check_all.ensures ∙ c.in_ok-check_all.was)
+pub by_bounds-requires : goal.by_bounds-requires
+by_bounds-requires c = sizes _ (sym c.check_all.ensures ∙ c.in_ok-check_all.was)
 
 pub finish-requires : goal.finish-requires
 finish-requires c =
     let f = sizes _ (sym c.check_all.ensures ∙ c.in_ok-check_all.was) in
-    (omega (arith, f.lowers), omega (arith, f.uppers), reached c.entries.ensures f.rows f.positive f.columns)
+    (omega (arith, f.lowers), omega (arith, f.uppers), reached c.by_bounds.ensures f.rows f.positive f.columns)
 
 pub overflow_mul-a : goal.overflow_mul-a
 overflow_mul-a c = let f = sizes _ (sym c.check_all.ensures ∙ c.in_ok-check_all.was) in omega (arith, small _ _ f.rows f.inner)
@@ -69,7 +69,7 @@ returns-in-Classical c =
     let l =
     left_keeps
     (left_classical _ (sym c.check_all.ensures ∙ c.in_ok-check_all.was) a.ma.now a.ra.now a.mb.now a.rb.now _ _ _ _ _ _ _ _
-    e c.entries.ensures c.finish.ensures)
+    e c.by_bounds.ensures c.finish.ensures)
     in
     record { left = l.0; keeps = l.1 }
 
