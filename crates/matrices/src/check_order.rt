@@ -47,13 +47,14 @@ fn check_lent(a: usize, b: usize, c: usize, lent: Lent) -> Result<(), Refusal>
 
 // Refusals 3 and 4 for A's cells, then for B's.
 #[tactic(auto, unfolding(crate::specs::Checks::check_both))]
-fn check_both(a: LentMatrix, b: LentMatrix) -> Result<(), Refusal>
-    requires { Covered a.rows a.columns a.lowers.now a.uppers.now × Covered b.rows b.columns b.lowers.now b.uppers.now }
-    ensures { result ≡ check_both a.entry.rows a.entry.columns b.entry.rows b.entry.columns
-        (of_bounds a.entry.lowers.now a.entry.uppers.now) (of_bounds b.entry.lowers.now b.entry.uppers.now) }
+fn check_both(a: &LentMatrix, b: &LentMatrix) -> Result<(), Refusal>
+    requires { Covered a.now.rows a.now.columns a.now.lowers.now a.now.uppers.now
+        × Covered b.now.rows b.now.columns b.now.lowers.now b.now.uppers.now }
+    ensures { result ≡ check_both a.now.rows a.now.columns b.now.rows b.now.columns
+        (of_bounds a.now.lowers.now a.now.uppers.now) (of_bounds b.now.lowers.now b.now.uppers.now) }
 {
-    check_cells(1, a)?;
-    check_cells(2, b)
+    check_cells(1, *a)?;
+    check_cells(2, *b)
 }
 
 // All checks, in their order.
@@ -69,5 +70,5 @@ pub fn check_all(method: u32, a: LentMatrix, b: LentMatrix, lent: Lent) -> Resul
     let b_cells = b.rows * b.columns;
     check_operands(a_cells, b_cells, a, b)?;
     check_lent(a_cells, b_cells, a.rows * b.columns, lent)?;
-    check_both(a, b)
+    check_both(&a, &b)
 }
