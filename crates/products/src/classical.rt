@@ -12,6 +12,7 @@ use crate::apart::Apart;
 use crate::entries::{Shape, Steps, entries};
 use crate::sums::{Place, Sums};
 use binary32::Binary32;
+use intervals::matrix::LentMatrix;
 use refusals::sizes::LARGEST_SIZE;
 
 // Whether the cell [lo, hi] is not [0, 0], with zeros of either sign. The corner products of [0, 0] add nothing.
@@ -95,26 +96,25 @@ impl<'a> Steps for Classical<'a> {
     }
 }
 
-// Writes the entries by rows until one is refused, and returns its row and column, or None.
-pub fn by_bounds(
-    shape: Shape,
-    al: &[u32],
-    au: &[u32],
-    bl: &[u32],
-    bu: &[u32],
-    lo: &mut [u32],
-    up: &mut [u32],
-) -> Option<Place>
-    requires { Sizes shape.m shape.k shape.n (of_bounds al.now au.now) (of_bounds bl.now bu.now) (length lo.old) (length up.old) }
-    ensures { Written (entry_at classical shape.k shape.n (of_bounds al.now au.now) (of_bounds bl.now bu.now))
-        shape.m shape.n lo.old up.old result lo.new up.new }
+// Writes the entries by rows until one is refused, and returns its row and column, or None. Not inlined: its loops then have the registers to themselves.
+#[inline(never)]
+pub fn by_bounds(a: &LentMatrix, b: &LentMatrix, lo: &mut [u32], up: &mut [u32]) -> Option<Place>
+    requires { Sizes a.now.rows a.now.columns b.now.columns
+        (of_bounds a.now.lowers.now a.now.uppers.now) (of_bounds b.now.lowers.now b.now.uppers.now) (length lo.old) (length up.old) }
+    ensures { Written (entry_at classical a.now.columns b.now.columns
+        (of_bounds a.now.lowers.now a.now.uppers.now) (of_bounds b.now.lowers.now b.now.uppers.now))
+        a.now.rows b.now.columns lo.old up.old result lo.new up.new }
 {
     let steps = Classical {
-        shape,
-        al,
-        au,
-        bl,
-        bu,
+        shape: Shape {
+            m: a.rows,
+            k: a.columns,
+            n: b.columns,
+        },
+        al: a.lowers,
+        au: a.uppers,
+        bl: b.lowers,
+        bu: b.uppers,
     };
     entries(steps, lo, up)
 }

@@ -1,4 +1,5 @@
 // Methods 3, 4, 5 and 7, from midpoints and radii: values that depend on one cell are computed first (derived.rt), then the entries.
+// A method's function is not inlined: its loops then have the registers to themselves.
 ghost use Rattle.std.specs.Prelude.{◌≡◌, length};
 ghost use Rattle.enclosure.specs.Methods.{three, four, five, seven};
 ghost use Rattle.matrices.specs.declared.methods.Method.TheVariants.{Classical};
@@ -17,6 +18,7 @@ use matrices::methods::Method;
 use refusals::sizes::MOST_CELLS;
 
 // Method 3: vb has (c × |m|) + r and wb has |m| + r of B's cells.
+#[inline(never)]
 fn by_three(of: Operands, lo: &mut [u32], up: &mut [u32]) -> Option<Place>
     requires { Fits of (length lo.old) (length up.old) }
     ensures { EntriesOf three of.entry lo.old up.old result lo.new up.new }
@@ -36,6 +38,7 @@ fn by_three(of: Operands, lo: &mut [u32], up: &mut [u32]) -> Option<Place>
 }
 
 // Method 4: wb has |m| + r of B's cells.
+#[inline(never)]
 fn by_four(of: Operands, lo: &mut [u32], up: &mut [u32]) -> Option<Place>
     requires { Fits of (length lo.old) (length up.old) }
     ensures { EntriesOf four of.entry lo.old up.old result lo.new up.new }
@@ -71,6 +74,7 @@ fn by_five(of: Operands, lo: &mut [u32], up: &mut [u32]) -> Option<Place>
 }
 
 // Method 7: pa and pb have the parts of A's and B's cells, wb has |m| + r of B's.
+#[inline(never)]
 fn by_seven(of: Operands, lo: &mut [u32], up: &mut [u32]) -> Option<Place>
     requires { Fits of (length lo.old) (length up.old) }
     ensures { EntriesOf seven of.entry lo.old up.old result lo.new up.new }

@@ -98,18 +98,17 @@ pub fn product(
     };
     check_all(method, a, b, lent)?;
     let count = a.rows * b.columns;
-    let shape = Shape {
-        m: a.rows,
-        k: a.columns,
-        n: b.columns,
-    };
     match by {
-        Method::Classical => finish(by_bounds(shape, a.lowers, a.uppers, b.lowers, b.uppers, lo, up), count, lo, up),
+        Method::Classical => finish(by_bounds(&a, &b, lo, up), count, lo, up),
         _ => {
             convert(a.rows * a.columns, a.lowers, a.uppers, ma, ra);
             convert(b.rows * b.columns, b.lowers, b.uppers, mb, rb);
             let of = Operands {
-                shape,
+                shape: Shape {
+                    m: a.rows,
+                    k: a.columns,
+                    n: b.columns,
+                },
                 ma,
                 ra,
                 mb,
