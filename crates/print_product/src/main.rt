@@ -32,18 +32,18 @@ fn printed(input: &[u8], out: &mut [u8]) -> usize
     ensures left { out.new ≡ printed_of input.now ++ drop (length (printed_of input.now)) out.old }
 {
     let start = input.len().min(1);
-    sheets_text(usize::from(input::method(input)), &input[start..], out)
+    sheets_text(input::method(input), &input[start..], out)
 }
 
 // The same for a method and the bytes of both sheets, by the sheet job's reader and product.
-fn sheets_text(method: usize, s: &[u8], out: &mut [u8]) -> usize
+fn sheets_text(method: u8, s: &[u8], out: &mut [u8]) -> usize
     requires { (method < 10) × (24592 ≤ length out.old) }
-    ensures { Put 0 (sheets_text method s.now) out.old result out.new }
+    ensures { Put (sheets_text method s.now) out.old result out.new }
 {
     let mut lo = [0u32; MOST_CELLS];
     let mut up = [0u32; MOST_CELLS];
     let end = first_length(s);
-    match job::multiply_sheets(method as u32, &s[..end], &s[end..], &mut lo, &mut up) {
+    match job::multiply_sheets(u32::from(method), &s[..end], &s[end..], &mut lo, &mut up) {
         Ok(sizes) => lines::product_text(out, method, sizes.rows, sizes.columns, &lo, &up),
         Err(r) => lines::refused_line(out, r),
     }

@@ -12,7 +12,7 @@ cell_lines-requires c =
     let few = small a.rows a.columns (omega arith) (omega arith) in
     let wide : a.rows * a.columns ≤ 32 * a.columns = mul-le-mul_right a.columns (omega arith) in
     let long = product_length a.method a.rows a.columns (omega arith) (omega arith) (omega arith) in
-    (omega arith, omega arith, omega arith, omega arith, omega arith)
+    (omega arith, omega arith, omega arith, omega arith, omega (arith, c.product_line-n.ensures.size))
 
 pub returns : goal.returns
-returns c = put_more (omega arith) c.product_line-at.ensures c.cell_lines.ensures
+returns c = put_more c.product_line-n.ensures c.cell_lines.ensures
