@@ -7,8 +7,8 @@ use native.Mathlib.Nat.{pow-suc}
 use native.Mathlib.Omega.{arith}
 use lib.Dec.{ltb}
 use borrow.Author.Tests.{lt-ltb, le-ltb}
-use lib.ListN.{length, take, drop, set, length-append, take-append-drop}
-use lib.Seq.{drop-cons, lt-length-set, get_or-set_same, drop-set-lt, take-set-le}
+use lib.ListN.{length, drop, set, length-append}
+use lib.Seq.{drop-cons, lt-length-set, get_or-set_same, drop-set-lt}
 use Rattle.print_product.specs.Digits.{digit, digits, digit_count_to, digit_count, decimal, hexadecimal}
 use Rattle.print_product.specs.Put.{Put}
 
@@ -71,7 +71,7 @@ count_three n h k =
 pub count_four : (n : ℕ) → 1000 ≤ n → n < 10000 → 4 ≡ digit_count n
 count_four n h k =
     one_more 3 n (n - 1) n (omega arith) (omega arith) (one_more 2 (n - 1) (n - 2) (n / 10) (omega arith) (omega arith)
-      (one_more 1 (n - 2) (n - 3) (n / 10 / 10) (omega arith) (omega arith) (one_digit (n - 3) (n / 10 / 10 / 10) (omega arith))))
+    (one_more 1 (n - 2) (n - 3) (n / 10 / 10) (omega arith) (omega arith) (one_digit (n - 3) (n / 10 / 10 / 10) (omega arith))))
 
 pub digit_count_below : (k t n : ℕ) → n < 10 ^ suc k → digit_count_to t n ≤ suc k
 unfolding digit_count_to

@@ -1,6 +1,5 @@
 // The lines of the printed text, written to the start of a buffer. Each function returns how many bytes it wrote.
 ghost use Rattle.std.specs.Prelude.{◌+◌, ◌*◌, ◌≤◌, ◌<◌, length};
-ghost use Rattle.refusals.specs.Sizes.{most_cells};
 ghost use Rattle.print_product.specs.Lines.{product_line, cell_line, refused_line};
 ghost use Rattle.print_product.specs.Printed.{cell_lines, product_text};
 ghost use Rattle.print_product.specs.Put.{Put};
@@ -8,14 +7,30 @@ ghost use Rattle.print_product.specs.Put.{Put};
 use crate::put;
 use refusals::Refusal;
 use refusals::sizes::MOST_CELLS;
+use sheets::Sizes;
+
+// A product, and the method that it was made by. Its cells stand by rows in the front of the two arrays.
+#[derive(Clone, Copy)]
+pub struct Product<'a> {
+    pub method: u8,
+    pub sizes: Sizes,
+    pub lowers: &'a [u32; MOST_CELLS],
+    pub uppers: &'a [u32; MOST_CELLS],
+    ghost digit: { method < 10 },
+    ghost rows: { sizes.rows ≤ 32 },
+    ghost some_column: { 0 < sizes.columns },
+    ghost columns: { sizes.columns ≤ 32 },
+}
 
 // The line "product", method, rows, columns.
-fn product_line(out: &mut [u8], method: u8, rows: usize, columns: usize) -> usize
-    requires { (method < 10) × (rows < 100) × (columns < 100) × (16 ≤ length out.old) }
-    ensures { Put (product_line method rows columns) out.old result out.new }
+fn product_line(out: &mut [u8], product: &Product) -> usize
+    requires { 16 ≤ length out.old }
+    ensures { Put (product_line product.now.method product.now.sizes.rows product.now.sizes.columns) out.old result out.new }
 {
+    let method = usize::from(product.method);
+    let Sizes { rows, columns } = product.sizes;
     let mut n = put::bytes(out, b"product ");
-    n += put::decimal(&mut out[n..], usize::from(method), b' ');
+    n += put::decimal(&mut out[n..], method, b' ');
     n += put::decimal(&mut out[n..], rows, b' ');
     n + put::decimal(&mut out[n..], columns, b'\n')
 }
@@ -31,38 +46,27 @@ fn cell_line(out: &mut [u8], row: usize, column: usize, lower: u32, upper: u32) 
     n + put::hexadecimal(&mut out[n..], upper, b'\n')
 }
 
-// The lines of the first count cells, by rows.
-fn cell_lines(
-    out: &mut [u8],
-    columns: usize,
-    count: usize,
-    lowers: &[u32; MOST_CELLS],
-    uppers: &[u32; MOST_CELLS],
-) -> usize
-    requires { (0 < columns) × (columns ≤ 32) × (count ≤ 32 * columns) × (count ≤ most_cells) × (24 * count ≤ length out.old) }
-    ensures { Put (cell_lines columns lowers.now uppers.now count) out.old result out.new }
+// The lines of the cells, by rows.
+fn cell_lines(out: &mut [u8], product: &Product) -> usize
+    requires { 24 * (product.now.sizes.rows * product.now.sizes.columns) ≤ length out.old }
+    ensures { Put (cell_lines product.now.sizes.columns product.now.lowers.now product.now.uppers.now (product.now.sizes.rows * product.now.sizes.columns)) out.old result out.new }
 {
+    let Sizes { rows, columns } = product.sizes;
     let mut n = 0;
-    for p in 0..count {
-        n += cell_line(&mut out[n..], p / columns, p % columns, lowers[p], uppers[p]);
+    for p in 0..rows * columns {
+        let (row, column) = (p / columns, p % columns);
+        n += cell_line(&mut out[n..], row, column, product.lowers[p], product.uppers[p]);
     }
     n
 }
 
 // The whole text of a product. 24,592 bytes are enough for it: 16 for the first line and 24 for each of 1,024 cells.
-pub fn product_text(
-    out: &mut [u8],
-    method: u8,
-    rows: usize,
-    columns: usize,
-    lowers: &[u32; MOST_CELLS],
-    uppers: &[u32; MOST_CELLS],
-) -> usize
-    requires { (method < 10) × (rows ≤ 32) × (0 < columns) × (columns ≤ 32) × (24592 ≤ length out.old) }
-    ensures { Put (product_text method rows columns lowers.now uppers.now) out.old result out.new }
+pub fn product_text(out: &mut [u8], product: &Product) -> usize
+    requires { 24592 ≤ length out.old }
+    ensures { Put (product_text product.now.method product.now.sizes.rows product.now.sizes.columns product.now.lowers.now product.now.uppers.now) out.old result out.new }
 {
-    let n = product_line(out, method, rows, columns);
-    n + cell_lines(&mut out[n..], columns, rows * columns, lowers, uppers)
+    let n = product_line(out, product);
+    n + cell_lines(&mut out[n..], product)
 }
 
 // The line "refused", number, matrix, row, column.

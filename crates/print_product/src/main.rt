@@ -14,6 +14,7 @@ mod input;
 mod lines;
 mod put;
 
+use lines::Product;
 use refusals::sizes::MOST_CELLS;
 use sheets::cut::first_length;
 use std::io;
@@ -40,12 +41,20 @@ fn sheets_text(method: u8, s: &[u8], out: &mut [u8]) -> usize
     requires { (method < 10) × (24592 ≤ length out.old) }
     ensures { Put (sheets_text method s.now) out.old result out.new }
 {
-    let mut lo = [0u32; MOST_CELLS];
-    let mut up = [0u32; MOST_CELLS];
-    let end = first_length(s);
-    match job::multiply_sheets(u32::from(method), &s[..end], &s[end..], &mut lo, &mut up) {
-        Ok(sizes) => lines::product_text(out, method, sizes.rows, sizes.columns, &lo, &up),
-        Err(r) => lines::refused_line(out, r),
+    let mut lowers = [0u32; MOST_CELLS];
+    let mut uppers = [0u32; MOST_CELLS];
+    let (a, b) = s.split_at(first_length(s));
+    match job::multiply_sheets(u32::from(method), a, b, &mut lowers, &mut uppers) {
+        Ok(sizes) => {
+            let product = Product {
+                method,
+                sizes,
+                lowers: &lowers,
+                uppers: &uppers,
+            };
+            lines::product_text(out, &product)
+        }
+        Err(refusal) => lines::refused_line(out, refusal),
     }
 }
 

@@ -21,9 +21,20 @@ decimal-n-requires-3 c =
 
 pub decimal-requires : goal.decimal-requires
 decimal-requires c =
-    let n = c.from-4.result in
-    (omega arith, omega (arith, c.bytes-n.ensures.size, c.decimal-n.ensures.size, c.decimal-n-2.ensures.size, c.decimal-n-3.ensures.size,
-      decimal_below 2 c.from.result 32 (omega arith), decimal_below 2 c.from-2.result 32 (omega arith), decimal_below 2 c.from-3.result 32 (omega arith), digit_count_below 2 n n (omega arith)))
+    let n = c.from-4.result in (
+      omega arith,
+      omega (
+        arith,
+        c.bytes-n.ensures.size,
+        c.decimal-n.ensures.size,
+        c.decimal-n-2.ensures.size,
+        c.decimal-n-3.ensures.size,
+        decimal_below 2 c.from.result 32 (omega arith),
+        decimal_below 2 c.from-2.result 32 (omega arith),
+        decimal_below 2 c.from-3.result 32 (omega arith),
+        digit_count_below 2 n n (omega arith),
+      ),
+    )
 
 pub returns : goal.returns
 unfolding refused_line

@@ -1,5 +1,5 @@
 -- `put::digits`: a digit is put in on the left of the others.
-use Rattle.std.proofs.Common.{◌≡◌, ◌++◌, ◌-◌, ◌/◌, drop, set, length-set, ap, sym, ◌∙◌, arith}
+use Rattle.std.proofs.Common.{◌++◌, ◌-◌, ◌/◌, drop, set, length-set, ap, sym, ◌∙◌, arith}
 use Rattle.print_product.specs.Digits.{digits}
 use Rattle.print_product.proofs.DigitLaws.{digits_more, digits_end}
 use Rattle.print_product.proofs.put.digits.Goals as goal
