@@ -14,14 +14,6 @@ use Rattle.print_product.specs.Put.{Put}
 
 -- ---- one digit, and k of them
 
-pub digit_decimal : (d : ℕ) → d < 10 → digit d ≡ 48 + d
-unfolding digit
-digit_decimal d h = rw (lt-ltb d 10 h)
-
-pub digit_letter : (d : ℕ) → 10 ≤ d → digit d ≡ 55 + d
-unfolding digit
-digit_letter d h = rw (le-ltb d 10 h)
-
 pub digits_length : (b k n : ℕ) → length (digits b k n) ≡ k
 unfolding digits
 digits_length b zero n = refl

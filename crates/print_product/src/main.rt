@@ -27,6 +27,7 @@ const INPUT: usize = 32802;
 const TEXT: usize = 24592;
 
 // Writes the text for an input to the front of out and returns its length.
+#[tactic(auto, using(crate::proofs::InputLaws::digit_small))]
 fn printed(input: &[u8], out: &mut [u8]) -> usize
     requires { 24592 ≤ length out.old }
     ensures size { result ≡ length (printed_of input.now) }
@@ -59,7 +60,7 @@ fn sheets_text(method: u8, s: &[u8], out: &mut [u8]) -> usize
 }
 
 // Reads until buf is full or the input ends, and returns how many bytes were put at the start of buf: the first of the input, all of it where buf is
-// not full. A read that fails ends it; some first bytes of the input were taken then.
+// not full. A read that fails ends it; some first bytes of the input were taken then. (Of that std's `read_exact` says nothing.)
 fn read_full<R: Read>(input: &mut R, buf: &mut [u8]) -> io::Result<usize>
     ensures bound { IfOk result (λ n. n ≤ length buf.new) }
     ensures bytes { IfOk result (λ n. Consumes (R.remaining input.old) (R.remaining input.new) (take n buf.new)) }

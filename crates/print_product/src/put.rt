@@ -66,5 +66,6 @@ pub fn hexadecimal(out: &mut [u8], p: u32, end: u8) -> usize
     requires { 9 ≤ length out.old }
     ensures { Put (hexadecimal p ++ (end ∷ [])) out.old result out.new }
 {
+    // `usize::from` takes no u32.
     digits(out, 16, 8, p as usize, end)
 }

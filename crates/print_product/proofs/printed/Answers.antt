@@ -5,8 +5,6 @@ use Rattle.print_product.proofs.Puts.{put_as}
 use Rattle.print_product.proofs.Answers.{printed_is}
 use Rattle.print_product.proofs.printed.Goals as goal
 
-pub sheets_text-requires : goal.sheets_text-requires
-sheets_text-requires c = (omega (arith, c.method.ensures, digit_small (get_or c.args.input.now 0 0)), omega arith)
 
 pub returns : goal.returns
 returns c =

@@ -7,9 +7,6 @@ use Rattle.print_product.proofs.LineLaws.{cell_length, cells_more}
 use Rattle.print_product.proofs.Puts.{put_none}
 use Rattle.print_product.proofs.lines.cell_lines.Goals as goal
 
-pub loop-p-init : goal.loop-p-init
-unfolding cell_lines
-loop-p-init c = (omega arith, put_none _)
 
 pub cell_line-n-requires : goal.cell_line-n-requires
 cell_line-n-requires c =

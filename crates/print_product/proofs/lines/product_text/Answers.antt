@@ -12,5 +12,3 @@ cell_lines-requires c =
     let long = product_length x.method x.sizes.rows x.sizes.columns (omega arith) (omega arith) (omega arith) in
     omega (arith, c.product_line-n.ensures.size)
 
-pub returns : goal.returns
-returns c = put_more c.product_line-n.ensures c.cell_lines.ensures
