@@ -47,7 +47,7 @@ fn cell_line(out: &mut [u8], row: usize, column: usize, lower: u32, upper: u32) 
 }
 
 // The lines of the cells, by rows.
-#[tactic(auto, using(crate::proofs::Puts::put_none), unfolding(crate::specs::Printed::cell_lines))]
+#[tactic(auto, unfolding(crate::specs::Printed::cell_lines))]
 fn cell_lines(out: &mut [u8], product: &Product) -> usize
     requires { 24 * (product.now.sizes.rows * product.now.sizes.columns) ≤ length out.old }
     ensures { Put (cell_lines product.now.sizes.columns product.now.lowers.now product.now.uppers.now (product.now.sizes.rows * product.now.sizes.columns)) out.old result out.new }
@@ -62,7 +62,7 @@ fn cell_lines(out: &mut [u8], product: &Product) -> usize
 }
 
 // The whole text of a product. 24,592 bytes are enough for it: 16 for the first line and 24 for each of 1,024 cells.
-#[tactic(auto, using(crate::proofs::Puts::put_more))]
+#[tactic(auto, using(crate::proofs::Puts::put_more, crate::proofs::LineLaws::product_length, refusals::proofs::SizeLaws::small))]
 pub fn product_text(out: &mut [u8], product: &Product) -> usize
     requires { 24592 ≤ length out.old }
     ensures { Put (product_text product.now.method product.now.sizes.rows product.now.sizes.columns product.now.lowers.now product.now.uppers.now) out.old result out.new }
