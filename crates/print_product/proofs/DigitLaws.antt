@@ -75,6 +75,15 @@ digit_count_below (suc k) (suc t) n h = go (ltb n 10) (digit_count_below k t (n 
     go true p = omega arith
     go false p = omega arith
 
+pub below_ten : (n : ℕ) → n < 10 → digit_count n ≤ 1
+below_ten n h = digit_count_below 0 n n h
+
+pub below_hundred : (n : ℕ) → n < 100 → digit_count n ≤ 2
+below_hundred n h = digit_count_below 1 n n h
+
+pub below_thousand : (n : ℕ) → n < 1000 → digit_count n ≤ 3
+below_thousand n h = digit_count_below 2 n n h
+
 -- ---- fields, with the byte that ends them
 
 pub decimal_length : (n e : ℕ) → length (decimal n ++ (e ∷ [])) ≡ digit_count n + 1

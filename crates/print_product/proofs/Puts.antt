@@ -28,7 +28,3 @@ put_more {t = t} {u = u} {d = d} {out = out} {part = part} {n = n} p q =
       size = omega (arith, p.size, q.size, same);
       left = ap₂ (λ x y. x ++ (part ++ y)) front none ∙ ap (λ l. t ++ l) (append-nil part ∙ rest) ∙ sym (append_assoc t u (drop (length t + length u) d)) ∙ ap (λ j. (t ++ u) ++ drop j d) (sym same);
     }
-
--- nothing is put
-pub put_none : (d : List ℕ) → Put [] d 0 d
-put_none d = record { size = refl; left = refl }

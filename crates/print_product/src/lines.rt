@@ -23,6 +23,7 @@ pub struct Product<'a> {
 }
 
 // The line "product", method, rows, columns.
+#[tactic(auto, using(crate::proofs::DigitLaws::below_ten, crate::proofs::DigitLaws::below_hundred, crate::proofs::DigitLaws::decimal_length))]
 fn product_line(out: &mut [u8], product: &Product) -> usize
     requires { 16 ≤ length out.old }
     ensures { Put (product_line product.now.method product.now.sizes.rows product.now.sizes.columns) out.old result out.new }
@@ -36,6 +37,7 @@ fn product_line(out: &mut [u8], product: &Product) -> usize
 }
 
 // The line of a cell: row, column, lower bound, upper bound.
+#[tactic(auto, using(crate::proofs::DigitLaws::below_hundred, crate::proofs::DigitLaws::decimal_length, crate::proofs::DigitLaws::hexadecimal_length))]
 fn cell_line(out: &mut [u8], row: usize, column: usize, lower: u32, upper: u32) -> usize
     requires { (row < 100) × (column < 100) × (24 ≤ length out.old) }
     ensures { Put (cell_line row column lower upper) out.old result out.new }
@@ -72,6 +74,7 @@ pub fn product_text(out: &mut [u8], product: &Product) -> usize
 }
 
 // The line "refused", number, matrix, row, column.
+#[tactic(auto, using(crate::proofs::DigitLaws::below_thousand, crate::proofs::DigitLaws::decimal_length))]
 pub fn refused_line(out: &mut [u8], refusal: Refusal) -> usize
     requires { 24 ≤ length out.old }
     ensures { Put (refused_line refusal) out.old result out.new }
