@@ -49,7 +49,7 @@ fn cell_line(out: &mut [u8], row: usize, column: usize, lower: u32, upper: u32) 
 }
 
 // The lines of the cells, by rows.
-#[tactic(auto, unfolding(crate::specs::Printed::cell_lines))]
+#[tactic(auto, using(crate::proofs::LineLaws::wide, crate::proofs::LineLaws::cells_length, sheets::proofs::Counting::div_lt, sheets::proofs::Counting::mod_lt), unfolding(crate::specs::Printed::cell_lines))]
 fn cell_lines(out: &mut [u8], product: &Product) -> usize
     requires { 24 * (product.now.sizes.rows * product.now.sizes.columns) ≤ length out.old }
     ensures { Put (cell_lines product.now.sizes.columns product.now.lowers.now product.now.uppers.now (product.now.sizes.rows * product.now.sizes.columns)) out.old result out.new }
@@ -58,7 +58,13 @@ fn cell_lines(out: &mut [u8], product: &Product) -> usize
     let mut n = 0;
     for p in 0..rows * columns {
         let (row, column) = (p / columns, p % columns);
-        n += cell_line(&mut out[n..], row, column, product.lowers[p], product.uppers[p]);
+        n += cell_line(
+            &mut out[n..],
+            row,
+            column,
+            product.lowers[p],
+            product.uppers[p],
+        );
     }
     n
 }

@@ -1,10 +1,7 @@
 -- `printed` meets its contract.
-use Rattle.std.proofs.Common.{get_or, arith}
-use Rattle.print_product.proofs.InputLaws.{digit_small}
 use Rattle.print_product.proofs.Puts.{put_as}
 use Rattle.print_product.proofs.Answers.{printed_is}
 use Rattle.print_product.proofs.printed.Goals as goal
-
 
 pub returns : goal.returns
 returns c =

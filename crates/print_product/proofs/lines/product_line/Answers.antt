@@ -1,8 +1,6 @@
 -- `lines::product_line` meets its contract.
-use Rattle.std.proofs.Common.{refl, append_assoc, arith}
+use Rattle.std.proofs.Common.{refl, append_assoc}
 use Rattle.print_product.specs.Lines.{product_line}
-use Rattle.print_product.proofs.DigitLaws.{digit_count_below}
-use Rattle.print_product.proofs.LineLaws.{decimal_below}
 use Rattle.print_product.proofs.Puts.{put_more, put_as}
 use Rattle.print_product.proofs.lines.product_line.Goals as goal
 

@@ -1,8 +1,6 @@
 -- `lines::refused_line` meets its contract.
-use Rattle.std.proofs.Common.{refl, append_assoc, arith}
+use Rattle.std.proofs.Common.{refl, append_assoc}
 use Rattle.print_product.specs.Lines.{refused_line}
-use Rattle.print_product.proofs.DigitLaws.{digit_count_below}
-use Rattle.print_product.proofs.LineLaws.{decimal_below}
 use Rattle.print_product.proofs.Puts.{put_more, put_as}
 use Rattle.print_product.proofs.lines.refused_line.Goals as goal
 
