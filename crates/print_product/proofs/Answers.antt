@@ -3,7 +3,7 @@ use mathlib.Core.Path.{◌≡◌, refl, sym, ap, ap₂, ◌∙◌}
 use mathlib.Core.List.{List, ◌++◌}
 use Prim.Native.Nat.{ℕ, zero, suc, ◌-◌, ◌*◌, ◌/◌, ◌%◌, ◌≤◌, min}
 use native.Mathlib.Omega.{arith}
-use lib.ListN.{length, take, drop, length-append}
+use lib.ListN.{length, take, drop}
 use lib.Seq.{get_or-take}
 use Rattle.refusals.specs.Answer.{Answer, gives}
 use Rattle.sheets.specs.Cut.{first_length}
@@ -28,14 +28,10 @@ product_text_is method r c lo up e = ap (λ l. product_line method r c ++ l) (fr
 
 -- ---- the input: what stands from a place on
 
-pub sheets_text_is : (method : ℕ) (s : List ℕ) (k : ℕ) → k ≡ first_length s → answer_text method (job_product method (take k s) (take (length s - k) (drop k s))) ≡ sheets_text method s
+pub sheets_text_is : (method : ℕ) (s : List ℕ) (m k : ℕ) {a b : List ℕ} → m ≡ method → k ≡ first_length s → a ≡ take k s → b ≡ drop k s → answer_text method (job_product m a b) ≡ sheets_text method s
 unfolding sheets_text
-sheets_text_is method s k e = ap₂ (λ a b. answer_text method (job_product method a b)) (ap (λ n. take n s) e) (rest_is s k ∙ ap (λ n. drop n s) e)
+sheets_text_is method s m k d e f g = rw d (ap₂ (λ a b. answer_text method (job_product method a b)) (f ∙ ap (λ n. take n s) e) (g ∙ ap (λ n. drop n s) e))
 
 pub printed_is : (s : List ℕ) (m k : ℕ) → m ≡ method_in s → k ≡ min (length s) 1 → sheets_text m (take (length s - k) (drop k s)) ≡ printed_of s
 unfolding printed_of
 printed_is s m k e f = ap₂ sheets_text e (rest_is s k ∙ behind_digit s k f)
-
--- the text is no longer than its buffer
-pub printed_fits : (s d out : List ℕ) (r : ℕ) → (r ≡ length (printed_of s)) × (out ≡ printed_of s ++ drop (length (printed_of s)) d) → r ≤ length out
-printed_fits s d out r e = omega (arith, e.0, ap length e.1, length-append (printed_of s) (drop (length (printed_of s)) d))

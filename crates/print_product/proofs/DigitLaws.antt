@@ -7,21 +7,12 @@ use native.Mathlib.Nat.{pow-suc}
 use native.Mathlib.Omega.{arith}
 use lib.Dec.{ltb}
 use borrow.Author.Tests.{lt-ltb, le-ltb}
-use lib.ListN.{length, take, drop, set, length-append, take-append-drop}
-use lib.Seq.{drop-cons, lt-length-set, get_or-set_same, drop-set-lt, take-set-le}
-use Rattle.sheets.specs.Sheet.{over}
+use lib.ListN.{length, drop, set, length-append}
+use lib.Seq.{drop-cons, lt-length-set, get_or-set_same, drop-set-lt}
 use Rattle.print_product.specs.Digits.{digit, digits, digit_count_to, digit_count, decimal, hexadecimal}
 use Rattle.print_product.specs.Put.{Put}
 
 -- ---- one digit, and k of them
-
-pub digit_decimal : (d : ℕ) → d < 10 → digit d ≡ 48 + d
-unfolding digit
-digit_decimal d h = rw (lt-ltb d 10 h)
-
-pub digit_letter : (d : ℕ) → 10 ≤ d → digit d ≡ 55 + d
-unfolding digit
-digit_letter d h = rw (le-ltb d 10 h)
 
 pub digits_length : (b k n : ℕ) → length (digits b k n) ≡ k
 unfolding digits
@@ -34,37 +25,45 @@ pub drop_set : (s : List ℕ) (i v : ℕ) → i < length s → drop i (set s i v
 drop_set s i v h =
     drop-cons (set s i v) i 0 (lt-length-set s i v h) ∙ ap₂ ◌∷◌ (get_or-set_same s i v 0 h) (drop-set-lt (suc i) s i v (omega arith))
 
-pub digits_more : (b k j i n : ℕ) (s : List ℕ) → k ≡ suc j → i < length s → digits b k n ++ drop (suc i) s ≡ digits b j (n / b) ++ drop i (set s i (digit (n % b)))
+pub digits_more : (b n i j : ℕ) (s : List ℕ) → i ≡ suc j → i ≤ length s → digits b i n ++ drop i s ≡ digits b j (n / b) ++ drop j (set s j (digit (n % b)))
 unfolding digits
-digits_more b k j i n s e h = rw (e, drop_set s i (digit (n % b)) h) (append_assoc (digits b j (n / b)) (digit (n % b) ∷ []) (drop (suc i) s))
+digits_more b n i j s e h = rw (e, drop_set s j (digit (n % b)) (omega arith)) (append_assoc (digits b j (n / b)) (digit (n % b) ∷ []) (drop (suc j) s))
 
--- the loop at its end: i is at, and the byte e stands behind k digits
-pub digits_end : (b k n e at last i rest : ℕ) (d out : List ℕ) → i ≡ at → last ≡ at + k → last < length d → take i out ≡ take i (set d last e)
-    → digits b k n ++ drop last (set d last e) ≡ digits b (i - at) rest ++ drop i out → Put at (digits b k n ++ (e ∷ [])) d (last + 1) out
-unfolding over digits
-digits_end b k n e at last i rest d out z l h f g =
+-- the loop at its end: the byte e stands behind k digits
+pub digits_end : (b k n e rest i : ℕ) (d out : List ℕ) → k < length d → i ≡ 0
+    → digits b k n ++ drop k (set d k e) ≡ digits b i rest ++ drop i out → Put (digits b k n ++ (e ∷ [])) d (k + 1) out
+unfolding digits
+digits_end b k n e rest i d out h z f =
     let D : List ℕ = digits b k n in
-    let R : List ℕ = drop (suc last) d in
-    let none : i - at ≡ 0 = omega arith in
-    let m : length (D ++ (e ∷ [])) ≡ k + 1 = length-append D (e ∷ []) ∙ ap (λ x. x + 1) (digits_length b k n) in
-    let front : take at out ≡ take at d = rw (← z, f) (take-set-le i d last e (omega arith)) in
-    let rest' : drop at out ≡ (D ++ (e ∷ [])) ++ R = rw (← z) (sym (g ∙ rw none) ∙ ap (λ x. D ++ x) (drop_set d last e h) ∙ sym (append_assoc D (e ∷ []) R)) in
-    let same : suc last ≡ at + length (D ++ (e ∷ [])) = omega (arith, m) in
-    record {
-      next = omega (arith, m);
-      left = sym (take-append-drop at out) ∙ ap₂ ◌++◌ front rest' ∙ sym (append_assoc (take at d) (D ++ (e ∷ [])) R) ∙ ap (λ x. (take at d ++ (D ++ (e ∷ []))) ++ drop x d) same;
-    }
+    let m : length (D ++ (e ∷ [])) ≡ suc k = length-append D (e ∷ []) ∙ ap (λ x. x + 1) (digits_length b k n) ∙ omega arith in
+    let s : D ++ (e ∷ drop (suc k) d) ≡ out = ap (λ l. D ++ l) (sym (drop_set d k e h)) ∙ f ∙ ap (λ j. digits b j rest ++ drop j out) z in
+    record { size = omega (arith, m); left = sym s ∙ sym (append_assoc D (e ∷ []) (drop (suc k) d)) ∙ ap (λ j. (D ++ (e ∷ [])) ++ drop j d) (sym m) }
 
 -- ---- how many decimal digits a number has
 
-pub digit_count_one : (t n : ℕ) → n < 10 → 1 ≡ digit_count_to t n
+one_digit : (t n : ℕ) → n < 10 → 1 ≡ digit_count_to t n
 unfolding digit_count_to
-digit_count_one zero n h = refl
-digit_count_one (suc t) n h = rw (lt-ltb n 10 h)
+one_digit zero n h = refl
+one_digit (suc t) n h = rw (lt-ltb n 10 h)
 
-pub digit_count_more : (t m n k : ℕ) → t ≡ suc m → 10 ≤ n → k ≡ digit_count_to m (n / 10) → suc k ≡ digit_count_to t n
+one_more : (k t m n : ℕ) → 10 ≤ n → t ≡ suc m → k ≡ digit_count_to m (n / 10) → suc k ≡ digit_count_to t n
 unfolding digit_count_to
-digit_count_more t m n k e h f = rw (e, le-ltb n 10 h, f)
+one_more k t m n h e f = rw (e, le-ltb n 10 h, f)
+
+pub count_one : (n : ℕ) → n < 10 → 1 ≡ digit_count n
+count_one n h = one_digit n n h
+
+pub count_two : (n : ℕ) → 10 ≤ n → n < 100 → 2 ≡ digit_count n
+count_two n h k = one_more 1 n (n - 1) n h (omega arith) (one_digit (n - 1) (n / 10) (omega arith))
+
+pub count_three : (n : ℕ) → 100 ≤ n → n < 1000 → 3 ≡ digit_count n
+count_three n h k =
+    one_more 2 n (n - 1) n (omega arith) (omega arith) (one_more 1 (n - 1) (n - 2) (n / 10) (omega arith) (omega arith) (one_digit (n - 2) (n / 10 / 10) (omega arith)))
+
+pub count_four : (n : ℕ) → 1000 ≤ n → n < 10000 → 4 ≡ digit_count n
+count_four n h k =
+    one_more 3 n (n - 1) n (omega arith) (omega arith) (one_more 2 (n - 1) (n - 2) (n / 10) (omega arith) (omega arith)
+    (one_more 1 (n - 2) (n - 3) (n / 10 / 10) (omega arith) (omega arith) (one_digit (n - 3) (n / 10 / 10 / 10) (omega arith))))
 
 pub digit_count_below : (k t n : ℕ) → n < 10 ^ suc k → digit_count_to t n ≤ suc k
 unfolding digit_count_to
@@ -75,6 +74,15 @@ digit_count_below (suc k) (suc t) n h = go (ltb n 10) (digit_count_below k t (n 
     go : (b : Bool) → digit_count_to t (n / 10) ≤ suc k → cond b 1 (suc (digit_count_to t (n / 10))) ≤ suc (suc k)
     go true p = omega arith
     go false p = omega arith
+
+pub below_ten : (n : ℕ) → n < 10 → digit_count n ≤ 1
+below_ten n h = digit_count_below 0 n n h
+
+pub below_hundred : (n : ℕ) → n < 100 → digit_count n ≤ 2
+below_hundred n h = digit_count_below 1 n n h
+
+pub below_thousand : (n : ℕ) → n < 1000 → digit_count n ≤ 3
+below_thousand n h = digit_count_below 2 n n h
 
 -- ---- fields, with the byte that ends them
 

@@ -1,31 +1,23 @@
 -- Laws of the printed lines: how long they are, and that their fields are put in one after the other. Assumes nothing.
-use mathlib.Core.Path.{◌≡◌, ◌∙◌}
-use mathlib.Core.List.{List, [], ◌∷◌, ◌++◌}
-use Prim.Native.Nat.{ℕ, suc, ◌+◌, ◌/◌, ◌%◌, ◌^◌, ◌≤◌, ◌<◌}
+use mathlib.Core.List.{List}
+use Prim.Native.Nat.{ℕ, zero, suc, ◌+◌, ◌*◌, ◌-◌, ◌/◌, ◌%◌, ◌^◌, ◌≤◌, ◌<◌}
+use native.Mathlib.Nat.{mul-le-mul_right}
 use native.Mathlib.Numerals.{add-one}
 use native.Mathlib.Omega.{arith}
 use lib.ListN.{length, get_or, length-append}
+use borrow.Rule.Slice.PartMut.{mid_of, put_mid}
+use Rattle.sheets.proofs.Counting.{div_lt, mod_lt}
 use Rattle.print_product.specs.Digits.{digit_count, decimal}
 use Rattle.print_product.specs.Lines.{product_line, cell_line}
 use Rattle.print_product.specs.Printed.{cell_lines}
 use Rattle.print_product.specs.Put.{Put}
-use Rattle.print_product.proofs.DigitLaws.{digits_length, digit_count_below, decimal_length}
-use Rattle.print_product.proofs.Puts.{put_more, put_length}
+use Rattle.print_product.proofs.DigitLaws.{digits_length, digit_count_below}
+use Rattle.print_product.proofs.Puts.{put_more}
 
 -- ---- fields
 
 digits_below : (k n : ℕ) → n < 10 ^ suc k → length (decimal n) ≤ k + 1
 digits_below k n h = omega (arith, digits_length 10 (digit_count n) n, digit_count_below k n n h)
-
-pub decimal_below : (k n e : ℕ) → n < 10 ^ suc k → length (decimal n ++ (e ∷ [])) ≤ k + 2
-decimal_below k n e h = omega (arith, decimal_length n e, digit_count_below k n n h)
-
-pub put_four : {at : ℕ} {t u v w d : List ℕ} {r₁ r₂ r₃ r₄ : ℕ} {o₁ o₂ o₃ o₄ : List ℕ} → at + length t + length u + length v ≤ length d
-    → Put at t d r₁ o₁ → Put r₁ u o₁ r₂ o₂ → Put r₂ v o₂ r₃ o₃ → Put r₃ w o₃ r₄ o₄ → Put at (t ++ (u ++ (v ++ w))) d r₄ o₄
-put_four {at = at} {t = t} {u = u} {v = v} {d = d} {r₁ = r₁} {r₂ = r₂} {o₁ = o₁} {o₂ = o₂} h p q r s =
-    let l₁ : length o₁ ≡ length d = put_length (omega arith) p in
-    let l₂ : length o₂ ≡ length d = put_length (omega (arith, p.next)) q ∙ l₁ in
-    put_more (omega arith) p (put_more (omega (arith, p.next)) q (put_more (omega (arith, p.next, q.next)) r s))
 
 -- ---- lines
 
@@ -41,7 +33,19 @@ cell_length i j l u h k =
 
 -- ---- cells
 
-pub cells_more : {start at r : ℕ} {d out out' : List ℕ} (columns p : ℕ) (lo up : List ℕ) → start ≤ length d → Put start (cell_lines columns lo up p) d at out
-    → Put at (cell_line (p / columns) (p % columns) (get_or lo p 0) (get_or up p 0)) out r out' → Put start (cell_lines columns lo up (p + 1)) d r out'
+pub wide : (r c : ℕ) → r ≤ 32 → r * c ≤ 32 * c
+wide r c h = mul-le-mul_right c h
+
+pub cells_length : (c p : ℕ) (lo up : List ℕ) → 0 < c → c ≤ 32 → p ≤ 32 * c → length (cell_lines c lo up p) ≤ 24 * p
 unfolding cell_lines
-cells_more columns p lo up h f g = rw (add-one p) (put_more h f g)
+cells_length c zero lo up h k l = omega arith
+cells_length c (suc p) lo up h k l =
+    let row = div_lt p c 32 h (omega arith) in
+    let column = mod_lt p c h in
+    simp length-append (omega (arith, cells_length c p lo up h k (omega arith), cell_length (p / c) (p % c) (get_or lo p 0) (get_or up p 0) (omega arith) (omega arith)))
+
+pub cells_more : {n m : ℕ} {d out part : List ℕ} (columns p : ℕ) (lo up : List ℕ) → Put (cell_lines columns lo up p) d n out
+    → Put (cell_line (p / columns) (p % columns) (get_or lo p 0) (get_or up p 0)) (mid_of n (length out - n) out) m part
+    → Put (cell_lines columns lo up (p + 1)) d (n + m) (put_mid n (length out - n) out part)
+unfolding cell_lines
+cells_more columns p lo up f g = rw (add-one p) (put_more f g)

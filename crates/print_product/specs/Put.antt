@@ -1,8 +1,7 @@
--- The buffer after a piece of text was written into it. Definitions only.
-use Rattle.std.specs.Prelude.{◌≡◌, List, ℕ, ◌+◌, length}
-use Rattle.sheets.specs.Sheet.{over}
+-- The buffer after a piece of text was written to its start. Definitions only.
+use Rattle.std.specs.Prelude.{◌≡◌, List, ℕ, ◌++◌, length, drop}
 
--- out is the buffer d with the text t from index `at` on; r is the index behind the text
-pub record Put (at : ℕ) (t d : List ℕ) (r : ℕ) (out : List ℕ) : Type 0 where
-  pub next : r ≡ at + length t
-  pub left : out ≡ over at t d
+-- out is the buffer d with the text t at its start; n is the length of t
+pub record Put (t d : List ℕ) (n : ℕ) (out : List ℕ) : Type 0 where
+  pub size : n ≡ length t
+  pub left : out ≡ t ++ drop (length t) d

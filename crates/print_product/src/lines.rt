@@ -1,6 +1,5 @@
-// The lines of the printed text, written into a buffer. Each function returns the index behind its last byte.
+// The lines of the printed text, written to the start of a buffer. Each function returns how many bytes it wrote.
 ghost use Rattle.std.specs.Prelude.{◌+◌, ◌*◌, ◌≤◌, ◌<◌, length};
-ghost use Rattle.refusals.specs.Sizes.{most_cells};
 ghost use Rattle.print_product.specs.Lines.{product_line, cell_line, refused_line};
 ghost use Rattle.print_product.specs.Printed.{cell_lines, product_text};
 ghost use Rattle.print_product.specs.Put.{Put};
@@ -8,82 +7,89 @@ ghost use Rattle.print_product.specs.Put.{Put};
 use crate::put;
 use refusals::Refusal;
 use refusals::sizes::MOST_CELLS;
+use sheets::Sizes;
 
-// The line "product", method, rows, columns, at the start of out.
-fn product_line(out: &mut [u8], method: usize, rows: usize, columns: usize) -> usize
-    requires { (method < 10) × (rows < 100) × (columns < 100) × (16 ≤ length out.old) }
-    ensures { Put 0 (product_line method rows columns) out.old result out.new }
+// A product, and the method that it was made by. Its cells stand by rows in the front of the two arrays.
+#[derive(Clone, Copy)]
+pub struct Product<'a> {
+    pub method: u8,
+    pub sizes: Sizes,
+    pub lowers: &'a [u32; MOST_CELLS],
+    pub uppers: &'a [u32; MOST_CELLS],
+    ghost digit: { method < 10 },
+    ghost rows: { sizes.rows ≤ 32 },
+    ghost some_column: { 0 < sizes.columns },
+    ghost columns: { sizes.columns ≤ 32 },
+}
+
+// The line "product", method, rows, columns.
+#[tactic(auto, using(crate::proofs::DigitLaws::below_ten, crate::proofs::DigitLaws::below_hundred, crate::proofs::DigitLaws::decimal_length))]
+fn product_line(out: &mut [u8], product: &Product) -> usize
+    requires { 16 ≤ length out.old }
+    ensures { Put (product_line product.now.method product.now.sizes.rows product.now.sizes.columns) out.old result out.new }
 {
-    let mut at = put::bytes(out, 0, b"product ");
-    at = put::decimal(out, at, method, b' ');
-    at = put::decimal(out, at, rows, b' ');
-    put::decimal(out, at, columns, b'\n')
+    let method = usize::from(product.method);
+    let Sizes { rows, columns } = product.sizes;
+    let mut n = put::bytes(out, b"product ");
+    n += put::decimal(&mut out[n..], method, b' ');
+    n += put::decimal(&mut out[n..], rows, b' ');
+    n + put::decimal(&mut out[n..], columns, b'\n')
 }
 
 // The line of a cell: row, column, lower bound, upper bound.
-fn cell_line(
-    out: &mut [u8],
-    start: usize,
-    row: usize,
-    column: usize,
-    lower: u32,
-    upper: u32,
-) -> usize
-    requires { (row < 100) × (column < 100) × (start + 24 ≤ length out.old) }
-    ensures { Put start (cell_line row column lower upper) out.old result out.new }
+#[tactic(auto, using(crate::proofs::DigitLaws::below_hundred, crate::proofs::DigitLaws::decimal_length, crate::proofs::DigitLaws::hexadecimal_length))]
+fn cell_line(out: &mut [u8], row: usize, column: usize, lower: u32, upper: u32) -> usize
+    requires { (row < 100) × (column < 100) × (24 ≤ length out.old) }
+    ensures { Put (cell_line row column lower upper) out.old result out.new }
 {
-    let mut at = put::decimal(out, start, row, b' ');
-    at = put::decimal(out, at, column, b' ');
-    at = put::hexadecimal(out, at, lower, b' ');
-    put::hexadecimal(out, at, upper, b'\n')
+    let mut n = put::decimal(out, row, b' ');
+    n += put::decimal(&mut out[n..], column, b' ');
+    n += put::hexadecimal(&mut out[n..], lower, b' ');
+    n + put::hexadecimal(&mut out[n..], upper, b'\n')
 }
 
-// The lines of the first count cells, by rows.
-fn cell_lines(
-    out: &mut [u8],
-    start: usize,
-    columns: usize,
-    count: usize,
-    lowers: &[u32; MOST_CELLS],
-    uppers: &[u32; MOST_CELLS],
-) -> usize
-    requires { (0 < columns) × (columns ≤ 32) × (count ≤ 32 * columns) × (count ≤ most_cells) × (start + 24 * count ≤ length out.old) }
-    ensures { Put start (cell_lines columns lowers.now uppers.now count) out.old result out.new }
+// The lines of the cells, by rows.
+#[tactic(auto, using(crate::proofs::LineLaws::wide, crate::proofs::LineLaws::cells_length, sheets::proofs::Counting::div_lt, sheets::proofs::Counting::mod_lt), unfolding(crate::specs::Printed::cell_lines))]
+fn cell_lines(out: &mut [u8], product: &Product) -> usize
+    requires { 24 * (product.now.sizes.rows * product.now.sizes.columns) ≤ length out.old }
+    ensures { Put (cell_lines product.now.sizes.columns product.now.lowers.now product.now.uppers.now (product.now.sizes.rows * product.now.sizes.columns)) out.old result out.new }
 {
-    let mut at = start;
-    let mut p = 0;
-    while p < count {
-        at = cell_line(out, at, p / columns, p % columns, lowers[p], uppers[p]);
-        p += 1;
+    let Sizes { rows, columns } = product.sizes;
+    let mut n = 0;
+    for p in 0..rows * columns {
+        let (row, column) = (p / columns, p % columns);
+        let (lower, upper) = (product.lowers[p], product.uppers[p]);
+        n += cell_line(&mut out[n..], row, column, lower, upper);
     }
-    at
+    n
 }
 
 // The whole text of a product. 24,592 bytes are enough for it: 16 for the first line and 24 for each of 1,024 cells.
-pub fn product_text(
-    out: &mut [u8],
-    method: usize,
-    rows: usize,
-    columns: usize,
-    lowers: &[u32; MOST_CELLS],
-    uppers: &[u32; MOST_CELLS],
-) -> usize
-    requires { (method < 10) × (rows ≤ 32) × (0 < columns) × (columns ≤ 32) × (24592 ≤ length out.old) }
-    ensures { Put 0 (product_text method rows columns lowers.now uppers.now) out.old result out.new }
+#[tactic(auto, using(crate::proofs::Puts::put_more, crate::proofs::LineLaws::product_length, refusals::proofs::SizeLaws::small))]
+pub fn product_text(out: &mut [u8], product: &Product) -> usize
+    requires { 24592 ≤ length out.old }
+    ensures { Put (product_text product.now.method product.now.sizes.rows product.now.sizes.columns product.now.lowers.now product.now.uppers.now) out.old result out.new }
 {
-    let at = product_line(out, method, rows, columns);
-    cell_lines(out, at, columns, rows * columns, lowers, uppers)
+    let n = product_line(out, product);
+    n + cell_lines(&mut out[n..], product)
 }
 
-// The line "refused", number, matrix, row, column, at the start of out.
+// The line "refused", number, matrix, row, column.
+#[tactic(auto, using(crate::proofs::DigitLaws::below_thousand, crate::proofs::DigitLaws::decimal_length))]
 pub fn refused_line(out: &mut [u8], refusal: Refusal) -> usize
     requires { 24 ≤ length out.old }
-    ensures { Put 0 (refused_line refusal) out.old result out.new }
+    ensures { Put (refused_line refusal) out.old result out.new }
 {
-    let number = usize::from(refusal.reason.number());
-    let mut at = put::bytes(out, 0, b"refused ");
-    at = put::decimal(out, at, number, b' ');
-    at = put::decimal(out, at, usize::from(refusal.matrix), b' ');
-    at = put::decimal(out, at, usize::from(refusal.row), b' ');
-    put::decimal(out, at, usize::from(refusal.column), b'\n')
+    let Refusal {
+        reason,
+        matrix,
+        row,
+        column,
+    } = refusal;
+    let number = reason.number();
+    let mut n = put::bytes(out, b"refused ");
+    n += put::decimal(&mut out[n..], usize::from(number), b' ');
+    n += put::decimal(&mut out[n..], usize::from(matrix), b' ');
+    n += put::decimal(&mut out[n..], usize::from(row), b' ');
+    n + put::decimal(&mut out[n..], usize::from(column), b'\n')
 }

@@ -14,6 +14,7 @@ mod input;
 mod lines;
 mod put;
 
+use lines::Product;
 use refusals::sizes::MOST_CELLS;
 use sheets::cut::first_length;
 use std::io;
@@ -26,31 +27,40 @@ const INPUT: usize = 32802;
 const TEXT: usize = 24592;
 
 // Writes the text for an input to the front of out and returns its length.
+#[tactic(auto, using(crate::proofs::InputLaws::digit_small))]
 fn printed(input: &[u8], out: &mut [u8]) -> usize
     requires { 24592 ≤ length out.old }
     ensures size { result ≡ length (printed_of input.now) }
     ensures left { out.new ≡ printed_of input.now ++ drop (length (printed_of input.now)) out.old }
 {
     let start = input.len().min(1);
-    sheets_text(usize::from(input::method(input)), &input[start..], out)
+    sheets_text(input::method(input), &input[start..], out)
 }
 
 // The same for a method and the bytes of both sheets, by the sheet job's reader and product.
-fn sheets_text(method: usize, s: &[u8], out: &mut [u8]) -> usize
+fn sheets_text(method: u8, s: &[u8], out: &mut [u8]) -> usize
     requires { (method < 10) × (24592 ≤ length out.old) }
-    ensures { Put 0 (sheets_text method s.now) out.old result out.new }
+    ensures { Put (sheets_text method s.now) out.old result out.new }
 {
-    let mut lo = [0u32; MOST_CELLS];
-    let mut up = [0u32; MOST_CELLS];
-    let end = first_length(s);
-    match job::multiply_sheets(method as u32, &s[..end], &s[end..], &mut lo, &mut up) {
-        Ok(sizes) => lines::product_text(out, method, sizes.rows, sizes.columns, &lo, &up),
-        Err(r) => lines::refused_line(out, r),
+    let mut lowers = [0u32; MOST_CELLS];
+    let mut uppers = [0u32; MOST_CELLS];
+    let (a, b) = s.split_at(first_length(s));
+    match job::multiply_sheets(u32::from(method), a, b, &mut lowers, &mut uppers) {
+        Ok(sizes) => {
+            let product = Product {
+                method,
+                sizes,
+                lowers: &lowers,
+                uppers: &uppers,
+            };
+            lines::product_text(out, &product)
+        }
+        Err(refusal) => lines::refused_line(out, refusal),
     }
 }
 
 // Reads until buf is full or the input ends, and returns how many bytes were put at the start of buf: the first of the input, all of it where buf is
-// not full. A read that fails ends it; some first bytes of the input were taken then.
+// not full. A read that fails ends it; some first bytes of the input were taken then. (Of that std's `read_exact` says nothing.)
 fn read_full<R: Read>(input: &mut R, buf: &mut [u8]) -> io::Result<usize>
     ensures bound { IfOk result (λ n. n ≤ length buf.new) }
     ensures bytes { IfOk result (λ n. Consumes (R.remaining input.old) (R.remaining input.new) (take n buf.new)) }

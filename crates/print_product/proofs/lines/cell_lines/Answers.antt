@@ -1,21 +1,6 @@
--- `lines::cell_lines` meets its contract: the lines of the first p cells stand in their places.
-use Rattle.std.proofs.Common.{◌/◌, ◌%◌, get_or, arith}
-use Rattle.sheets.proofs.Counting.{div_lt, mod_lt}
-use Rattle.print_product.specs.Printed.{cell_lines}
-use Rattle.print_product.proofs.LineLaws.{cell_length, cells_more}
-use Rattle.print_product.proofs.Puts.{put_none}
+-- `lines::cell_lines`: a line comes behind those of the cells before it.
+use Rattle.print_product.proofs.LineLaws.{cells_more}
 use Rattle.print_product.proofs.lines.cell_lines.Goals as goal
 
-pub loop-p-init : goal.loop-p-init
-unfolding cell_lines
-loop-p-init c = (omega arith, omega arith, put_none _ _)
-
 pub loop-p-preserved : goal.loop-p-preserved
-loop-p-preserved c =
-    let f = c.cell_line-at.ensures in
-    let h = c.loop-p in
-    let a = c.args in
-    let row = div_lt h.p a.columns 32 (omega arith) (omega arith) in
-    let column = mod_lt h.p a.columns (omega arith) in
-    let l = cell_length (h.p / a.columns) (h.p % a.columns) (get_or a.lowers.now h.p 0) (get_or a.uppers.now h.p 0) (omega arith) (omega arith) in
-    (omega arith, omega (arith, f.next), cells_more a.columns h.p a.lowers.now a.uppers.now (omega arith) h.invariant.2 f)
+loop-p-preserved c = cells_more _ _ _ _ c.loop-p.invariant c.cell_line-n.ensures
