@@ -1,4 +1,4 @@
-// A cell of A whose bounds are unpacked: once for all entries of its row. Used by method 1 (classical.rt, sums.rt).
+// A cell of A whose bounds are unpacked: once for all entries of its row. Used by method 1 (classical.rt, sums.rt) and by one pair more (pair.rt).
 ghost use Rattle.std.specs.Prelude.{◌≡◌, ◌+◌, ltb};
 ghost use Rattle.unpacked.specs.Number.{IsNumber};
 ghost use Rattle.products.specs.Apart.{IsApart, lower_number, upper_number, zero_apart};

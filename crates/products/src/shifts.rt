@@ -11,7 +11,7 @@ pub const GUARD: u32 = 36;
 // A shift by this many places loses all bits of a significand with its guard bits: 0 or -1 remains.
 pub const ALL: u32 = 61;
 
-// `power` and `with_sign` are in binary32's parts.rt too, which is private to that crate: made public, they would ask their bounds of every caller.
+// `with_sign` is in binary32's parts.rt too, which is private to that crate: made public, it would ask its bound of every caller.
 
 // 2^n
 fn power(n: u32) -> i64

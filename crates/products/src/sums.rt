@@ -1,4 +1,4 @@
-// The running sums of one entry by method 1: a value that a step takes, with a pair of cells, and returns. Its last step, `ends`, serves all methods.
+// The running sums of one entry by method 1: a value that a step takes, with a pair of cells, and returns. Its last step, `ends`, serves methods 3, 4, 5 and 7.
 ghost use Rattle.unpacked.specs.Number.{IsNumber};
 
 use crate::apart::Apart;
