@@ -61,8 +61,8 @@ impl CentreSize {
     }
 
     // The sums after a step for each pair, or None at the first overflow. A product with zero, which alone has the exponent 64, adds nothing. By index: the
-    // cells of a column are n apart, and step_by beside a row is no plainer. PASS changes nothing: each caller gets a copy of its own, which the compiler inlines.
-    pub fn sum_pairs<const PASS: u32>(self, pairs: Pairs) -> Option<CentreSize>
+    // cells of a column are n apart, and step_by beside a row is no plainer.
+    pub fn sum_pairs(self, pairs: Pairs) -> Option<CentreSize>
         ensures { SizedAll (pairs_of pairs.entry) self result }
     {
         let mut s = self;

@@ -28,7 +28,7 @@ fn radius(size: Number, line: Line) -> Number
     requires { IsNumber size × Below size × (line.k ≤ 32) }
     ensures { Holds (negate (radius_for (line_of line.entry) (neg_ℤ (worth size)))) result }
 {
-    let less = plus::<Down>(opposite(size), outer::<5>(zero(), line));
+    let less = plus::<Down>(opposite(size), outer(zero(), line));
     plus::<Down>(twice_error(size, line.k), less)
 }
 
@@ -102,7 +102,7 @@ impl<'a> Steps for Five<'a> {
             row: &row.mids,
             column: self.of.mb,
         };
-        let s = CentreSize::new().sum_pairs::<1>(mids)?;
+        let s = CentreSize::new().sum_pairs(mids)?;
         let parts = Pairs {
             k,
             n,
@@ -110,7 +110,7 @@ impl<'a> Steps for Five<'a> {
             row: &row.parts,
             column: self.pb,
         };
-        let t = s.sum_pairs::<2>(parts)?;
+        let t = s.sum_pairs(parts)?;
         let line = Line {
             k,
             n,

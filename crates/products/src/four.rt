@@ -63,7 +63,7 @@ impl<'a> Steps for Four<'a> {
             row: self.of.ra,
             column: self.wb,
         };
-        let radius = outer::<4>(s.radius, line);
+        let radius = outer(s.radius, line);
         if is_none(radius) {
             return None;
         }

@@ -25,8 +25,8 @@ fn grown(radius: Number, u: u32, v: u32) -> Number
 }
 
 // The radius plus |u| × |w| for each pair of the line, u and w. The loop ends at the first overflow, and the result is then none. By index: the cells of a
-// column are n apart, and step_by beside a row is no plainer. METHOD changes nothing: each method gets a copy of its own, which the compiler inlines.
-pub fn outer<const METHOD: u32>(radius: Number, line: Line) -> Number
+// column are n apart, and step_by beside a row is no plainer.
+pub fn outer(radius: Number, line: Line) -> Number
     requires { IsNumber radius × Below radius }
     ensures { Continued (line_of line.entry) radius result }
 {

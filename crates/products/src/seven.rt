@@ -85,7 +85,7 @@ impl<'a> Steps for Seven<'a> {
             row: self.of.ra,
             column: self.wb,
         };
-        let radius = outer::<7>(s.radius, wide);
+        let radius = outer(s.radius, wide);
         if is_none(radius) {
             return None;
         }

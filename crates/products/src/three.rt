@@ -80,7 +80,7 @@ impl<'a> Steps for Three<'a> {
             row: self.of.ra,
             column: self.wb,
         };
-        let radius = outer::<3>(inner, line);
+        let radius = outer(inner, line);
         if is_none(radius) {
             return None;
         }

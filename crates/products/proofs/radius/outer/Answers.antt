@@ -14,23 +14,23 @@ use Rattle.products.proofs.radius.outer.Goals.{then-adds+else-is_none, else-adds
 use Rattle.products.proofs.radius.outer.Goals as goal
 
 pub loop-l-init : goal.loop-l-init
-loop-l-init g c =
+loop-l-init c =
     let a = c.args in
     (omega arith, growth_start (line_of a.line) a.radius c.requires.0 c.requires.1)
 
 pub grown-r-requires : goal.grown-r-requires
-grown-r-requires g c =
+grown-r-requires c =
     let a = c.args in
     growth_number (line_of a.line) _ _ _ c.loop-l.invariant.1
 
 pub returns-then-is_none : goal.returns-then-is_none
-returns-then-is_none g c =
+returns-then-is_none c =
     let a = c.args in
     growth_none (line_of a.line) _ c.loop-l.l c.loop-l.r _ c.loop-l-test.true c.loop-l.invariant.1
     (of_pair (λ u w. Grown c.loop-l.r u w c.grown-r.result) c.first-u.ensures c.second-w.ensures c.grown-r.ensures) (sym c.is_none.ensures ∙ c.if-is_none.true)
 
 pub loop-l-preserved : goal.loop-l-preserved
-loop-l-preserved g c =
+loop-l-preserved c =
     let a = c.args in
     let p : Line = line_of a.line in
     let v = neg_ℤ (worth a.radius) in
@@ -43,6 +43,6 @@ loop-l-preserved g c =
     )
 
 pub returns : goal.returns
-returns g c =
+returns c =
     let a = c.args in
     growth_whole (line_of a.line) _ c.loop-l.l c.loop-l.r (omega arith) c.loop-l.invariant.1

@@ -7,7 +7,7 @@ use Rattle.products.proofs.Continuing.{GrowthRuns}
 use Rattle.products.proofs.radius.outer.Given as goal
 
 abbrev pub invariant-loop-l : goal.invariant-loop-l
-invariant-loop-l g l = (l.l ≤ l.line.k) × GrowthRuns (line_of l.line) (neg_ℤ (worth l.initial.r)) l.l l.r
+invariant-loop-l l = (l.l ≤ l.line.k) × GrowthRuns (line_of l.line) (neg_ℤ (worth l.initial.r)) l.l l.r
 
 abbrev pub decreases-loop-l : goal.decreases-loop-l
-decreases-loop-l g l = l.line.k - l.l
+decreases-loop-l l = l.line.k - l.l

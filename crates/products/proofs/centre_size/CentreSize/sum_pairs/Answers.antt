@@ -18,17 +18,17 @@ stepped : (p : Pairs) (l : ℕ) (x : Number) (y : ℕ) (s : CentreSize) (r : May
 stepped p l x y s r e f A = subst (λ t. SizedStep s (worth (number p l)) (value_of t) r) f (subst (λ (t : Number). SizedStep s (worth t) (value_of y) r) e A)
 
 pub loop-l-init : goal.loop-l-init
-loop-l-init g c = (omega arith, sized_start (pairs_of c.args.pairs) _)
+loop-l-init c = (omega arith, sized_start (pairs_of c.args.pairs) _)
 
 pub returns-in_err-s : goal.returns-in_err-s
-returns-in_err-s g c =
+returns-in_err-s c =
     let p = pairs_of c.args.pairs in
     let o = c.loop-l in
     subst (SizedAll p c.args.self) (sym c.from_residual.ensures)
     (sized_none p c.args.self o.l o.s o.invariant.1 c.loop-l-test.true (stepped p o.l _ _ o.s None c.first-x.ensures c.second.ensures c.in_err-s.ensures))
 
 pub loop-l-preserved : goal.loop-l-preserved
-loop-l-preserved g c =
+loop-l-preserved c =
     let a = c.args in
     let p : Pairs = pairs_of a.pairs in
     let f = a.self in
@@ -45,4 +45,4 @@ loop-l-preserved g c =
     )
 
 pub returns : goal.returns
-returns g c = sized_whole (pairs_of c.args.pairs) c.args.self c.loop-l.l c.loop-l.s (omega arith) c.loop-l.invariant.1
+returns c = sized_whole (pairs_of c.args.pairs) c.args.self c.loop-l.l c.loop-l.s (omega arith) c.loop-l.invariant.1

@@ -5,7 +5,7 @@ use Rattle.products.specs.Paired.{pairs_of}
 use Rattle.products.proofs.centre_size.CentreSize.sum_pairs.Given as goal
 
 abbrev pub invariant-loop-l : goal.invariant-loop-l
-invariant-loop-l g l = (l.l ≤ l.pairs.k) × SizedSum (pairs_of l.pairs) l.initial.s l.l l.s
+invariant-loop-l l = (l.l ≤ l.pairs.k) × SizedSum (pairs_of l.pairs) l.initial.s l.l l.s
 
 abbrev pub decreases-loop-l : goal.decreases-loop-l
-decreases-loop-l g l = l.pairs.k - l.l
+decreases-loop-l l = l.pairs.k - l.l
