@@ -41,14 +41,14 @@ abbrev pub OneNone : (low high rad : Option ℤ) → Type 0
 OneNone low high rad = (low ≡ none) ⊎ ((high ≡ none) ⊎ (rad ≡ none))
 
 -- r has these three as its sums as they are kept; it is none where one of them is
-pub record Kept (low opp rad : Option ℤ) (r : Centred) : Type 0 where
+pub record KeptCentred (low opp rad : Option ℤ) (r : Centred) : Type 0 where
   pub lower : Runs low r.lower
   pub opposed : Runs opp r.opposed
   pub radius : Runs rad r.radius
 
 abbrev pub Stepped : (low opp rad : Option ℤ) → Maybe Centred → Type 0
 Stepped low opp rad None = OneNone low opp rad
-Stepped low opp rad (Some r) = Kept low opp rad r
+Stepped low opp rad (Some r) = KeptCentred low opp rad r
 
 -- r is s with x × y added to both centres and t to the radius
 abbrev pub Added : (s : Centred) (x y : ℕ) (t : Option ℤ) → Maybe Centred → Type 0
