@@ -15,6 +15,7 @@ use Rattle.enclosure.specs.Methods.{five, part, mid_term, part_term, mid_size_te
 use Rattle.enclosure.proofs.Sums.{sum_ext}
 use Rattle.binary32.specs.Number.{value_of, held}
 use Rattle.binary32.specs.Operations.{mul}
+use Rattle.unpacked.specs.declared.Number.{Number}
 use Rattle.unpacked.specs.Number.{worth, IsNumber}
 use Rattle.unpacked.proofs.Patterns.{held_is}
 use Rattle.refusals.proofs.SizeLaws.{small}
@@ -47,10 +48,10 @@ by_size k S (some g) = refl
 by_size k none none = refl
 by_size k (some s) none = refl
 
--- what is worked out once for each cell, |m| + r (w) and the part (p), and once for each row: the words of midpoints (xs) and of parts (ps)
+-- what is worked out once for each cell, |m| + r (w) and the part (p), and once for each row: its midpoints (xs) and its parts (ps) unpacked
 pub record Lists : Type 0 where
-  pub xs : List ℕ
-  pub ps : List ℕ
+  pub xs : List Number
+  pub ps : List Number
   pub wa : List ℕ
   pub pa : List ℕ
   pub wb : List ℕ
@@ -86,12 +87,12 @@ module _ (p : Spot) (q : Lists) where
     made : (l : ℕ) → l < p.k → Made p l (get_or q.pa (p.i * p.k + l) 0) (get_or q.pb (l * p.n + p.j) 0)
     made l h = record { first = P.a_parts.each _ (read l h).first; second = P.b_parts.each _ (read l h).second }
 
-    -- the numbers of the words
-    mid_word : (l : ℕ) → l < p.k → IsNumber (number mids l) × (worth (number mids l) ≡ value_of (a_mid p l))
-    mid_word l h = finite_number (a_mid p l) (number mids l) (read l h).cell_first.mid (P.mid_row.each l h)
+    -- the numbers of the row
+    mid_number : (l : ℕ) → l < p.k → IsNumber (number mids l) × (worth (number mids l) ≡ value_of (a_mid p l))
+    mid_number l h = finite_number (a_mid p l) (number mids l) (read l h).cell_first.mid (P.mid_row.each l h)
 
-    part_word : (l : ℕ) → l < p.k → IsNumber (number parts l) × (worth (number parts l) ≡ part (value_of (a_mid p l)) (value_of (a_rad p l)))
-    part_word l h =
+    part_number : (l : ℕ) → l < p.k → IsNumber (number parts l) × (worth (number parts l) ≡ part (value_of (a_mid p l)) (value_of (a_rad p l)))
+    part_number l h =
         let w = finite_number (get_or q.pa (p.i * p.k + l) 0) (number parts l) (held_number _ _ (made l h).first) (P.part_row.each l h) in
         (w.0, w.1 ∙ held_value _ _ (made l h).first)
 
@@ -104,7 +105,7 @@ module _ (p : Spot) (q : Lists) where
         let r = reaches p p.ma p.mb (m * p.k) read P.sized.a.mids P.sized.b.mids in
         record {
           few = P.sized.inner;
-          left = λ l h. (omega (arith, P.mid_row.long), (mid_word l h).0);
+          left = λ l h. (omega (arith, P.mid_row.long), (mid_number l h).0);
           right = λ l h. ((r.right l h).0, (r.right l h).1, (read l h).cell_second.mid);
         }
 
@@ -113,7 +114,7 @@ module _ (p : Spot) (q : Lists) where
         let r = reaches p q.pa q.pb (m * p.k) read P.a_parts.long P.b_parts.long in
         record {
           few = P.sized.inner;
-          left = λ l h. (omega (arith, P.part_row.long), (part_word l h).0);
+          left = λ l h. (omega (arith, P.part_row.long), (part_number l h).0);
           right = λ l h. ((r.right l h).0, (r.right l h).1, held_number _ _ (made l h).second);
         }
 
@@ -124,14 +125,14 @@ module _ (p : Spot) (q : Lists) where
     centre_is : centre_over mids parts ≡ centre₇ (of binary32) p.k (left p) (right p) (near binary32)
     unfolding centre_from centre₇ centre total mid_term part_term
     centre_is =
-        ap (λ m. bind m λ v. centre_from parts v p.k) (sum_ext (near binary32 1) _ _ (pos 0) p.k (λ l h. ap (λ x. mul near x (value_of (b_mid p l))) (mid_word l h).1))
-        ∙ bind_each _ (λ v. sum_ext (near binary32 1) _ _ v p.k (λ l h. ap₂ (mul near) (part_word l h).1 (b_part l h)))
+        ap (λ m. bind m λ v. centre_from parts v p.k) (sum_ext (near binary32 1) _ _ (pos 0) p.k (λ l h. ap (λ x. mul near x (value_of (b_mid p l))) (mid_number l h).1))
+        ∙ bind_each _ (λ v. sum_ext (near binary32 1) _ _ v p.k (λ l h. ap₂ (mul near) (part_number l h).1 (b_part l h)))
 
     size_is : size_over mids parts ≡ size₅ (of binary32) p.k (left p) (right p)
     unfolding size_from size₅ total mid_size_term part_size_term
     size_is =
-        ap (λ m. bind m λ v. size_from parts v p.k) (sum_ext (near binary32 1) _ _ (pos 0) p.k (λ l h. ap (λ x. mul near (abs x) (abs (value_of (b_mid p l)))) (mid_word l h).1))
-        ∙ bind_each _ (λ v. sum_ext (near binary32 1) _ _ v p.k (λ l h. ap₂ (λ x y. mul near (abs x) (abs y)) (part_word l h).1 (b_part l h)))
+        ap (λ m. bind m λ v. size_from parts v p.k) (sum_ext (near binary32 1) _ _ (pos 0) p.k (λ l h. ap (λ x. mul near (abs x) (abs (value_of (b_mid p l)))) (mid_number l h).1))
+        ∙ bind_each _ (λ v. sum_ext (near binary32 1) _ _ v p.k (λ l h. ap₂ (λ x y. mul near (abs x) (abs y)) (part_number l h).1 (b_part l h)))
 
     sum_is : grown_by outers (pos 0) p.k ≡ total (of binary32) p.k (left p) (right p) (up binary32) (largest_term (of binary32)) (pos 0)
     unfolding grown_by total

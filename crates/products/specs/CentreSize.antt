@@ -10,10 +10,9 @@ use Rattle.enclosure.specs.Sums.{sum}
 use Rattle.binary32.specs.Number.{value_of, Finite}
 use Rattle.binary32.specs.Operations.{mul}
 use Rattle.unpacked.specs.declared.Number.{Number}
-use Rattle.unpacked.specs.Number.{worth, IsNumber, Below, Holds, Runs}
+use Rattle.unpacked.specs.Number.{worth, IsNumber, Below, Holds, Runs, zero_number}
 use Rattle.products.specs.declared.centre_size.CentreSize.{CentreSize}
 use Rattle.products.specs.Continued.{Line, grown_by}
-use Rattle.products.specs.Row.{number_of}
 
 -- v + t, to nearest; none where t is none
 abbrev pub plus_near : ℤ → Option ℤ → Option ℤ
@@ -32,18 +31,18 @@ Sized c g (Some r) = Runs c r.centre × Runs g r.size
 abbrev pub SizedStep : (s : CentreSize) (x y : ℤ) → Maybe CentreSize → Type 0
 SizedStep s x y = Sized (plus_near (worth s.centre) (mul near x y)) (plus_near (worth s.size) (minus_size x y))
 
--- ---- sums over the pairs of a row, unpacked into words, and of column j of patterns with n columns
+-- ---- sums over the pairs of an unpacked row, and of column j of patterns with n columns
 pub record Pairs : Type 0 where
   pub k : ℕ
   pub n : ℕ
   pub j : ℕ
-  pub row : List ℕ
+  pub row : List Number
   pub column : List ℕ
 
 module _ (p : Pairs) where
   -- the factors of pair l
   abbrev pub number : ℕ → Number
-  number l = number_of (get_or p.row l 0)
+  number l = get_or p.row l zero_number
 
   abbrev pub pattern : ℕ → ℕ
   pattern l = get_or p.column (l * p.n + p.j) 0

@@ -32,11 +32,11 @@ fn radius(size: Number, line: Line) -> Number
     plus::<Down>(twice_error(size, line.k), less)
 }
 
-// A row of A unpacked: the words of its midpoints and of its parts.
+// A row of A unpacked: its midpoints and its parts.
 #[derive(Clone, Copy)]
-pub struct Words {
-    pub mids: [u64; LARGEST_SIZE],
-    pub parts: [u64; LARGEST_SIZE],
+pub struct Unpacked {
+    pub mids: [Number; LARGEST_SIZE],
+    pub parts: [Number; LARGEST_SIZE],
 }
 
 // wa and wb have |m| + r for each cell of A and of B, pa and pb the part p.
@@ -50,7 +50,7 @@ pub struct Five<'a> {
 }
 
 impl<'a> Steps for Five<'a> {
-    type Row = Words;
+    type Row = Unpacked;
 
     type Sum = ();
 
@@ -74,14 +74,14 @@ impl<'a> Steps for Five<'a> {
         self.of.shape
     }
 
-    fn blank(self) -> Words {
-        Words {
-            mids: [0; LARGEST_SIZE],
-            parts: [0; LARGEST_SIZE],
+    fn blank(self) -> Unpacked {
+        Unpacked {
+            mids: [zero(); LARGEST_SIZE],
+            parts: [zero(); LARGEST_SIZE],
         }
     }
 
-    fn take_apart(self, i: usize, row: &mut Words) {
+    fn take_apart(self, i: usize, row: &mut Unpacked) {
         unpack_row(self.of.shape.k, i, self.of.ma, &mut row.mids);
         unpack_row(self.of.shape.k, i, self.pa, &mut row.parts);
     }
@@ -89,11 +89,11 @@ impl<'a> Steps for Five<'a> {
     // The sums are worked out in the end, by functions of their own.
     fn start(self) {}
 
-    fn step(self, _row: &Words, _s: (), _i: usize, _j: usize, _l: usize) -> Option<()> {
+    fn step(self, _row: &Unpacked, _s: (), _i: usize, _j: usize, _l: usize) -> Option<()> {
         Some(())
     }
 
-    fn finish(self, row: &Words, _s: (), i: usize, j: usize) -> Option<Sums> {
+    fn finish(self, row: &Unpacked, _s: (), i: usize, j: usize) -> Option<Sums> {
         let Shape { k, n, .. } = self.of.shape;
         let mids = Pairs {
             k,

@@ -18,7 +18,7 @@ use Rattle.products.proofs.FiveRange.{first_none, second_none, radius_none, rang
 use Rattle.products.proofs.five.FiveSteps.finish.Goals as goal
 
 -- what was worked out before
-abbrev lists : (xs ps wa pa wb pb : List ℕ) → Lists
+abbrev lists : (xs ps : List Number) (wa pa wb pb : List ℕ) → Lists
 lists xs ps wa pa wb pb = record { xs = xs; ps = ps; wa = wa; pa = pa; wb = wb; pb = pb }
 
 prepared : (p : Spot) (q : Lists) (m : ℕ) {lo up : ℕ}
