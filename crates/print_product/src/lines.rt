@@ -58,13 +58,8 @@ fn cell_lines(out: &mut [u8], product: &Product) -> usize
     let mut n = 0;
     for p in 0..rows * columns {
         let (row, column) = (p / columns, p % columns);
-        n += cell_line(
-            &mut out[n..],
-            row,
-            column,
-            product.lowers[p],
-            product.uppers[p],
-        );
+        let (lower, upper) = (product.lowers[p], product.uppers[p]);
+        n += cell_line(&mut out[n..], row, column, lower, upper);
     }
     n
 }
