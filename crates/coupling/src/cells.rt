@@ -111,7 +111,5 @@ pub fn coupling_product(
         lowers: bl,
         uppers: bu,
     };
-    refusals::code(products::product(
-        method, a, b, ma, ra, mb, rb, lo, up,
-    ))
+    refusals::code(products::product(method, a, b, ma, ra, mb, rb, lo, up))
 }

@@ -1,11 +1,9 @@
 -- The running sums of methods 4 and 7: where they start, what a step makes of them, and that they go on or that one of them is refused.
 use mathlib.Core.Path.{◌≡◌, refl, sym, ap, subst}
-use mathlib.Core.Bool.{false}
 use mathlib.Core.Logic.{inl, inr}
 use Rattle.std.specs.Prelude.{Some, None}
-use mathlib.Core.Option.{Option, none, some}
-use Prim.Native.Nat.{ℕ, ◌+◌, ◌≤◌, ◌<◌}
-use borrow.Author.Tests.{le-ltb}
+use mathlib.Core.Option.{Option, some}
+use Prim.Native.Nat.{ℕ, ◌+◌, ◌<◌}
 use lib.IntN.{ℤ, pos, neg_ℤ, neg_ℤ-neg_ℤ}
 use Rattle.rounding.specs.Format.{binary32}
 use Rattle.rounding.specs.Rounding.{up, down, negate}
@@ -14,8 +12,6 @@ use Rattle.binary32.specs.Operations.{mul, with₂}
 use Rattle.unpacked.specs.declared.Number.{Number}
 use Rattle.products.specs.declared.centred.Centred.{Centred}
 use Rattle.unpacked.specs.Number.{worth, IsNumber, Holds, Runs, zero_number, no_number}
-use Rattle.unpacked.proofs.Packing.{exp_high}
-use Rattle.unpacked.proofs.Unpacking.{none_holds}
 use Rattle.products.specs.Running.{plus_down}
 use Rattle.products.specs.Centred.{Added, CentredSum, OneNone}
 use Rattle.products.proofs.Carrying.{number_runs, no_holds, runs_holds, holds_none, zero_runs, negate_none, down_more, up_more, sum_stays}
@@ -32,7 +28,7 @@ radius_more h c l x r t R e H = up_more h c l x r (h l) R refl (subst (λ u. Hol
 -- ---- the three sums of terms f, g and h, from a, b and c
 module _ (f g h : ℕ → Option ℤ) (a b c : ℤ) where
   module _ (l : ℕ) (s : Centred) (x y : ℕ) (t : Option ℤ) (S : CentredSum (sum (down binary32 1) f a l) (sum (up binary32 1) g b l) (sum (up binary32 1) h c l) s)
-    (e : f l ≡ with₂ (mul down) x y) (d : g l ≡ with₂ (mul up) x y) (q : t ≡ negate (h l)) where
+      (e : f l ≡ with₂ (mul down) x y) (d : g l ≡ with₂ (mul up) x y) (q : t ≡ negate (h l)) where
     -- after a step
     pub centred_more : (r : Centred) → Added s x y t (Some r) → CentredSum (sum (down binary32 1) f a (l + 1)) (sum (up binary32 1) g b (l + 1)) (sum (up binary32 1) h c (l + 1)) r
     centred_more r A =

@@ -33,7 +33,7 @@ use Rattle.products.specs.Continued.{Line, first, second, grown_by, Continued, c
 use Rattle.unpacked.proofs.CornerRounding.{mirror}
 use Rattle.unpacked.proofs.CornerTerms.{zero_value, zero_left}
 use Rattle.unpacked.proofs.Patterns.{held_is, held_magnitude, magnitude_value, magnitude_test}
-use Rattle.products.proofs.Carrying.{true_false, holds_runs, runs_holds, holds_none, negate², negate_none, up_more, sum_stays}
+use Rattle.products.proofs.Carrying.{holds_runs, runs_holds, holds_none, negate², negate_none, up_more, sum_stays}
 use Rattle.products.proofs.Radii.{abs_same, grown_below}
 use Rattle.products.proofs.CentredSteps.{centred_none, centred_more, centred_from, one_stays, radius_from}
 use Rattle.products.proofs.MidRadSteps.{with_held}

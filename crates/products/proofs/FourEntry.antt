@@ -15,22 +15,20 @@ use lib.ListN.{length, get_or}
 use Rattle.rounding.specs.Format.{binary32}
 use Rattle.rounding.specs.Rounding.{up, down, negate}
 use Rattle.enclosure.specs.Arithmetic.{of}
-use Rattle.enclosure.specs.Cell.{Cell}
 use Rattle.enclosure.specs.Sums.{sum}
 use Rattle.enclosure.proofs.Sums.{sum_ext}
-use Rattle.enclosure.specs.Methods.{Method, Range, four, mid_term, inner_term, outer_term, total, radius₄, centre, ends, entry}
+use Rattle.enclosure.specs.Methods.{Method, Range, four, outer_term, total, radius₄, centre, ends, entry}
 use Rattle.binary32.specs.Number.{value_of, held}
-use Rattle.binary32.specs.Operations.{Way}
 use Rattle.binary32.specs.Order.{magnitude_of}
 use Rattle.unpacked.specs.declared.Number.{Number}
 use Rattle.products.specs.declared.centred.Centred.{Centred}
 use Rattle.products.specs.declared.sums.Sums.{Sums}
 use Rattle.unpacked.specs.Number.{worth, Below, Holds, Runs, zero_number}
 use Rattle.products.specs.Running.{Ended, HoldsRange}
-use Rattle.products.specs.Centred.{growth, Added, CentredSum, OneNone}
+use Rattle.products.specs.Centred.{growth, Added, OneNone}
 use Rattle.products.specs.Continued.{Line, Reaches, grown_by, Continued}
 use Rattle.products.specs.Derived.{outer_of}
-use Rattle.products.specs.MidRad.{mid_rad_at, entry_from}
+use Rattle.products.specs.MidRad.{entry_from}
 use Rattle.products.specs.Spot.{Spot, a_mid, a_rad, b_mid, b_rad, left, right, middles, inners, MiddleSum, MiddleNone, MiddleAfter}
 use Rattle.products.proofs.Carrying.{holds_runs, runs_holds, holds_none, zero_below, mirrored_is, negate_none}
 use Rattle.products.proofs.Radii.{grown_below}
@@ -73,10 +71,10 @@ module _ (p : Spot) where
     middle_none A h =
         one_stays _ _ _ (pos 0) (pos 0) (pos 0) l p.k h
         (centred_none _ _ _ (pos 0) (pos 0) (pos 0) l s (a_mid p l) (b_mid p l) _ S.0
-          (mid_is (a_mid p l) (a_rad p l) (b_mid p l) (b_rad p l) down P.cell_first.mid P.cell_second.mid)
-          (mid_is (a_mid p l) (a_rad p l) (b_mid p l) (b_rad p l) up P.cell_first.mid P.cell_second.mid)
-          (ap negate (sym (inner_is (a_mid p l) (a_rad p l) (b_mid p l) (b_rad p l) P.cell_first.mid P.cell_second.rad P.cell_second.nonneg)))
-          A)
+        (mid_is (a_mid p l) (a_rad p l) (b_mid p l) (b_rad p l) down P.cell_first.mid P.cell_second.mid)
+        (mid_is (a_mid p l) (a_rad p l) (b_mid p l) (b_rad p l) up P.cell_first.mid P.cell_second.mid)
+        (ap negate (sym (inner_is (a_mid p l) (a_rad p l) (b_mid p l) (b_rad p l) P.cell_first.mid P.cell_second.rad P.cell_second.nonneg)))
+        A)
 
     pub middle_after : (r : Maybe Centred) → Added s (a_mid p l) (b_mid p l) (growth (a_mid p l) (b_rad p l)) r → l < p.k → MiddleAfter p l r
     middle_after (Some r) A h = middle_more r A

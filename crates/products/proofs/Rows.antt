@@ -1,7 +1,6 @@
 -- Entries written by rows until the first that is refused, whatever computes them: what the loops over rows and columns keep, and what their two ways out leave.
 use Rattle.std.specs.Prelude.{Some, None}
 use mathlib.Core.Path.{◌≡◌, refl, sym, ap, subst, ◌∙◌}
-use mathlib.Core.Bool.{true, false}
 use mathlib.Core.List.{List}
 use mathlib.Core.Option.{Option, none}
 use Prim.Native.Nat.{ℕ, ◌+◌, ◌*◌, ◌≤◌, ◌<◌}
@@ -10,7 +9,7 @@ use native.Mathlib.Numerals.{add-one}
 use native.Mathlib.Omega.{arith}
 use lib.IntN.{neg_ℤ}
 use lib.ListN.{length, set}
-use borrow.Author.Tests.{lt-ltb, le-ltb}
+use borrow.Author.Tests.{lt-ltb}
 use Rattle.enclosure.specs.Methods.{Range}
 use Rattle.binary32.specs.Number.{pattern_of}
 use Rattle.unpacked.specs.Number.{worth}

@@ -12,7 +12,7 @@ use Rattle.rounding.proofs.Sign.{neg_le_pos}
 use Rattle.rounding.specs.Format.{binary32}
 use Rattle.rounding.specs.Rounding.{up, near, negate}
 use Rattle.enclosure.specs.Arithmetic.{of}
-use Rattle.enclosure.specs.Methods.{raised_term, total, radius₃, centre, ends, entry, three}
+use Rattle.enclosure.specs.Methods.{total, radius₃, centre, ends, entry, three}
 use Rattle.enclosure.specs.Sums.{sum}
 use Rattle.binary32.specs.Number.{value_of, held}
 use Rattle.binary32.specs.Operations.{mul, with₂}
@@ -21,7 +21,7 @@ use Rattle.products.specs.declared.nearest.Nearest.{Nearest}
 use Rattle.products.specs.declared.sums.Sums.{Sums}
 use Rattle.unpacked.specs.Number.{worth, IsNumber, Below, Holds, Runs, Opposite, minus_tiny, zero_number, no_number}
 use Rattle.products.specs.Running.{plus_down, Ended, HoldsRange}
-use Rattle.products.specs.Centred.{growth, NearAdded, NearestSum, OneNone}
+use Rattle.products.specs.Centred.{growth, NearAdded, OneNone}
 use Rattle.products.specs.Terms.{adds_of}
 use Rattle.products.specs.Derived.{raised_of, factor_of}
 use Rattle.products.proofs.Carrying.{holds_runs, runs_holds, number_runs, no_holds, holds_none, zero_runs, mirrored_is, negate_none, any_more, up_more, sum_stays}

@@ -1,18 +1,15 @@
 -- The running sums of methods 3, 4 and 7. Definitions only, for the contracts of inner functions.
-use Rattle.std.specs.Prelude.{◌≡◌, Bool, true, cond, ◌⊎◌, ℕ, ◌*◌, ◌^◌, ◌<◌, leb, ltb, ℤ, ◌+ℤ◌}
+use Rattle.std.specs.Prelude.{◌≡◌, ◌⊎◌, ℕ, ℤ, ◌+ℤ◌}
 use Rattle.std.proofs.Math.Option.{Option, none, bind}
 use Rattle.std.specs.Prelude.{Option as Maybe, Some, None}
-use Rattle.algebra.specs.Absolute.{abs}
 use Rattle.rounding.specs.Format.{binary32}
 use Rattle.rounding.specs.Rounding.{up, down, near, negate}
 use Rattle.binary32.specs.Operations.{mul, with₂}
 use Rattle.binary32.specs.Order.{magnitude_of}
 use Rattle.unpacked.specs.declared.Number.{Number}
-use Rattle.unpacked.specs.declared.Product.{Product}
-use Rattle.unpacked.specs.Exact.{Exact}
 use Rattle.products.specs.declared.centred.Centred.{Centred}
 use Rattle.products.specs.declared.nearest.Nearest.{Nearest}
-use Rattle.unpacked.specs.Number.{worth, IsNumber, Below, Holds, Runs, zero_number}
+use Rattle.unpacked.specs.Number.{worth, Below, Holds, Runs}
 use Rattle.products.specs.Running.{plus_down}
 
 -- ---- a radius, kept negated: it is not above zero, and rounding it up is rounding down

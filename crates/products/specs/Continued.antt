@@ -1,5 +1,5 @@
 -- Sums continued over the pairs of a row and a column. Definitions only, for the contracts of inner functions.
-use Rattle.std.specs.Prelude.{◌≡◌, true, false, List, ℕ, ◌+◌, ◌*◌, ◌<◌, ℤ, neg_ℤ, length, get_or}
+use Rattle.std.specs.Prelude.{List, ℕ, ◌+◌, ◌*◌, ◌<◌, ℤ, neg_ℤ, length, get_or}
 use Rattle.std.proofs.Math.Option.{Option}
 use Rattle.std.specs.Prelude.{Option as Maybe, Some, None}
 use Rattle.rounding.specs.Format.{binary32}

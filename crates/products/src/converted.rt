@@ -49,6 +49,7 @@ fn by_four(of: Operands, lo: &mut [u32], up: &mut [u32]) -> Option<Place>
 }
 
 // Method 5: wa and wb have |m| + r of A's and B's cells, pa and pb their parts.
+#[inline(never)]
 fn by_five(of: Operands, lo: &mut [u32], up: &mut [u32]) -> Option<Place>
     requires { Fits of (length lo.old) (length up.old) }
     ensures { EntriesOf five of.entry lo.old up.old result lo.new up.new }

@@ -27,6 +27,7 @@ pub const NONE_SIGNIFICAND: i64 = -LEAST_SIGNIFICAND;
 
 // A number, sig × 2^(exp - BIAS) units, with |sig| from 2^23 to 2^24, or zero; or none, which stands for an overflow or a pattern with exponent field 255.
 // None is a negative value far below all numbers, so that a sum with it is far below all numbers too. No Option: the laws of sums speak of none as of a number.
+// No ghost field: no one fact holds of all. It is a number, none, and also a sum of 24 bits before the largest number limits it, so these stay clauses.
 #[derive(Clone, Copy, Debug, PartialEq, Eq)]
 pub struct Number {
     pub sig: i64,
@@ -41,6 +42,7 @@ pub struct Aligned {
 }
 
 // The exact product of two numbers: sig × 2^(exp - 950) units, with |sig| from 2^47 to 2^48, or zero.
+// No ghost field says so: `times` asks its factors to be in normal form and no more, and zero times one that lies between numbers and none is not formed.
 #[derive(Clone, Copy, Debug, PartialEq, Eq)]
 pub struct Product {
     pub sig: i64,

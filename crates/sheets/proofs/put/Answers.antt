@@ -9,11 +9,11 @@ use Rattle.sheets.proofs.put.Goals as goal
 pub overflow_sub-total : goal.overflow_sub-total
 overflow_sub-total c = omega (arith, (bytes_tell _ _ _ _ _ _ (sym c.check_write.ensures ∙ c.in_ok-n.was)).bytes)
 
-pub overflow_cast-matrix : goal.overflow_cast-matrix
-overflow_cast-matrix c = omega (arith, (bytes_tell _ _ _ _ _ _ (sym c.check_write.ensures ∙ c.in_ok-n.was)).sized.rows)
+pub overflow_cast-rows : goal.overflow_cast-rows
+overflow_cast-rows c = omega (arith, (bytes_tell _ _ _ _ _ _ (sym c.check_write.ensures ∙ c.in_ok-n.was)).sized.rows)
 
-pub overflow_cast-matrix-2 : goal.overflow_cast-matrix-2
-overflow_cast-matrix-2 c = omega (arith, (bytes_tell _ _ _ _ _ _ (sym c.check_write.ensures ∙ c.in_ok-n.was)).sized.columns)
+pub overflow_cast-columns : goal.overflow_cast-columns
+overflow_cast-columns c = omega (arith, (bytes_tell _ _ _ _ _ _ (sym c.check_write.ensures ∙ c.in_ok-n.was)).sized.columns)
 
 pub overflow_cast-total : goal.overflow_cast-total
 overflow_cast-total c = let g = bytes_tell _ _ _ _ _ _ (sym c.check_write.ensures ∙ c.in_ok-n.was) in omega (arith, g.bytes, g.few, g.counted)

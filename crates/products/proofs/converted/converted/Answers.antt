@@ -1,7 +1,5 @@
 -- `products::converted::converted` meets its contract: each value stands for the method that is called.
-use mathlib.Core.Path.{◌≡◌, ap, sym}
-use Rattle.enclosure.specs.Methods.{Method, three, four, five, seven}
-use Rattle.matrices.specs.declared.methods.Method.TheVariants.{Three, Four, Five, Seven}
+use mathlib.Core.Path.{ap, sym}
 use Rattle.matrices.specs.Methods.{meant}
 use Rattle.products.proofs.Chosen.{last}
 use Rattle.products.proofs.WrittenExt.{written_by}

@@ -1,7 +1,5 @@
 -- `products::five::radius` meets its contract: the sum of `outer`, then - G and + 2 × E (`ErrorBounds`).
 use mathlib.Core.Path.{◌≡◌, refl, sym, subst}
-use mathlib.Core.List.{List}
-use Prim.Native.Nat.{ℕ}
 use lib.IntN.{pos, neg_ℤ}
 use Rattle.rounding.specs.Format.{binary32, Num}
 use Rattle.rounding.specs.Rounding.{negate}

@@ -1,5 +1,5 @@
 -- `products::pair::add_pair` meets its contract: a step on the sums of the patterns, where neither they nor the cells have a fault.
-use mathlib.Core.Path.{◌≡◌, sym, ap, ap₂, subst, ◌∙◌}
+use mathlib.Core.Path.{◌≡◌, sym, ap₂, subst, ◌∙◌}
 use Prim.Native.Nat.{ℕ}
 use Rattle.std.specs.Prelude.{Option as Maybe, Some, None}
 use Rattle.rounding.specs.Format.{binary32}

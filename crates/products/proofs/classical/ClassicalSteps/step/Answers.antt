@@ -1,5 +1,5 @@
 -- `Classical::step` meets its contract: the cells of a pair, a pair that is passed over, and the sums after a pair.
-use mathlib.Core.Path.{◌≡◌, refl, sym, ◌∙◌, subst}
+use mathlib.Core.Path.{refl, sym, ◌∙◌, subst}
 use Prim.Native.Nat.{ℕ, ◌+◌, ◌*◌, ◌<◌}
 use Rattle.std.specs.Prelude.{Option as Maybe}
 use Rattle.products.specs.Entries.{Going}

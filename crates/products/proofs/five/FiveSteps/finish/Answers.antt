@@ -6,14 +6,12 @@ use Rattle.enclosure.specs.Methods.{five}
 use Rattle.products.specs.Running.{HoldsRange}
 use lib.IntN.{pos}
 use Rattle.unpacked.specs.declared.Number.{Number}
-use Rattle.unpacked.specs.Number.{worth, IsNumber, Below, zero_number}
-use Rattle.products.specs.declared.centre_size.CentreSize.{CentreSize}
+use Rattle.unpacked.specs.Number.{worth, zero_number}
 use Rattle.products.specs.Derived.{Derived, outer_of, part_of}
 use Rattle.products.specs.MidRad.{Sized, entries_of}
 use Rattle.products.specs.Row.{RowUnpacked}
 use Rattle.products.specs.Spot.{Spot, spot}
-use Rattle.products.proofs.Carrying.{zero_runs, zero_below}
-use Rattle.products.proofs.FiveEntry.{Lists, Prepared, mids, parts, outers, five_none, five_holds, mids_paired, parts_paired, outers_reach}
+use Rattle.products.proofs.FiveEntry.{Lists, Prepared, mids, parts, outers, five_none, five_holds, mids_paired, parts_paired}
 use Rattle.products.proofs.FiveRange.{first_none, second_none, radius_none, range_holds}
 use Rattle.products.proofs.five.FiveSteps.finish.Goals as goal
 

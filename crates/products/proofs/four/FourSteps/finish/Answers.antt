@@ -1,8 +1,8 @@
 -- `Four::finish` meets its contract: the radius and the entry.
 use mathlib.Core.Path.{refl, sym, ◌∙◌}
 use Rattle.products.specs.Spot.{spot}
-use Rattle.products.proofs.FourEntry.{middle_below, reaches, four_outer, four_holds}
-use Rattle.products.proofs.Turns.{pair, radius_runs, radius_none}
+use Rattle.products.proofs.FourEntry.{middle_below, four_outer, four_holds}
+use Rattle.products.proofs.Turns.{radius_runs, radius_none}
 use Rattle.products.proofs.four.FourSteps.finish.Goals as goal
 
 pub outer-radius-requires : goal.outer-radius-requires

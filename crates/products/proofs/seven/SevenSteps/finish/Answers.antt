@@ -5,9 +5,9 @@ use Rattle.enclosure.specs.Methods.{seven}
 use Rattle.products.specs.Running.{HoldsRange}
 use Rattle.products.specs.MidRad.{entries_of}
 use Rattle.products.specs.Spot.{spot}
-use Rattle.products.proofs.FourEntry.{middle_below, reaches}
+use Rattle.products.proofs.FourEntry.{middle_below}
 use Rattle.products.proofs.SevenEntry.{seven_outer, seven_parts, seven_holds, held_number}
-use Rattle.products.proofs.Turns.{pair, radius_runs, radius_none, made}
+use Rattle.products.proofs.Turns.{radius_runs, radius_none, made}
 use Rattle.products.proofs.seven.SevenSteps.finish.Goals as goal
 
 pub outer-radius-requires : goal.outer-radius-requires

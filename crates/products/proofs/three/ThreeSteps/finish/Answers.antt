@@ -2,10 +2,9 @@
 use mathlib.Core.Path.{refl, sym, ◌∙◌}
 use Rattle.unpacked.proofs.Opposites.{opposite_number}
 use Rattle.products.specs.Spot.{spot}
-use Rattle.products.proofs.FourEntry.{reaches}
 use Rattle.products.proofs.NearestSteps.{tiny_holds, tiny_below}
 use Rattle.products.proofs.ThreeSteps.{tiny_next, tiny_sum, tiny_number, tiny_none, three_tiny, three_outer, three_holds}
-use Rattle.products.proofs.Turns.{pair, radius_runs, radius_none}
+use Rattle.products.proofs.Turns.{radius_runs, radius_none}
 use Rattle.products.proofs.three.ThreeSteps.finish.Goals as goal
 
 pub plus_negative-inner-requires : goal.plus_negative-inner-requires
