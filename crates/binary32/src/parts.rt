@@ -20,7 +20,8 @@ pub fn with_sign(neg: bool, m: u32) -> i64
     if neg { -s } else { s }
 }
 
-// The number of a pattern: its fraction, with the implicit leading bit where the exponent field is not 0, and its exponent.
+// The number of a pattern: its fraction, with the implicit leading bit where the exponent field is not 0, and its exponent. (`Finite p` stays a clause: patterns
+// come out of slices as words, here and where `products` and `sheets` ask it.)
 pub fn decode(p: u32) -> Parts
     requires { Finite p }
     ensures { Decoded p result }
