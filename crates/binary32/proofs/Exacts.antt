@@ -8,7 +8,8 @@ use lib.IntN.{ℤ}
 use Rattle.rounding.specs.Format.{binary32}
 use Rattle.rounding.specs.Rounding.{up, down, near}
 use Rattle.refusals.specs.declared.reason.Reason.TheVariants.{NotFinite, TooLarge}
-use Rattle.refusals.specs.Answer.{Judged, gives, refuses}
+use Rattle.refusals.specs.declared.Refusal.{Refusal}
+use Rattle.refusals.specs.Answer.{Answer, Judged, gives, refuses, refuse, unplaced}
 use Rattle.binary32.specs.declared.parts.Parts.{Parts}
 use Rattle.binary32.specs.declared.funnel.Ways.{Ways}
 use Rattle.std.specs.Prelude.{Some, None}
@@ -76,3 +77,15 @@ pub answered : {way : Way} {picked : Ways → ℤ} {z below above : ℕ} → Dir
     → r ≡ answer (λ x y. way binary32 D (F x y)) a b
 unfolding Fits
 answered {z} laws D F a b d e f = e ∙ ap (checked_of a b) f ∙ checked_is _ a b z laws.outside (λ v. laws.numbers D _ v d)
+
+-- a refusal of an operation names no matrix and no cell: its reason is all of it
+pub answer_number : (op : ℤ → ℤ → Option ℤ) (a b : ℕ) (r : Refusal) → refuses r ≡ unplaced (answer op a b) → refuse r.reason ≡ unplaced (answer op a b)
+answer_number op a b r e = ap again e ∙ go (answer op a b)
+  where
+    again : Answer ℕ → Answer ℕ
+    again (gives p) = gives p
+    again (refuses x) = refuse x.reason
+
+    go : (m : Judged ℕ) → again (unplaced m) ≡ unplaced m
+    go (gives p) = refl
+    go (refuses n) = refl

@@ -1,11 +1,14 @@
--- Laws of what reader and writer answer: its number fits 32 bits. Assumes nothing.
-use mathlib.Core.Path.{◌≡◌}
+-- Laws of what reader and writer answer: its number fits 32 bits; and of what a refused conversion leaves. Assumes nothing.
+use mathlib.Core.Path.{◌≡◌, ap, ◌∙◌}
 use Prim.Native.Nat.{ℕ, ◌≤◌}
-use Rattle.refusals.specs.Answer.{Answer, gives, refuses}
+use Rattle.refusals.specs.declared.reason.Reason.{Reason}
+use Rattle.refusals.specs.Refusal.{of_matrix, code_of}
+use Rattle.refusals.specs.Answer.{Answer, Judged, gives, refuses, coded, unplaced}
 use Rattle.refusals.proofs.SizeLaws.{Fitting}
 use Rattle.sheets.specs.declared.Sizes.{Sizes}
 use Rattle.sheets.specs.Reading.{sizes}
 use Rattle.coupling.specs.Cells.{SmallSizes, Short}
+use Rattle.coupling.specs.Conversions.{first_after, second_after}
 
 -- a length that is written is short, where the code's answer w is o
 pub short : (w : Answer ℕ) {o : Answer ℕ} → w ≡ o → ((n : ℕ) → gives n ≡ o → n ≤ 16400) → Short w
@@ -16,3 +19,8 @@ short (refuses x) e h = tt
 pub small_sizes : (a : Answer Sizes) {o : Answer Sizes} {l u : ℕ} → a ≡ o → ((r c : ℕ) → gives (sizes r c) ≡ o → Fitting r c l u) → SmallSizes a
 small_sizes (gives z) e h = let f = h z.rows z.columns e in (f.rows, f.columns)
 small_sizes (refuses x) e h = tt
+
+-- a refused conversion leaves both words as they were
+pub words_kept : {x : Reason} {a : Judged (ℕ × ℕ)} {r : ℕ} (d e : ℕ) → r ≡ code_of (of_matrix x 0) → refuses x ≡ a
+    → (r ≡ coded (λ _. 0) (unplaced a)) × ((d ≡ first_after a d) × (e ≡ second_after a e))
+words_kept d e k h = (k ∙ ap (λ y. coded (λ _. 0) (unplaced y)) h, (ap (λ y. first_after y d) h, ap (λ y. second_after y e) h))

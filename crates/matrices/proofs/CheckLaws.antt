@@ -5,12 +5,14 @@ use Prim.Native.Nat.{ℕ, ◌+◌, ◌*◌, ◌/◌, ◌%◌, ◌<◌}
 use native.Mathlib.Omega.{arith}
 use lib.Dec.{ltb}
 use borrow.Author.Tests.{lt-ltb, le-ltb}
+use Rattle.refusals.specs.declared.Refusal.{Refusal}
 use Rattle.refusals.specs.declared.reason.Reason.{Reason}
 use Rattle.refusals.specs.Refusal.{of_cell}
-use Rattle.refusals.specs.Answer.{Answer, refuses, done, at_cell}
+use Rattle.refusals.specs.Answer.{Answer, refuses, done, at_cell, then}
+use Rattle.refusals.proofs.Answers.{then_gives, then_refuses}
 use Rattle.matrices.specs.Lists.{first}
 use Rattle.matrices.specs.Matrix.{Matrix, fault_at}
-use Rattle.matrices.specs.Checks.{faulty, check_cells}
+use Rattle.matrices.specs.Checks.{Given, faulty, check_cells, check_both, check_slices, check_shapes, check_of}
 use Rattle.matrices.proofs.Firsts.{first_none, first_more, first_here}
 
 -- ---- 3 and 4
@@ -48,3 +50,20 @@ module _ (matrix rows columns : ℕ) (X : Matrix) where
   pub cells_done : Passed X (rows * columns) → done ≡ check_cells matrix rows columns X
   unfolding check_cells
   cells_done h = sym (ap by_position h ∙ ap (λ u. cond u (at n) done) (le-ltb n n (omega arith)))
+
+-- ---- all of them
+module _ (g : Given) where
+  abbrev pub both : Answer (Unit {0})
+  both = check_both g.a_rows g.a_columns g.b_rows g.b_columns g.A g.B
+
+  pub all_1 : (x : Refusal) → check_shapes g ≡ refuses x → refuses x ≡ check_of g
+  unfolding check_of
+  all_1 x e = then_refuses (check_shapes g) (then (check_slices g) both) x e
+
+  pub all_2 : (x : Refusal) → check_shapes g ≡ done → check_slices g ≡ refuses x → refuses x ≡ check_of g
+  unfolding check_of
+  all_2 x e f = then_gives (check_shapes g) tt (then (check_slices g) both) (refuses x) e (then_refuses (check_slices g) both x f)
+
+  pub all_3 : (r : Answer (Unit {0})) → check_shapes g ≡ done → check_slices g ≡ done → r ≡ both → r ≡ check_of g
+  unfolding check_of
+  all_3 r e f i = then_gives (check_shapes g) tt (then (check_slices g) both) r e (then_gives (check_slices g) tt both r f i)

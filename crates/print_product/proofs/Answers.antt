@@ -3,7 +3,7 @@ use mathlib.Core.Path.{◌≡◌, refl, sym, ap, ap₂, ◌∙◌}
 use mathlib.Core.List.{List, ◌++◌}
 use Prim.Native.Nat.{ℕ, zero, suc, ◌-◌, ◌*◌, ◌/◌, ◌%◌, ◌≤◌, min}
 use native.Mathlib.Omega.{arith}
-use lib.ListN.{length, take, drop}
+use lib.ListN.{length, take, drop, length-append}
 use lib.Seq.{get_or-take}
 use Rattle.refusals.specs.Answer.{Answer, gives}
 use Rattle.sheets.specs.Cut.{first_length}
@@ -35,3 +35,7 @@ sheets_text_is method s m k d e f g = rw d (ap₂ (λ a b. answer_text method (j
 pub printed_is : (s : List ℕ) (m k : ℕ) → m ≡ method_in s → k ≡ min (length s) 1 → sheets_text m (take (length s - k) (drop k s)) ≡ printed_of s
 unfolding printed_of
 printed_is s m k e f = ap₂ sheets_text e (rest_is s k ∙ behind_digit s k f)
+
+-- the text is no longer than its buffer
+pub printed_fits : (s d out : List ℕ) (r : ℕ) → (r ≡ length (printed_of s)) × (out ≡ printed_of s ++ drop (length (printed_of s)) d) → r ≤ length out
+printed_fits s d out r e = omega (arith, e.0, ap length e.1, length-append (printed_of s) (drop (length (printed_of s)) d))

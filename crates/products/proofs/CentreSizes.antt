@@ -71,6 +71,10 @@ module _ (p : Pairs) where
   unfolding centre_from size_from sum
   sized_start s = record { centre = record { is = refl; number = s.centre_number }; size = record { is = ap some (neg_ℤ-neg_ℤ (worth s.size)); number = s.size_number }; below = s.below }
 
+  -- after any pairs both sums are numbers, and G, kept negated, is not above zero
+  pub sized_numbers : (s : CentreSize) (l : ℕ) (r : CentreSize) → SizedSum p s l r → IsNumber r.centre × IsNumber r.size × Below r.size
+  sized_numbers s l r S = (S.centre.number, S.size.number, S.below)
+
   -- ---- after a step
   module _ (s : CentreSize) (l : ℕ) (r : CentreSize) (S : SizedSum p s l r) where
     centre_next : (t : Number) → Holds (plus_near (worth r.centre) (mul near (worth (number p l)) (value_of (pattern p l)))) t → Holds (centre_from p (worth s.centre) (l + 1)) t

@@ -1,7 +1,7 @@
 -- The running sums of an entry by method 1 from pair to pair (`SumsAfter`): they start at [0, 0], a step adds a pair, a pair with a cell [0, 0] adds nothing,
 -- after k pairs they hold the entry, and once a step is refused the entry is.
-use mathlib.Core.Path.{◌≡◌, sym, ap, ap₂, ◌∙◌, subst}
-use mathlib.Core.Option.{some, bind}
+use mathlib.Core.Path.{◌≡◌, refl, sym, ap, ap₂, ◌∙◌, subst}
+use mathlib.Core.Option.{none, some, bind}
 use Prim.Native.Nat.{ℕ, ◌+◌, ◌*◌, ◌<◌}
 use native.Mathlib.Numerals.{add-one}
 use native.Mathlib.Omega.{arith}

@@ -8,7 +8,7 @@ use mathlib.Core.Option.{Option, none, some, bind, none-ne-some}
 use Prim.Native.Nat.{ℕ, ◌+◌, ◌*◌, ◌≤◌, ◌<◌}
 use native.Mathlib.Omega.{arith}
 use lib.IntN.{ℤ, neg_ℤ, ◌+ℤ◌, ◌-ℤ◌}
-use lib.ListN.{get_or}
+use lib.ListN.{length, get_or}
 use Rattle.algebra.proofs.Linear.{reading, lin_eq}
 use Rattle.rounding.specs.Format.{binary32}
 use Rattle.rounding.specs.Rounding.{up, down, negate}
@@ -71,8 +71,11 @@ module _ (method : Method) (k n i j c : ℕ) (e : c ≡ i * n + j) (h : j < n) w
 pub record Places (k n i j l : ℕ) (ma ra mb rb : List ℕ) (size : ℕ) : Type 0 where
   pub first : i * k + l < size
   pub small_first : i * k + l < 1024
+  pub mid_first : i * k + l < length ma
   pub second : l * n + j < k * n
   pub small_second : l * n + j < 1024
+  pub mid_second : l * n + j < length mb
+  pub rad_second : l * n + j < length rb
   pub cell_first : MidRad (get_or ma (i * k + l) 0) (get_or ra (i * k + l) 0)
   pub cell_second : MidRad (get_or mb (l * n + j) 0) (get_or rb (l * n + j) 0)
 
@@ -88,8 +91,11 @@ places m k n i j l ma ra mb rb lo up S p q r =
     record {
       first = a;
       small_first = omega arith;
+      mid_first = omega arith;
       second = b;
       small_second = omega arith;
+      mid_second = omega arith;
+      rad_second = omega arith;
       cell_first = S.a.each (i * k + l) a;
       cell_second = S.b.each (l * n + j) b;
     }

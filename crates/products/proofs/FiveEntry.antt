@@ -3,10 +3,10 @@ use mathlib.Core.Path.{◌≡◌, refl, sym, ap, ap₂, ◌∙◌, subst}
 use mathlib.Core.List.{List}
 use Rattle.std.specs.Prelude.{Option as Maybe}
 use mathlib.Core.Option.{Option, none, some, bind, some-injective}
-use Prim.Native.Nat.{ℕ, ◌+◌, ◌*◌, ◌<◌}
+use Prim.Native.Nat.{ℕ, ◌+◌, ◌*◌, ◌≤◌, ◌<◌}
 use native.Mathlib.Omega.{arith}
 use lib.IntN.{ℤ, pos, ◌+ℤ◌, ◌*ℤ◌, ◌-ℤ◌}
-use lib.ListN.{get_or}
+use lib.ListN.{length, get_or}
 use Rattle.algebra.specs.Absolute.{abs}
 use Rattle.rounding.specs.Format.{binary32}
 use Rattle.rounding.specs.Rounding.{up, near}
@@ -18,12 +18,14 @@ use Rattle.binary32.specs.Operations.{mul}
 use Rattle.unpacked.specs.declared.Number.{Number}
 use Rattle.unpacked.specs.Number.{worth, IsNumber}
 use Rattle.unpacked.proofs.Patterns.{held_is}
+use Rattle.refusals.proofs.SizeLaws.{small}
+use Rattle.matrices.proofs.Places.{below}
 use Rattle.products.specs.declared.sums.Sums.{Sums}
 use Rattle.products.specs.CentreSize.{Pairs, Paired, number, centre_from, size_from, centre_over, size_over, radius_for, range_of}
 use Rattle.products.specs.Continued.{Line, Reaches, grown_by}
 use Rattle.products.specs.Derived.{Derived, outer_of, part_of}
 use Rattle.products.specs.MidRad.{Sized}
-use Rattle.products.specs.Row.{RowUnpacked}
+use Rattle.products.specs.Row.{RowReaches, RowUnpacked}
 use Rattle.products.specs.Running.{HoldsRange}
 use Rattle.products.proofs.CentreSizes.{finite_number}
 use Rattle.products.proofs.Ending.{places, position_entry_from}
@@ -45,6 +47,13 @@ unfolding bind
 by_size k S (some g) = refl
 by_size k none none = refl
 by_size k (some s) none = refl
+
+-- row i of A's patterns is within them
+pub row_reaches : (m k i : ℕ) (patterns : List ℕ) → m ≤ 32 → k ≤ 32 → i < m → m * k ≤ length patterns → RowReaches k i patterns
+row_reaches m k i patterns rows few h long = record {
+  few = few;
+  each = λ l t. let a = below i m l k h t in (omega (arith, a, small m k rows few), omega (arith, a));
+}
 
 -- what is worked out once for each cell, |m| + r (w) and the part (p), and once for each row: its midpoints (xs) and its parts (ps) unpacked
 pub record Lists : Type 0 where

@@ -9,7 +9,7 @@ use native.Mathlib.Numerals.{add-one}
 use native.Mathlib.Omega.{arith}
 use lib.IntN.{neg_ℤ}
 use lib.ListN.{length, set}
-use borrow.Author.Tests.{lt-ltb}
+use borrow.Author.Tests.{lt-ltb, le-ltb}
 use Rattle.enclosure.specs.Methods.{Range}
 use Rattle.binary32.specs.Number.{pattern_of}
 use Rattle.unpacked.specs.Number.{worth}
@@ -35,6 +35,15 @@ module _ (E : ℕ → Option Range) where
   to_start lo up = record { nowhere = refl; stop = first_none (λ c. refused (E c)); lowers = filled_none _ lo; uppers = filled_none _ up }
 
   module _ {at : ℕ} {lo₀ up₀ lo up : List ℕ} {place : Found} (W : WrittenTo at lo₀ up₀ lo up place) where
+    -- a row begins
+    pub to_again : WrittenTo at lo up lo up place
+    to_again = record {
+      nowhere = W.nowhere;
+      stop = W.stop;
+      lowers = record { long = refl; head = W.lowers.head; rest = refl };
+      uppers = record { long = refl; head = W.uppers.head; rest = refl };
+    }
+
     -- the same position, written otherwise
     pub to_at : {to : ℕ} → at ≡ to → WrittenTo to lo₀ up₀ lo up place
     to_at e = subst (λ (t : ℕ). WrittenTo t lo₀ up₀ lo up place) e W
@@ -68,11 +77,17 @@ module _ (E : ℕ → Option Range) where
     ended : (m n : ℕ) (r : Found) → stop_of E (m * n) ≡ at → r ≡ place_of m n at → Written E m n lo₀ up₀ r lo up
     ended m n r t e = record { place = rw t e; lowers = rw t (filled_is at _ lo₀ lo W.lowers); uppers = rw t (filled_is at _ up₀ up W.uppers) }
 
+    pub to_all : (m n : ℕ) → at ≡ m * n → Written E m n lo₀ up₀ place lo up
+    to_all m n e = ended m n place (ap (stop_of E) (sym e) ∙ W.stop) (rw (le-ltb at (m * n) (omega arith)) W.nowhere)
+
     pub to_none : (m n i j : ℕ) → at ≡ i * n + j → i < m → j < n → E at ≡ none → Written E m n lo₀ up₀ (Some (record { row = i; column = j })) lo up
     unfolding stop_of
     to_none m n i j e h k g =
         let l : at < m * n = omega (arith, below i m j n h k) in
         ended m n (Some (record { row = i; column = j })) (first_here (λ c. refused (E c)) at (m * n) W.stop (ap refused g) l) (rw (lt-ltb at (m * n) l, position_row i j n at e k, position_column i j n at e k))
+
+    pub to_long : (length lo ≡ length lo₀) × (length up ≡ length up₀)
+    to_long = (W.lowers.long, W.uppers.long)
 
     -- the next entry's place is within lists that are long enough
     pub to_place : (m n i j : ℕ) → m ≤ 32 → n ≤ 32 → m * n ≤ length lo₀ → m * n ≤ length up₀ → at ≡ i * n + j → i < m → j < n → (at < 1024) × (at < length lo) × (at < length up)

@@ -5,7 +5,9 @@ use Prim.Native.Nat.{ℕ, ◌+◌}
 use native.Mathlib.Omega.{arith}
 use lib.ListN.{length}
 use lib.Seq.{take_all}
+use borrow.Author.Tests.{ne_eqb}
 use Rattle.refusals.specs.declared.reason.Reason.{Reason}
+use Rattle.refusals.specs.declared.reason.Reason.TheVariants.{WrongLayout}
 use Rattle.refusals.specs.Answer.{Judged, gives, refuses, done, refuse, unplaced, and_then}
 use Rattle.refusals.proofs.Answers.{gives_injective, next_tells, then_tells, placed_tells}
 use Rattle.std.specs.List.{list_all, range_with_len}
@@ -26,6 +28,11 @@ finite_listed amounts h =
 pub rising_ranged : (amounts : List ℕ) → list_all (λ c. at_most (amount_in amounts c) (amount_in amounts (c + 1))) (range_with_len 0 7) ≡ rising amounts
 unfolding rising
 rising_ranged amounts = all_ranged (λ c. at_most (amount_in amounts c) (amount_in amounts (c + 1))) 7 0
+
+-- a load of any other length is damaged
+pub load_short : (d : List ℕ) → (length d ≡ 32 → ⊥) → refuses WrongLayout ≡ load_of d
+unfolding load_fault load_of
+load_short d h = rw (ne_eqb (length d) 32 h)
 
 -- ---- a load that the code answers with v
 
