@@ -82,8 +82,8 @@ pub accepted_is : (d : List ℕ) → (load_fault d ≡ done) ↔ ((length d ≡ 
 unfolding load_fault amounts_fault
 accepted_is d = (
   λ e.
-  let t = then_tells (unless (eqb (length d) 32) WrongLayout) _ tt e in
-  let u = then_tells (unless (all_finite (patterns_of d)) NotFinite) _ tt t.1 in
-  (eqb-true _ _ (unless_tells _ _ t.0.1), tells (patterns_of d) (unless_tells _ _ u.0.1, unless_tells _ _ u.1)),
+      let t = then_tells (unless (eqb (length d) 32) WrongLayout) _ tt e in
+      let u = then_tells (unless (all_finite (patterns_of d)) NotFinite) _ tt t.1 in
+      (eqb-true _ _ (unless_tells _ _ t.0.1), tells (patterns_of d) (unless_tells _ _ u.0.1, unless_tells _ _ u.1)),
   λ v. let t = tests (patterns_of d) v.1 in rw (eq-eqb (length d) 32 v.0, t.0, t.1),
 )

@@ -4,9 +4,9 @@ ghost use Rattle.refusals.specs.Answer.{done};
 ghost use Rattle.sheets.specs.Kind.{byte_of};
 ghost use Rattle.sheets.specs.Amount.{below_zero, check_wear, wear_amount};
 
+use crate::layout::Record;
 use binary32::Binary32;
 use binary32::finite::is_finite;
-use crate::layout::Record;
 use refusals::Refusal;
 use refusals::reason::Reason;
 

@@ -40,7 +40,9 @@ fn judge(rule: Rule, sizes: Sizes, least: usize, r: Record) -> Result<(), Refusa
         return Err(Refusal::of_matrix(Reason::NotRising, 0));
     }
     check_wear(rule.kind, r)?;
-    check_worn(r.lower, r.upper, rule.amount(r)).map_err(|reason| Refusal::of_cell(reason, 0, r.row, r.column))
+    check_worn(r.lower, r.upper, rule.amount(r)).map_err(|reason| Refusal::of_cell(
+        reason, 0, r.row, r.column,
+    ))
 }
 
 // Checks the whole chain, whose first record has the index `first`. Index 0 ends the chain.

@@ -21,9 +21,9 @@ fn passed(rule: Rule, columns: usize, r: Record) -> Result<Cell, Refusal>
         × (worn_fault r.lower r.upper (wear_amount rule.kind rule.amounts.now r.wear) ≡ done) }
     ensures { result ≡ worn_cell columns r (wear_amount rule.entry.kind rule.entry.amounts.now r.wear) }
 {
-    let (lower, upper) = widen(r.lower, r.upper, rule.amount(r)).map_err(
-        |reason| Refusal::of_cell(reason, 0, r.row, r.column),
-    )?;
+    let (lower, upper) = widen(r.lower, r.upper, rule.amount(r)).map_err(|reason| Refusal::of_cell(
+        reason, 0, r.row, r.column,
+    ))?;
     Ok(Cell {
         next: usize::from(r.next),
         position: r.position(columns),
