@@ -96,7 +96,8 @@ fn by_seven(of: Operands, lo: &mut [u32], up: &mut [u32]) -> Option<Place>
     entries(steps, lo, up)
 }
 
-// Writes the entries by this method, which is not the classical one, by rows until one is refused, and returns its row and column, or None.
+// Writes the entries by this method, which is not the classical one, by rows until one is refused, and returns its row and column, or None. One match a call:
+// closures in the place of the four functions would be named by the same match.
 pub fn converted(by: Method, of: Operands, lo: &mut [u32], up: &mut [u32]) -> Option<Place>
     requires { (by ≡ Classical → ⊥) × Fits of (length lo.old) (length up.old) }
     ensures { EntriesOf (meant by) of.entry lo.old up.old result lo.new up.new }

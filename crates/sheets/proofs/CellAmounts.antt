@@ -4,10 +4,10 @@ use mathlib.Core.Bool.{Bool, true, false, cond, not}
 use mathlib.Core.List.{List}
 use Prim.Native.Nat.{ℕ, suc, ◌-◌, ◌%◌, ◌^◌, ◌≤◌, ◌<◌}
 use native.Mathlib.Omega.{arith}
-use lib.Dec.{eqb, leb, ltb}
+use lib.Dec.{leb, ltb}
 use lib.IntN.{pos}
 use lib.Signed.{le_z}
-use borrow.Author.Tests.{le-leb, lt-leb, leb-true, eq-eqb, ltb-false, ltb-true}
+use borrow.Author.Tests.{le-leb, lt-leb, leb-true, ltb-false, ltb-true}
 use Rattle.refusals.specs.declared.reason.Reason.TheVariants.{WrongLayout, UnknownClass, NegativeAmount}
 use Rattle.refusals.specs.declared.Refusal.{Refusal}
 use Rattle.refusals.specs.Refusal.{of_cell}
@@ -19,7 +19,6 @@ use Rattle.binary32.proofs.Orders.{key_order}
 use Rattle.sheets.specs.declared.amount.Kind.{Kind}
 use Rattle.sheets.specs.declared.amount.Kind.TheVariants.{Classes, Amounts}
 use Rattle.sheets.specs.declared.layout.Record.{Record}
-use Rattle.sheets.specs.Wear.{amount_in}
 use Rattle.sheets.specs.Amount.{below_zero, check_wear, wear_amount, cell_amount}
 
 -- ---- a number below zero: a pattern above that of minus zero
