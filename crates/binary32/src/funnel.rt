@@ -30,6 +30,7 @@ fn rest(w: i64, c: i64, n: u32) -> u64
     requires { (nat_abs w < 2 ^ 61) × (n ≤ 62) × (c ≡ shr_z w (2 ^ n)) }
     ensures { result ≡ rem w (2 ^ n) }
 {
+    // What floor leaves is not negative.
     (w - (c << n)) as u64
 }
 
@@ -91,6 +92,7 @@ fn pack(c: i64, shift: u32, below: u32, above: u32) -> u32
     requires { (nat_abs c ≤ 2 ^ 24) × (shift ≤ 500) }
     ensures { result ≡ packed c shift below above }
 {
+    // c has 24 bits, so that `as` loses nothing.
     let t = shift * Binary32::HIDDEN + c.unsigned_abs() as u32;
     if t < Binary32::INFINITY {
         if c < 0 { Binary32::SIGN + t } else { t }

@@ -5,7 +5,7 @@ ghost use Rattle.binary32.specs.Steps.{Decoded};
 
 use crate::Binary32;
 
-// sig × 2^exp: in units for the number of a pattern, in 2^-149 of a unit for an exact product or sum.
+// Not the Number of crate unpacked, whose exponent counts from another unit and whose values may be none. sig × 2^exp: in units for the number of a pattern, in 2^-149 of a unit for an exact product or sum.
 #[derive(Clone, Copy)]
 pub struct Parts {
     pub sig: i64,

@@ -1,9 +1,9 @@
 -- Laws of what reader and writer answer: its number fits 32 bits; and of what a refused conversion leaves. Assumes nothing.
 use mathlib.Core.Path.{◌≡◌, ap, ◌∙◌}
 use Prim.Native.Nat.{ℕ, ◌≤◌}
-use Rattle.refusals.specs.declared.reason.Reason.{Reason}
-use Rattle.refusals.specs.Refusal.{of_matrix, code_of}
-use Rattle.refusals.specs.Answer.{Answer, Judged, gives, refuses, coded, unplaced}
+use Rattle.refusals.specs.declared.Refusal.{Refusal}
+use Rattle.refusals.specs.Refusal.{code_of}
+use Rattle.refusals.specs.Answer.{Answer, gives, refuses, coded}
 use Rattle.refusals.proofs.SizeLaws.{Fitting}
 use Rattle.sheets.specs.declared.Sizes.{Sizes}
 use Rattle.sheets.specs.Reading.{sizes}
@@ -21,6 +21,6 @@ small_sizes (gives z) e h = let f = h z.rows z.columns e in (f.rows, f.columns)
 small_sizes (refuses x) e h = tt
 
 -- a refused conversion leaves both words as they were
-pub words_kept : {x : Reason} {a : Judged (ℕ × ℕ)} {r : ℕ} (d e : ℕ) → r ≡ code_of (of_matrix x 0) → refuses x ≡ a
-    → (r ≡ coded (λ _. 0) (unplaced a)) × ((d ≡ first_after a d) × (e ≡ second_after a e))
-words_kept d e k h = (k ∙ ap (λ y. coded (λ _. 0) (unplaced y)) h, (ap (λ y. first_after y d) h, ap (λ y. second_after y e) h))
+pub words_kept : {x : Refusal} {a : Answer (ℕ × ℕ)} {r : ℕ} (d e : ℕ) → r ≡ code_of x → refuses x ≡ a
+    → (r ≡ coded (λ _. 0) a) × ((d ≡ first_after a d) × (e ≡ second_after a e))
+words_kept d e k h = (k ∙ ap (coded (λ _. 0)) h, (ap (λ x. first_after x d) h, ap (λ x. second_after x e) h))

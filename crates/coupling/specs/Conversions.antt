@@ -6,11 +6,11 @@ use Rattle.refusals.specs.Answer.{Judged, gives, refuses}
 use Rattle.binary32.specs.Number.{value_of}
 
 -- what a conversion leaves in a word that held d: the first or the second number of its answer, or d on a refusal
-abbrev pub first_after : Judged (ℕ × ℕ) → ℕ → ℕ
+abbrev pub first_after : {E : Type 0} → Result (ℕ × ℕ) E → ℕ → ℕ
 first_after (gives v) d = v.0
 first_after (refuses r) d = d
 
-abbrev pub second_after : Judged (ℕ × ℕ) → ℕ → ℕ
+abbrev pub second_after : {E : Type 0} → Result (ℕ × ℕ) E → ℕ → ℕ
 second_after (gives v) d = v.1
 second_after (refuses r) d = d
 

@@ -19,6 +19,7 @@ fn sizes_code(answer: Result<Sizes, Refusal>) -> u32
     ensures { result ≡ coded sizes_code answer }
 {
     match answer {
+        // Both are at most 32: a TryFrom would need a way out that is never taken.
         Ok(Sizes { rows, columns }) => (100 * rows + columns) as u32,
         Err(r) => r.code(),
     }

@@ -25,6 +25,7 @@ fn length_code(answer: Result<usize, Refusal>) -> u32
     ensures { result ≡ coded (λ n. n) answer }
 {
     match answer {
+        // A length of at most 16,400: a TryFrom would need a way out that is never taken.
         Ok(n) => n as u32,
         Err(r) => r.code(),
     }

@@ -23,7 +23,7 @@ pub fn check_room(words: &[u32]) -> Result<(), Refusal>
     Ok(())
 }
 
-// The value in the front of a slice, number by number, as its definition has it.
+// The value in the front of a slice, number by number, as its definition has it: no From, which takes no slice that may be too short.
 pub fn value_in(words: &[u32]) -> Running
     requires { 11 ≤ length words.now }
     ensures { result ≡ value_in words.now }

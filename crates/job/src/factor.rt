@@ -1,4 +1,5 @@
 // The left factor of a product of sheets. Its bounds stand in the front of two arrays of 1,024 patterns, by rows; its rows and columns in a `Sizes`.
+// The two arrays stay parameters, since they are written: of a struct of them and the sizes, clauses would speak of its entry and its exit.
 // The method stays a number: `products::product` takes it so, and promises refusal 9 for every other number.
 ghost use Rattle.std.specs.Prelude.{◌≡◌, ◌*◌, ◌≤◌, ◌++◌, length, take, drop};
 ghost use Rattle.refusals.specs.Sizes.{largest_size, most_cells};

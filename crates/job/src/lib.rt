@@ -1,5 +1,5 @@
 // The sheet jobs: two sheets (`run`), or a train of 1 to 8 sheets (`run_train`), are read and multiplied from the left, and the product's sheet is written.
-// They work in arrays of 1,024 patterns on the stack. A refusal leaves the out buffer as it was.
+// They work in arrays of 1,024 patterns on the stack. A refusal leaves the out buffer as it was. The method is a number, which refusal 9 is promised for.
 #![tactic(auto)]
 
 ghost use Rattle.std.specs.Prelude.{◌≡◌, length};

@@ -74,6 +74,7 @@ pub fn product(
 {
     check_method(method)?;
     check_count(count)?;
+    // From 1 to 8: a TryFrom would need a way out that is never taken.
     let count = count as u8;
     let end = next_length(count - 1, s);
     let first = read_as(1, &s[..end], lo, up)?;

@@ -57,7 +57,7 @@ fn check_both(a: &LentMatrix, b: &LentMatrix) -> Result<(), Refusal>
     check_cells(2, *b)
 }
 
-// All checks, in their order.
+// All checks, in their order. By the method's number, though `product` has the Method already: the definition begins with it.
 #[tactic(auto, unfolding(crate::specs::Checks::check_of, crate::specs::Checks::check_shapes, crate::specs::Checks::check_slices))]
 pub fn check_all(method: u32, a: LentMatrix, b: LentMatrix, lent: Lent) -> Result<(), Refusal>
     ensures { result ≡ check_of (given method a.entry.rows a.entry.columns b.entry.rows b.entry.columns

@@ -39,7 +39,7 @@ pub fn check_cells(matrix: u8, cells: LentMatrix) -> Result<(), Refusal>
     ensures { result ≡ check_cells matrix cells.entry.rows cells.entry.columns
         (of_bounds cells.entry.lowers.now cells.entry.uppers.now) }
 {
-    // By index: row and column come from it; a zip of both slices under enumerate left four goals open.
+    // By index: row and column come from it; a zip of both slices under enumerate left four goals open. Both are below 32, so that `as` loses nothing.
     for c in 0..cells.rows * cells.columns {
         if let Err(reason) = check(cells.lowers[c], cells.uppers[c]) {
             let row = (c / cells.columns) as u8;

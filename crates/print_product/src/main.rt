@@ -60,7 +60,7 @@ fn sheets_text(method: u8, s: &[u8], out: &mut [u8]) -> usize
 }
 
 // Reads until buf is full or the input ends, and returns how many bytes were put at the start of buf: the first of the input, all of it where buf is
-// not full. A read that fails ends it; some first bytes of the input were taken then. (Of that std's `read_exact` says nothing.)
+// not full. A read that fails ends it; some first bytes of the input were taken then. (Of that std's `read_exact` says nothing. No `for`: how much comes next is known only when it is read.)
 fn read_full<R: Read>(input: &mut R, buf: &mut [u8]) -> io::Result<usize>
     ensures bound { IfOk result (λ n. n ≤ length buf.new) }
     ensures bytes { IfOk result (λ n. Consumes (R.remaining input.old) (R.remaining input.new) (take n buf.new)) }
@@ -78,7 +78,7 @@ fn read_full<R: Read>(input: &mut R, buf: &mut [u8]) -> io::Result<usize>
     Ok(done)
 }
 
-// Writes all of text. A write that fails ends it; a front part of text was written then. (Of that std's `write_all` says nothing.)
+// Writes all of text. A write that fails ends it; a front part of text was written then. (Of that std's `write_all` says nothing. No `for` here either.)
 fn write_full<W: Write>(output: &mut W, text: &[u8]) -> io::Result<()>
     ensures { Writes (W.contents output.old) (W.contents output.new) result text.now }
 {

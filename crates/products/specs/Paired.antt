@@ -1,4 +1,4 @@
--- The pairs of a row of words and a column as contracts see them. Definitions only, for the contracts of private functions.
+-- The pairs of a row of unpacked numbers and a column as contracts see them. Definitions only, for the contracts of private functions.
 use Rattle.products.specs.declared.row.Pairs.{Pairs as Lent}
 use Rattle.products.specs.CentreSize.{Pairs}
 

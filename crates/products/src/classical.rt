@@ -22,7 +22,7 @@ fn is_nonzero(lo: u32, hi: u32) -> bool
     0 < lo % Binary32::SIGN + hi % Binary32::SIGN
 }
 
-// A and B by their bounds, by rows.
+// A and B by their bounds, by rows. Not two LentMatrix: their sizes would stand beside `shape` a second time.
 #[derive(Clone, Copy)]
 pub struct Classical<'a> {
     pub shape: Shape,

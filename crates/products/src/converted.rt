@@ -1,5 +1,6 @@
 // Methods 3, 4, 5 and 7, from midpoints and radii: values that depend on one cell are computed first (derived.rt), then the entries.
-// A method's function is not inlined: its loops then have the registers to themselves.
+// A function for each method, since each works out other arrays; it is not inlined, so that its loops have the registers to themselves. The two slices that
+// are written stay parameters, as in lib.rt.
 ghost use Rattle.std.specs.Prelude.{◌≡◌, length};
 ghost use Rattle.enclosure.specs.Methods.{three, four, five, seven};
 ghost use Rattle.matrices.specs.declared.methods.Method.TheVariants.{Classical};

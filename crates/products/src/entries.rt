@@ -27,7 +27,7 @@ pub trait Steps: Copy {
 
     ghost shape: { Self → Shape };
 
-    // What the steps need.
+    // What the steps need. `Fits` and `Derived` stand in each impl: which values are worked out differs.
     ghost ready: { Self → Type 0 };
 
     // The entry at a position by rows.
@@ -70,8 +70,8 @@ pub trait Steps: Copy {
         ensures { HoldsRange (entry self (i * (shape self).n + j)) result };
 }
 
-// Writes the entries by rows until one is refused, and returns its row and column, or None. Rule of the project: nested loops over rows, columns and pairs,
-// which a label leaves at the first overflow, with its place.
+// Writes the entries by rows until one is refused, and returns its row and column, or None: an Option, as of a search (std's `position`). Rule of the
+// project: nested loops over rows, columns and pairs, which a label leaves at the first overflow, with its place.
 pub fn entries<M: Steps>(of: M, lo: &mut [u32], up: &mut [u32]) -> Option<Place>
     requires { M.ready of × ((M.shape of).m ≤ 32) × ((M.shape of).n ≤ 32)
         × ((M.shape of).m * (M.shape of).n ≤ length lo.old) × ((M.shape of).m * (M.shape of).n ≤ length up.old) }

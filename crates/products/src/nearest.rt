@@ -10,6 +10,7 @@ use binary32::direction::{Down, Near};
 use binary32::order::magnitude;
 use unpacked::{Number, is_none, zero};
 
+// Not one struct with CentreSize of method 5: the second sum there is to nearest, of another bound, and so are the step and its definition.
 // The centre, rounded to nearest, and the radius, negated and rounded down. Both are numbers: a step that overflows gives None.
 #[derive(Clone, Copy)]
 pub struct Nearest {

@@ -62,6 +62,7 @@ fn fields(m: u64, exp: u32) -> u32
     ensures { result ≡ fields_of m exp }
 {
     if BIAS <= exp {
+        // m has 24 bits here and below; a TryFrom would need a way out that is never taken.
         return (exp - BIAS) * Binary32::HIDDEN + m as u32;
     }
     (m >> (BIAS - exp).min(ALL)) as u32

@@ -25,7 +25,7 @@ fn grown(radius: Number, u: u32, v: u32) -> Number
 }
 
 // The radius plus |u| × |w| for each pair of the line, u and w. The loop ends at the first overflow, and the result is then none. By index: the cells of a
-// column are n apart, and step_by beside a row is no plainer.
+// column are n apart, and step_by beside a row is no plainer. This loop, `parts` and `sum_pairs` differ in sums and step: over a closure each would be as long.
 pub fn outer(radius: Number, line: Line) -> Number
     requires { IsNumber radius × Below radius }
     ensures { Continued (line_of line.entry) radius result }

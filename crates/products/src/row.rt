@@ -16,7 +16,8 @@ pub fn unpack_row(k: usize, i: usize, patterns: &[u32], out: &mut [Number])
     }
 }
 
-// The first k numbers of a row, and column j of patterns with n columns: their k pairs are within the slices, and numbers.
+// The first k numbers of a row, and column j of patterns with n columns: their k pairs are within the slices, and numbers. Not Line, whose row holds patterns
+// and begins at row i.
 #[derive(Clone, Copy)]
 pub struct Pairs<'a> {
     pub k: usize,

@@ -11,7 +11,7 @@ pub const GUARD: u32 = 36;
 // A shift by this many places loses all bits of a significand with its guard bits: 0 or -1 remains.
 pub const ALL: u32 = 61;
 
-// `with_sign` is in binary32's parts.rt too, which is private to that crate: made public, it would ask its bound of every caller.
+// `with_sign` is in binary32's parts.rt too, for 32 bits: two lines, which a module that all crates see would not make plainer.
 
 // 2^n
 fn power(n: u32) -> i64
@@ -26,6 +26,7 @@ pub fn with_sign(neg: bool, m: u64) -> i64
     requires { m < 2 ^ 62 }
     ensures { result ≡ signed_by neg m }
 {
+    // No bit is lost: m is below 2^62.
     let s = m as i64;
     if neg { -s } else { s }
 }

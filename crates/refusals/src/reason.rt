@@ -39,7 +39,7 @@ pub enum Reason {
 }
 
 impl Reason {
-    // The number of this reason.
+    // The number of this reason, as callers see it: by name, where a From<Reason> for u8 would hide what it gives.
     pub fn number(self) -> u8
         ensures { result ≡ number_of self }
     {

@@ -34,7 +34,7 @@ pub struct Shown {
 }
 
 // The most pairs that a value takes: the largest inner size of a product.
-const MOST_PAIRS: u32 = LARGEST_SIZE as u32;
+const MOST_PAIRS: u32 = LARGEST_SIZE as u32; // 32; a const takes no TryFrom
 
 impl Running {
     // The value before the first pair: [0, 0], no pairs, and the fixed amounts.
@@ -78,7 +78,7 @@ impl Running {
         })
     }
 
-    // The value with its amounts exchanged for those of a load, 32 bytes, for the pairs that follow. Refused with 6, 3 or 13.
+    // The value with its amounts exchanged for those of a load, 32 bytes, for the pairs that follow. Refused with 6, 3 or 13; the caller still has the value before.
     #[tactic(auto, unfolding(crate::specs::Value::exchange_of))]
     pub fn exchange(self, bytes: &[u8]) -> Result<Running, Refusal>
         ensures { result ≡ exchange_of self bytes.now }

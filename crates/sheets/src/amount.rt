@@ -10,7 +10,8 @@ use binary32::finite::is_finite;
 use refusals::Refusal;
 use refusals::reason::Reason;
 
-// The kind of a sheet, by a match for each record and no trait, since the definitions go by it: what the last four bytes of a cell hold, a wear class or the wear amount itself.
+// The kind of a sheet: whether the last four bytes of a cell hold a wear class or the wear amount itself. A match for each record, and neither a trait nor a
+// closure: the definitions go by it.
 #[derive(Clone, Copy, Debug, PartialEq, Eq)]
 pub enum Kind {
     Classes,
@@ -18,7 +19,7 @@ pub enum Kind {
 }
 
 impl Kind {
-    // Its byte in the head of a sheet.
+    // Its byte in the head of a sheet: by name, where a From would hide what it gives.
     pub fn byte(self) -> u8
         ensures { result ≡ byte_of self }
     {

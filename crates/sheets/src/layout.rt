@@ -86,7 +86,7 @@ pub fn record_at(s: &[u8], i: usize) -> Record
     }
 }
 
-// The kind of a sheet, by byte 6 of its head.
+// The kind of a sheet, by byte 6 of its head. No TryFrom: another byte than 0 and 1 is refused with the rest of the head, by `is_framed`.
 pub fn kind(s: &[u8]) -> Kind
     requires { 6 < length s.now }
     ensures { result ≡ kind_of s.now }

@@ -45,6 +45,7 @@ pub fn next_of(total: usize, k: usize) -> u16
     requires { k ≤ 1024 }
     ensures { result ≡ next_of total k }
 {
+    // At most 1,024: a TryFrom would need a way out that is never taken.
     if k < total { (k + 1) as u16 } else { 0 }
 }
 

@@ -19,7 +19,7 @@ pub fn scan(matrix: LentMatrix) -> Result<usize, Refusal>
         uppers,
     } = matrix;
     let mut count = 0;
-    // By index: row and column come from it, and two slices are read side by side.
+    // By index: row and column come from it, and two slices are read side by side. Both are below 32, so that `as` loses nothing.
     for p in 0..rows * columns {
         let cell = match handed(lowers[p], uppers[p]) {
             Ok(cell) => cell,
