@@ -8,8 +8,8 @@ use borrow.Author.Tests.{lt-ltb, le-ltb}
 use Rattle.refusals.specs.declared.Refusal.{Refusal}
 use Rattle.refusals.specs.declared.reason.Reason.{Reason}
 use Rattle.refusals.specs.Refusal.{of_cell}
-use Rattle.refusals.specs.Answer.{Answer, refuses, done, at_cell, then}
-use Rattle.refusals.proofs.Answers.{then_gives, then_refuses}
+use Rattle.refusals.specs.Answer.{Answer, Judged, gives, refuses, done, at_cell, then}
+use Rattle.refusals.proofs.Answers.{not_both, then_gives, then_refuses}
 use Rattle.matrices.specs.Lists.{first}
 use Rattle.matrices.specs.Matrix.{Matrix, fault_at}
 use Rattle.matrices.specs.Checks.{Given, faulty, check_cells, check_both, check_slices, check_shapes, check_of}
@@ -46,6 +46,12 @@ module _ (matrix rows columns : ℕ) (X : Matrix) where
   cells_here c reason h l t =
       let s : first (test X) n ≡ c = first_here (test X) c n h (sym (ap faulty t)) l in
       ap (at_cell matrix (c / columns) (c % columns)) t ∙ sym (ap by_position s ∙ ap (λ u. cond u (at c) done) (lt-ltb c n l))
+
+  -- the same, by the answer for the cell
+  pub cells_judged : (c : ℕ) (j : Judged (Unit {0})) (x : Refusal) → Passed X c → c < rows * columns → j ≡ fault_at X c
+      → at_cell matrix (c / columns) (c % columns) j ≡ refuses x → refuses x ≡ check_cells matrix rows columns X
+  cells_judged c (gives v) x h l e f = absurd (not_both (sym f))
+  cells_judged c (refuses n) x h l e f = sym f ∙ cells_here c n h l e
 
   pub cells_done : Passed X (rows * columns) → done ≡ check_cells matrix rows columns X
   unfolding check_cells

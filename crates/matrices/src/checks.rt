@@ -41,11 +41,9 @@ pub fn check_cells(matrix: u8, cells: LentMatrix) -> Result<(), Refusal>
 {
     // By index: row and column come from it; a zip of both slices under enumerate left four goals open. Both are below 32, so that `as` loses nothing.
     for c in 0..cells.rows * cells.columns {
-        if let Err(reason) = check(cells.lowers[c], cells.uppers[c]) {
-            let row = (c / cells.columns) as u8;
-            let column = (c % cells.columns) as u8;
-            return Err(Refusal::of_cell(reason, matrix, row, column));
-        }
+        let row = (c / cells.columns) as u8;
+        let column = (c % cells.columns) as u8;
+        check(cells.lowers[c], cells.uppers[c]).map_err(|reason| Refusal::of_cell(reason, matrix, row, column))?;
     }
     Ok(())
 }

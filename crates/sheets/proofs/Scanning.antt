@@ -12,7 +12,7 @@ use Rattle.std.specs.Prelude.{Option, Some, None, is_some}
 use Rattle.refusals.specs.declared.Refusal.{Refusal}
 use Rattle.refusals.specs.declared.reason.Reason.{Reason}
 use Rattle.refusals.specs.Refusal.{of_cell}
-use Rattle.refusals.specs.Answer.{Judged, gives, refuses, done, then}
+use Rattle.refusals.specs.Answer.{Answer, Judged, gives, refuses, done, at_cell, then}
 use Rattle.refusals.proofs.Answers.{not_both, next_tells}
 use Rattle.intervals.specs.Conversion.{fault_of}
 use Rattle.sheets.specs.Cell.{HandedIn, canonical_of, both_zero, handed_of}
@@ -48,6 +48,16 @@ module _ (columns : ℕ) (lo up : List ℕ) where
   scan_faulty p m k x h e f =
       let y : p + 1 + (m - (p + 1)) ≡ m = omega arith in
       rw (← y) (stays (p + 1) (m - (p + 1)) _ (scan_more p k (refuses x) e f))
+
+  -- the same, by the answer for the cell
+  pub scan_judged : (p m k : ℕ) (j : HandedIn) (x : Refusal) → p < m → scan_to columns lo up p ≡ gives k → cell_at lo up p ≡ j
+      → at_cell 0 (p / columns) (p % columns) j ≡ refuses x → refuses x ≡ scan_to columns lo up m
+  scan_judged p m k (gives v) x h e f g = absurd (not_both (sym g))
+  scan_judged p m k (refuses n) x h e f g = sym (ap again g) ∙ sym (scan_faulty p m k n h e f)
+    where
+      again : Answer (Option (ℕ × ℕ)) → Answer ℕ
+      again (gives v) = gives 0
+      again (refuses r) = refuses r
 
   cell_fine : (p k m a b : ℕ) → unless_faulty columns p (handed_of a b) (gives m) ≡ gives k → (k ≡ m) × (fault_of a b ≡ done)
   unfolding handed_of

@@ -78,8 +78,7 @@ fn put_cell(
             put_record(out, 16 * (k + 1), cell);
             k + 1
         }
-        Ok(None) => k,
-        Err(_) => k,
+        _ => k,
     }
 }
 

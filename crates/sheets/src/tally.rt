@@ -21,14 +21,9 @@ pub fn scan(matrix: LentMatrix) -> Result<usize, Refusal>
     let mut count = 0;
     // By index: row and column come from it, and two slices are read side by side. Both are below 32, so that `as` loses nothing.
     for p in 0..rows * columns {
-        let cell = match handed(lowers[p], uppers[p]) {
-            Ok(cell) => cell,
-            Err(reason) => {
-                let row = (p / columns) as u8;
-                let column = (p % columns) as u8;
-                return Err(Refusal::of_cell(reason, 0, row, column));
-            }
-        };
+        let row = (p / columns) as u8;
+        let column = (p % columns) as u8;
+        let cell = handed(lowers[p], uppers[p]).map_err(|reason| Refusal::of_cell(reason, 0, row, column))?;
         if cell.is_some() {
             count += 1;
         }
