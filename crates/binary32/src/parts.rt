@@ -5,7 +5,8 @@ ghost use Rattle.binary32.specs.Steps.{Decoded};
 
 use crate::Binary32;
 
-// Not the Number of crate unpacked, whose exponent counts from another unit and whose values may be none. sig × 2^exp: in units for the number of a pattern, in 2^-149 of a unit for an exact product or sum.
+// Not the Number of crate unpacked, whose exponent counts from another unit and whose values may be none. sig × 2^exp:
+// in units for the number of a pattern, in 2^-149 of a unit for an exact product or sum.
 #[derive(Clone, Copy)]
 pub struct Parts {
     pub sig: i64,
@@ -20,8 +21,8 @@ pub fn with_sign(neg: bool, m: u32) -> i64
     if neg { -s } else { s }
 }
 
-// The number of a pattern: its fraction, with the implicit leading bit where the exponent field is not 0, and its exponent. (`Finite p` stays a clause: patterns
-// come out of slices as words, here and where `products` and `sheets` ask it.)
+// The number of a pattern: its fraction, with the implicit leading bit where the exponent field is not 0, and its exponent.
+// (`Finite p` stays a clause: patterns come out of slices as words, here and where `products` and `sheets` ask it.)
 pub fn decode(p: u32) -> Parts
     requires { Finite p }
     ensures { Decoded p result }

@@ -1,5 +1,5 @@
 -- The two words that a conversion writes for a caller in C. Definitions only.
-use Rattle.std.specs.Prelude.{ℕ}
+use Rattle.std.specs.Prelude.{ℕ, Result}
 use Rattle.rounding.specs.Format.{binary32}
 use Rattle.enclosure.specs.Optimal.{Optimal}
 use Rattle.refusals.specs.Answer.{Judged, gives, refuses}

@@ -1,5 +1,6 @@
-// The operations of binary32, for callers in C. One function for each name in coupling.h: C passes no type parameter. Each takes two patterns and returns the pattern of the result; or it refuses and returns
-// 0x7F800003 (refusal 3, an operand has exponent field 255) or 0x7F800005 (refusal 5, the result is too large for binary32).
+// The operations of binary32, for callers in C. One function for each name in coupling.h: C passes no type parameter.
+// Each takes two patterns and returns the pattern of the result; or it refuses and returns 0x7F800003 (refusal 3, an operand has exponent field 255)
+// or 0x7F800005 (refusal 5, the result is too large for binary32).
 ghost use Rattle.std.specs.Prelude.{◌≡◌};
 ghost use Rattle.binary32.specs.Operations.{add_down, add_up, add_near, sub_down, sub_up, sub_near};
 ghost use Rattle.binary32.specs.Operations.{mul_down, mul_up, mul_near, midpoint_down, midpoint_up, midpoint_near};

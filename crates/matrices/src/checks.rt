@@ -43,7 +43,9 @@ pub fn check_cells(matrix: u8, cells: LentMatrix) -> Result<(), Refusal>
     for c in 0..cells.rows * cells.columns {
         let row = (c / cells.columns) as u8;
         let column = (c % cells.columns) as u8;
-        check(cells.lowers[c], cells.uppers[c]).map_err(|reason| Refusal::of_cell(reason, matrix, row, column))?;
+        check(cells.lowers[c], cells.uppers[c]).map_err(|reason| Refusal::of_cell(
+            reason, matrix, row, column,
+        ))?;
     }
     Ok(())
 }

@@ -52,7 +52,8 @@ fn cell_line(out: &mut [u8], row: usize, column: usize, lower: u32, upper: u32) 
 #[tactic(auto, using(crate::proofs::LineLaws::wide, crate::proofs::LineLaws::cells_length, sheets::proofs::Counting::div_lt, sheets::proofs::Counting::mod_lt), unfolding(crate::specs::Printed::cell_lines))]
 fn cell_lines(out: &mut [u8], product: &Product) -> usize
     requires { 24 * (product.now.sizes.rows * product.now.sizes.columns) ≤ length out.old }
-    ensures { Put (cell_lines product.now.sizes.columns product.now.lowers.now product.now.uppers.now (product.now.sizes.rows * product.now.sizes.columns)) out.old result out.new }
+    ensures { Put (cell_lines product.now.sizes.columns product.now.lowers.now product.now.uppers.now
+        (product.now.sizes.rows * product.now.sizes.columns)) out.old result out.new }
 {
     let Sizes { rows, columns } = product.sizes;
     let mut n = 0;
@@ -68,7 +69,8 @@ fn cell_lines(out: &mut [u8], product: &Product) -> usize
 #[tactic(auto, using(crate::proofs::Puts::put_more, crate::proofs::LineLaws::product_length, refusals::proofs::SizeLaws::small))]
 pub fn product_text(out: &mut [u8], product: &Product) -> usize
     requires { 24592 ≤ length out.old }
-    ensures { Put (product_text product.now.method product.now.sizes.rows product.now.sizes.columns product.now.lowers.now product.now.uppers.now) out.old result out.new }
+    ensures { Put (product_text product.now.method product.now.sizes.rows product.now.sizes.columns
+        product.now.lowers.now product.now.uppers.now) out.old result out.new }
 {
     let n = product_line(out, product);
     n + cell_lines(&mut out[n..], product)

@@ -60,7 +60,8 @@ fn sheets_text(method: u8, s: &[u8], out: &mut [u8]) -> usize
 }
 
 // Reads until buf is full or the input ends, and returns how many bytes were put at the start of buf: the first of the input, all of it where buf is
-// not full. A read that fails ends it; some first bytes of the input were taken then. (Of that std's `read_exact` says nothing. No `for`: how much comes next is known only when it is read.)
+// not full. A read that fails ends it; some first bytes of the input were taken then. (Of that std's `read_exact` says nothing. No `for`:
+// how much comes next is known only when it is read.)
 fn read_full<R: Read>(input: &mut R, buf: &mut [u8]) -> io::Result<usize>
     ensures bound { IfOk result (λ n. n ≤ length buf.new) }
     ensures bytes { IfOk result (λ n. Consumes (R.remaining input.old) (R.remaining input.new) (take n buf.new)) }

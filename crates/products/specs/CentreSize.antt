@@ -23,13 +23,13 @@ abbrev pub minus_size : ℤ → ℤ → Option ℤ
 minus_size x y = negate (mul near (abs x) (abs y))
 
 -- r has these two as its sums as they are kept, G negated; it is none where one of them is
-abbrev pub Sized : (c g : Option ℤ) → Maybe CentreSize → Type 0
-Sized c g None = (c ≡ none) ⊎ (g ≡ none)
-Sized c g (Some r) = Runs c r.centre × Runs g r.size
+abbrev pub SizedKept : (c g : Option ℤ) → Maybe CentreSize → Type 0
+SizedKept c g None = (c ≡ none) ⊎ (g ≡ none)
+SizedKept c g (Some r) = Runs c r.centre × Runs g r.size
 
 -- r is s with x × y added to C and |x| × |y| to G
 abbrev pub SizedStep : (s : CentreSize) (x y : ℤ) → Maybe CentreSize → Type 0
-SizedStep s x y = Sized (plus_near (worth s.centre) (mul near x y)) (plus_near (worth s.size) (minus_size x y))
+SizedStep s x y = SizedKept (plus_near (worth s.centre) (mul near x y)) (plus_near (worth s.size) (minus_size x y))
 
 -- ---- sums over the pairs of an unpacked row, and of column j of patterns with n columns
 pub record Pairs : Type 0 where

@@ -26,7 +26,7 @@ impl CentreSize {
     ghost use Rattle.std.specs.Prelude.{◌≡◌, ◌≤◌, ℤ};
     ghost use Rattle.binary32.specs.Number.{value_of, Finite};
     ghost use Rattle.unpacked.specs.Number.{worth, Holds, zero_number};
-    ghost use Rattle.products.specs.CentreSize.{Sized, SizedStep, SizedAll};
+    ghost use Rattle.products.specs.CentreSize.{SizedKept, SizedStep, SizedAll};
     ghost use Rattle.products.specs.Paired.{pairs_of};
 
     pub fn new() -> Self
@@ -41,7 +41,7 @@ impl CentreSize {
     // These sums, or None where one of them is none.
     fn whole(centre: Number, size: Number) -> Option<CentreSize>
         requires { (centre.exp ≤ 653 → IsNumber centre) × (size.exp ≤ 653 → IsNumber size) × Below size }
-        ensures { (c g : Option ℤ) → Holds c centre → Holds g size → Sized c g result }
+        ensures { (c g : Option ℤ) → Holds c centre → Holds g size → SizedKept c g result }
     {
         if is_none(centre) || is_none(size) {
             return None;

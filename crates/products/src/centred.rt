@@ -1,5 +1,6 @@
 // The running sums of methods 4 and 7: a value whose step adds one product to the centres and one to the radius and hands back the next value.
-// A step has a const parameter, so that each loop has a copy of it: the compiler inlines a function with one caller, and a step is too large to be inlined twice.
+// A step has a const parameter, so that each loop has a copy of it: the compiler inlines a function with one caller,
+// and a step is too large to be inlined twice.
 ghost use Rattle.std.specs.Prelude.{◌≡◌, ltb};
 ghost use Rattle.binary32.specs.Order.{magnitude_of};
 ghost use Rattle.unpacked.specs.Number.{IsNumber};

@@ -39,7 +39,8 @@ impl<'a> Steps for Classical<'a> {
 
     ghost shape = { λ s. s.shape };
 
-    ghost ready = { λ s. Sizes s.shape.m s.shape.k s.shape.n (of_bounds s.al.now s.au.now) (of_bounds s.bl.now s.bu.now) (s.shape.m * s.shape.n) (s.shape.m * s.shape.n) };
+    ghost ready = { λ s. Sizes s.shape.m s.shape.k s.shape.n (of_bounds s.al.now s.au.now) (of_bounds s.bl.now s.bu.now)
+        (s.shape.m * s.shape.n) (s.shape.m * s.shape.n) };
 
     ghost entry = { λ s. entry_at classical s.shape.k s.shape.n (of_bounds s.al.now s.au.now) (of_bounds s.bl.now s.bu.now) };
 

@@ -42,7 +42,8 @@ pub fn corner_by_sign(x: Number, y: Number, z: Number) -> Corner
     }
 }
 
-// `lesser_of` and `greater_of` fix which of two products with one rank is taken, so these stay two functions; with `if .. { x } else { y }` method 1 takes 0.9 % more instructions.
+// `lesser_of` and `greater_of` fix which of two products with one rank is taken, so these stay two functions;
+// with `if .. { x } else { y }` method 1 takes 0.9 % more instructions.
 
 // The lesser of two products.
 #[tactic(auto, unfolding(unpacked::specs::Corners::lesser_of))]

@@ -66,7 +66,8 @@ fn finish(place: Option<Place>, count: usize, lo: &mut [u32], up: &mut [u32]) ->
 }
 
 // A times B by this method: the bounds of the product in lo and up; by methods 3, 4, 5 and 7 also the midpoints and radii of A and B in ma, ra, mb and rb.
-// The method is a number: refusal 9 for every other number is promised. The slices that are written stay parameters of their own: of a struct of them, the clauses would say `s.entry.ma.now` and `s.exit.ma.now`: no plainer.
+// The method is a number: refusal 9 for every other number is promised. The slices that are written stay parameters of their own: of a struct of them,
+// the clauses would say `s.entry.ma.now` and `s.exit.ma.now`: no plainer.
 pub fn product(
     method: u32,
     a: LentMatrix,

@@ -22,8 +22,9 @@ fn pair_fault(lower: u32, upper: u32, al: u32, au: u32, bl: u32, bu: u32) -> Res
     }
 }
 
-// Six patterns, as a running entry has them: a struct would be made for this call alone. The sums [lower, upper] with the pair of cells [al, au] and [bl, bu] added: the least of the four corner products to the lower sum, all rounded down, and
-// the greatest to the upper sum, all rounded up. Refused with NotFinite or Crossed, or with TooLarge where a step is.
+// The sums [lower, upper] with the pair of cells [al, au] and [bl, bu] added: the least of the four corner products to the lower sum, all rounded down, and
+// the greatest to the upper sum, all rounded up. Refused with NotFinite or Crossed, or with TooLarge where a step is. Six patterns, as a running entry has
+// them: a struct would be made for this call alone.
 #[tactic(auto, unfolding(crate::specs::Pair::pair_added))]
 pub fn add_pair(
     lower: u32,

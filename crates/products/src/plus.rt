@@ -1,6 +1,7 @@
 // Sums of unpacked numbers, rounded down or to nearest: a shift, an addition, a count of leading zeros and a shift.
 // A sum of two numbers is a whole number of units, so a subnormal sum is exact and needs no case of its own.
-// To nearest, a summand that loses bits by its shift is at most 2^-13 of the last bit of the other one, which is then the nearest value; so no sticky bit is kept.
+// To nearest, a summand that loses bits by its shift is at most 2^-13 of the last bit of the other one, which is then the nearest value;
+// so no sticky bit is kept.
 ghost use Rattle.std.proofs.Math.Option.{Option, bind};
 ghost use Rattle.std.specs.Prelude.{◌≤◌, ℤ, ◌+ℤ◌};
 ghost use Rattle.rounding.specs.Format.{binary32};
@@ -22,7 +23,8 @@ fn add<D: Short>(x: Number, y: Number) -> Number
     cut::<D>(s.w, s.exp)
 }
 
-// The next three stand beside `cut`, `add` and `plus`: to count no leading zeros is a tenth of method 3's time, and a flag for it at each call is no plainer than a name.
+// The next three stand beside `cut`, `add` and `plus`: to count no leading zeros is a tenth of method 3's time,
+// and a flag for it at each call is no plainer than a name.
 
 // w × 2^(exp - 436) units, rounded to 24 bits, for w from -2^61 to -2^59 or 0: its length is known, so no leading zeros are counted.
 fn cut_negative<D: Short>(w: i64, exp: u32) -> Number

@@ -1,4 +1,5 @@
-// A sum of the radius: rA × (|mB| + rB) over l in methods 3, 4 and 7, (|mA| + rA) × (|mB| + rB) in method 5. A radius is kept negated, so that rounding it up is rounding down.
+// A sum of the radius: rA × (|mB| + rB) over l in methods 3, 4 and 7, (|mA| + rA) × (|mB| + rB) in method 5. A radius is kept negated,
+// so that rounding it up is rounding down.
 ghost use Rattle.unpacked.specs.Number.{IsNumber, Below};
 ghost use Rattle.products.specs.Centred.{Grown};
 ghost use Rattle.products.specs.Continued.{Continued};

@@ -10,7 +10,8 @@ use crate::rounded::{rounded, rounded_up};
 use binary32::direction::Down;
 use unpacked::{Number, is_none, zero};
 
-// The lower sum, and the negated upper sum: rounding x up is negating -x rounded down, so both sums are rounded down. Both are numbers: a step that overflows gives None.
+// The lower sum, and the negated upper sum: rounding x up is negating -x rounded down, so both sums are rounded down. Both are numbers:
+// a step that overflows gives None.
 #[derive(Clone, Copy)]
 pub struct Sums {
     pub lower: Number,

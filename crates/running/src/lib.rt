@@ -78,7 +78,8 @@ impl Running {
         })
     }
 
-    // The value with its amounts exchanged for those of a load, 32 bytes, for the pairs that follow. Refused with 6, 3 or 13; the caller still has the value before.
+    // The value with its amounts exchanged for those of a load, 32 bytes, for the pairs that follow. Refused with 6, 3 or 13;
+    // the caller still has the value before.
     #[tactic(auto, unfolding(crate::specs::Value::exchange_of))]
     pub fn exchange(self, bytes: &[u8]) -> Result<Running, Refusal>
         ensures { result ≡ exchange_of self bytes.now }

@@ -126,7 +126,7 @@ module _ (rows columns : ℕ) (lo up : List ℕ) (few : rows * columns ≤ 1024)
   unfolding sheet_of record_bytes u16_at
   count_back = let t : count_to lo up (rows * columns) ≤ rows * columns = count_le lo up (rows * columns) in omega arith
 
-  byte_back : get_or (sheet_of rows columns lo up) 6 0 ≡ byte_of Amounts
+  pub byte_back : get_or (sheet_of rows columns lo up) 6 0 ≡ byte_of Amounts
   unfolding sheet_of record_bytes
   byte_back = let t : count_to lo up (rows * columns) ≤ rows * columns = count_le lo up (rows * columns) in omega arith
 

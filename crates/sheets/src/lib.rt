@@ -58,7 +58,8 @@ pub fn read_with(
     reading::read(&loaded, s, lowers, uppers)
 }
 
-// The answer of a write, the length of the sheet in bytes, into a buffer of `room` bytes. Checks sizes (1), slice lengths (2), the cells by rows (3, 4), then the room (11).
+// The answer of a write, the length of the sheet in bytes, into a buffer of `room` bytes. Checks sizes (1), slice lengths (2), the cells by rows (3, 4),
+// then the room (11).
 #[tactic(auto, unfolding(crate::specs::Writing::write_of))]
 pub fn check_write(matrix: LentMatrix, room: usize) -> Result<usize, Refusal>
     ensures { result ≡ write_of

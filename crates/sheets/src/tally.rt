@@ -23,7 +23,9 @@ pub fn scan(matrix: LentMatrix) -> Result<usize, Refusal>
     for p in 0..rows * columns {
         let row = (p / columns) as u8;
         let column = (p % columns) as u8;
-        let cell = handed(lowers[p], uppers[p]).map_err(|reason| Refusal::of_cell(reason, 0, row, column))?;
+        let cell = handed(lowers[p], uppers[p]).map_err(|reason| Refusal::of_cell(
+            reason, 0, row, column,
+        ))?;
         if cell.is_some() {
             count += 1;
         }

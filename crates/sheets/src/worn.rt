@@ -20,8 +20,8 @@ fn worn_fault(lower: u32, upper: u32, amount: u32) -> Result<(), Reason>
     check(lower, upper)
 }
 
-// The cell widened by this amount: lower bound less amount, rounded down, and upper bound plus amount, rounded up. Refused for its fault, or where it is then too
-// large.
+// The cell widened by this amount: lower bound less amount, rounded down, and upper bound plus amount, rounded up. Refused for its fault,
+// or where it is then too large.
 #[tactic(auto, using(crate::proofs::Bounding::worn_tells), unfolding(crate::specs::Cell::widened_of))]
 pub fn widened(lower: u32, upper: u32, amount: u32) -> Result<(u32, u32), Reason>
     ensures { result ≡ widened_of lower upper amount }

@@ -1,4 +1,4 @@
--- What `cut_near` computes of a value that stands for a sum: the sum rounded to nearest.
+-- What `cut` with Near computes of a value that stands for a sum: the sum rounded to nearest.
 use mathlib.Core.Path.{◌≡◌, sym, ap, ◌∙◌, subst}
 use mathlib.Core.Bool.{cond}
 use mathlib.Core.List.{[], ◌∷◌}
@@ -54,7 +54,7 @@ module _ (X w : ℤ) (E K Z M k : ℕ) (p : 0 < M) (e : E * 4 ≡ M * Z) (eK : K
       turn : X *ℤ pos k *ℤ pos M ≡ X *ℤ pos (M * k)
       turn = lin_eq (X ∷ pos k ∷ pos M ∷ []) [] (search reading depth 20) (omega arith)
 
--- ---- what the code of `cut_near` found, of w that stands for X, 36 places above it
+-- ---- what the code of `cut` with Near found, of w that stands for X, 36 places above it
 module _ (X w : ℤ) (be : ℕ) (r : Number) (h : CutNear w be r) (high : be ≤ 4000)
     (stands : near binary32 (2 ^ 436) (w *ℤ pos (2 ^ be)) ≡ near binary32 1 X)
     (kind : (w *ℤ pos (2 ^ be) ≡ X *ℤ pos (2 ^ 400) *ℤ pos (2 ^ 36)) ⊎ ((2 ^ 58 < nat_abs w) × (413 ≤ be))) where
