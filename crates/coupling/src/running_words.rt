@@ -38,7 +38,7 @@ pub fn value_in(words: &[u32]) -> Running
     }
 }
 
-// The numbers of a value.
+// The numbers of a value, as `value_in` reads them.
 fn words_of(v: Running) -> [u32; WORDS]
     ensures { result ≡ words_of v }
 {

@@ -61,7 +61,7 @@ impl Sums {
         }
     }
 
-    // These sums, or None where one of them is none.
+    // These sums, or None where one of them is none. (Each of the four types of sums has a `whole` of its own fields.)
     fn whole(lower: Number, opposed: Number) -> Option<Sums>
         requires { (lower.exp ≤ 653 → IsNumber lower) × (opposed.exp ≤ 653 → IsNumber opposed) }
         ensures { (l o : Option ℤ) → Holds l lower → Holds o opposed → Summed l o result }

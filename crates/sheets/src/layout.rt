@@ -27,7 +27,7 @@ impl Record {
         usize::from(self.row) * columns + usize::from(self.column)
     }
 
-    // Its 16 bytes.
+    // Its 16 bytes: by name, as `record_at` reads them.
     pub fn bytes(self) -> [u8; 16]
         ensures { result ≡ bytes_of self }
     {
