@@ -37,7 +37,7 @@
    or changes floating-point state.
 
    Stack: on x86-64 a call of coupling_multiply or coupling_train took at most
-   58,816 bytes below its caller's frame, measured on 32 by 32 sheets by each
+   59,864 bytes below its caller's frame, measured on 32 by 32 sheets by each
    method (tests/drivers/stack.c); the other calls take less. COUPLING_STACK bytes
    are enough for each call. */
 #ifndef COUPLING_H
