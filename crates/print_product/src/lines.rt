@@ -57,6 +57,7 @@ fn cell_lines(out: &mut [u8], product: &Product) -> usize
 {
     let Sizes { rows, columns } = product.sizes;
     let mut n = 0;
+    // By index: row and column come from it, and two slices are read side by side.
     for p in 0..rows * columns {
         let (row, column) = (p / columns, p % columns);
         let (lower, upper) = (product.lowers[p], product.uppers[p]);

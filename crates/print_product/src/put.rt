@@ -32,6 +32,7 @@ fn digits(out: &mut [u8], base: usize, count: usize, n: usize, end: u8) -> usize
 {
     out[count] = end;
     let mut rest = n;
+    // By index, from the last digit: the invariant is about the digits from i on, and a chain over iter_mut has no i.
     for i in (0..count).rev() {
         out[i] = digit(rest % base);
         rest /= base;

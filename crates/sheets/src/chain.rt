@@ -45,7 +45,8 @@ fn judge(rule: Rule, sizes: Sizes, least: usize, r: Record) -> Result<(), Refusa
     ))
 }
 
-// Checks the whole chain, whose first record has the index `first`. Index 0 ends the chain.
+// Checks the whole chain, whose first record has the index `first`. Index 0 ends the chain. (`fill` takes these four too: a struct of them would be made
+// once, in reading.rt, and be taken apart at once.)
 pub fn follow(rule: Rule, s: &[u8], sizes: Sizes, first: usize) -> Result<(), Refusal>
     requires { (sizes.rows ≤ 32) × (sizes.columns ≤ 32) × (16 * count_of s.now ≡ length s.now) }
     ensures { result ≡ (walk_all (cell_amount rule.entry.kind rule.entry.amounts.now) s.now sizes.rows sizes.columns first).verdict }
