@@ -3,6 +3,7 @@ ghost use Rattle.std.specs.Prelude.{◌≡◌};
 ghost use Rattle.running.specs.Gauged.{gauged_of};
 
 use refusals::reason::Reason;
+use sheets::wear::LAST_CLASS;
 use sheets::worn;
 
 // A cell as it was gauged: its bounds and its wear class. The class is any number: `gauged_of` refuses those above 7.
@@ -12,9 +13,6 @@ pub struct Gauged {
     pub upper: u32,
     pub class: u32,
 }
-
-// The highest wear class.
-const LAST_CLASS: u32 = 7;
 
 impl Gauged {
     // The bounds, widened by the amount of the cell's class among eight. Refused where the class is above 7, and by the widening.

@@ -5,6 +5,7 @@ ghost use Rattle.sheets.specs.Kind.{byte_of};
 ghost use Rattle.sheets.specs.Amount.{below_zero, check_wear, wear_amount};
 
 use crate::layout::Record;
+use crate::wear::LAST_CLASS;
 use binary32::Binary32;
 use binary32::finite::is_finite;
 use refusals::Refusal;
@@ -46,7 +47,7 @@ pub fn check_wear(kind: Kind, r: Record) -> Result<(), Refusal>
 {
     match kind {
         Kind::Classes => {
-            if r.wear <= 7 {
+            if r.wear <= LAST_CLASS {
                 return Ok(());
             }
             if r.wear > 255 {

@@ -3,6 +3,9 @@ ghost use Rattle.std.specs.Prelude.{◌≡◌, ℕ, ◌<◌, pos};
 ghost use Rattle.binary32.specs.Number.{value_of};
 ghost use Rattle.sheets.specs.Wear.{units_of, fixed_amounts, amount_in};
 
+// The highest wear class.
+pub const LAST_CLASS: u32 = 7;
+
 // The patterns of the amounts: 0 for class 0, 2^(c - 11) for class c from 1 to 7.
 const WEAR: [u32; 8] = [
     0,
