@@ -17,9 +17,11 @@ mod parts;
 use direction::Direction;
 use refusals::reason::Reason;
 
-// The format: its precision, its unit, 2^-149, and the patterns of its extreme values.
+// A number of the format, by its pattern; and the format: its precision, its unit, 2^-149, and the patterns of its extreme values.
 #[derive(Clone, Copy, Debug, PartialEq, Eq)]
-pub struct Binary32;
+pub struct Binary32 {
+    pub bits: u32,
+}
 
 impl Binary32 {
     // Bits of a significand.

@@ -1,8 +1,7 @@
 -- Laws of what reader and writer answer: its number fits 32 bits; and of what a refused conversion leaves. Assumes nothing.
 use mathlib.Core.Path.{◌≡◌, ap, ◌∙◌}
 use Prim.Native.Nat.{ℕ, ◌≤◌}
-use Rattle.refusals.specs.declared.Refusal.{Refusal}
-use Rattle.refusals.specs.Refusal.{code_of}
+use Rattle.std.specs.Prelude.{Result}
 use Rattle.refusals.specs.Answer.{Answer, gives, refuses, coded}
 use Rattle.refusals.proofs.SizeLaws.{Fitting}
 use Rattle.sheets.specs.declared.Sizes.{Sizes}
@@ -20,7 +19,9 @@ pub small_sizes : (a : Answer Sizes) {o : Answer Sizes} {l u : ℕ} → a ≡ o 
 small_sizes (gives z) e h = let f = h z.rows z.columns e in (f.rows, f.columns)
 small_sizes (refuses x) e h = tt
 
--- a refused conversion leaves both words as they were
-pub words_kept : {x : Refusal} {a : Answer (ℕ × ℕ)} {r : ℕ} (d e : ℕ) → r ≡ code_of x → refuses x ≡ a
-    → (r ≡ coded (λ _. 0) a) × ((d ≡ first_after a d) × (e ≡ second_after a e))
-words_kept d e k h = (k ∙ ap (coded (λ _. 0)) h, (ap (λ x. first_after x d) h, ap (λ x. second_after x e) h))
+-- a refused conversion leaves both words as they were. Its answer `a` refuses with a reason, and `placed` makes the answer of the call of it (`unplaced`);
+-- of an answer that has the whole refusal already, `placed` changes nothing
+pub words_kept : {E : Type 0} {x : E} {a : Result (ℕ × ℕ) E} {r : ℕ} (placed : Result (ℕ × ℕ) E → Answer (ℕ × ℕ)) (d e : ℕ)
+    → r ≡ coded (λ _. 0) (placed (refuses x)) → refuses x ≡ a
+    → (r ≡ coded (λ _. 0) (placed a)) × ((d ≡ first_after a d) × (e ≡ second_after a e))
+words_kept placed d e k h = (k ∙ ap (λ z. coded (λ _. 0) (placed z)) h, (ap (λ z. first_after z d) h, ap (λ z. second_after z e) h))

@@ -40,9 +40,14 @@ fn exchange(value: &mut [u32], load: &[u8]) -> Result<(), Refusal>
     ensures left { value.new ≡ words_after (amounts_in value.old load.now) value.old }
 {
     check_room(value)?;
-    let next = value_in(value).exchange(load)?;
-    put(next, value);
-    Ok(())
+    // Not `?`, as in `Running::exchange`.
+    match value_in(value).exchange(load) {
+        Ok(next) => {
+            put(next, value);
+            Ok(())
+        }
+        Err(refusal) => Err(refusal),
+    }
 }
 
 // Begins with [0, 0], no pairs and the fixed wear amounts.

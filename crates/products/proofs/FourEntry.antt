@@ -137,7 +137,7 @@ module _ (p : Spot) where
     unfolding entry radius₄ centre total middles inners outers
     is = position_entry_from four p.k p.n p.i p.j c at in_row p.ma p.ra p.mb p.rb
 
-    four_middle : MiddleNone p → entry_by four c ≡ none
+    pub four_middle : MiddleNone p → entry_by four c ≡ none
     four_middle o = is ∙ ends_none radius (middles p down p.k) (middles p up p.k) (radius_stays o (λ v. outers v p.k))
 
     -- the sums after a pair more, or no entry

@@ -76,7 +76,7 @@ module _ (p : Spot) where
     unfolding entry radius₄ radius₇ centre centre₇ total middles inners outers parts shareds
     is = position_entry_from seven p.k p.n p.i p.j c at in_row p.ma p.ra p.mb p.rb
 
-    seven_middle : MiddleNone p → entry_by p seven c ≡ none
+    pub seven_middle : MiddleNone p → entry_by p seven c ≡ none
     unfolding MiddleNone
     seven_middle o = is ∙ ends_none radius (centred down) (centred up) (go o)
       where

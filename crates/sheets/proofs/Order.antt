@@ -4,7 +4,7 @@ use mathlib.Core.Bool.{Bool, true, false, cond, not}
 use mathlib.Core.List.{List}
 use mathlib.Core.Logic.{◌↔◌, ◌⊎◌, inl, inr}
 use mathlib.Core.Option.{Option, none, some}
-use Prim.Native.Nat.{ℕ, ◌+◌, ◌*◌, ◌<◌}
+use Prim.Native.Nat.{ℕ, ◌+◌, ◌*◌, ◌≤◌, ◌<◌}
 use native.Mathlib.Omega.{arith}
 use lib.Arith.{digits_lt}
 use lib.Dec.{leb, ltb}
@@ -52,50 +52,52 @@ module _ (n i j k l : ℕ) (hj : j < n) (hl : l < n) where
 
 -- ---- 8 is said of the order alone: no bound and no amount is refused with it
 
-abbrev No8 : {A : Type 0} → Judged A → Type 0
-No8 (gives v) = Unit {0}
-No8 (refuses x) = number_of x ≡ 8 → ⊥
+-- a refusal's number is 5 or less: 3, 4 and 5 are said of bounds
+abbrev Low : {A : Type 0} → Judged A → Type 0
+Low (gives v) = Unit {0}
+Low (refuses x) = number_of x ≤ 5
 
-answer_no8 : (op : ℤ → ℤ → Option ℤ) (a b : ℕ) → No8 (answer op a b)
+answer_low : (op : ℤ → ℤ → Option ℤ) (a b : ℕ) → Low (answer op a b)
 unfolding answer
-answer_no8 op a b = go (finites a b) (op (value_of a) (value_of b))
+answer_low op a b = go (finites a b) (op (value_of a) (value_of b))
   where
-    go : (t : Bool) (o : Option ℤ) → No8 (cond t (answer_of o) (refuses NotFinite))
+    go : (t : Bool) (o : Option ℤ) → Low (cond t (answer_of o) (refuses NotFinite))
     go true (some v) = tt
-    go true none = λ e. omega arith
-    go false o = λ e. omega arith
+    go true none = omega arith
+    go false o = omega arith
 
-both_no8 : {A B : Type 0} (a : Judged A) (b : Judged B) → No8 a → No8 b → No8 (both a b)
-both_no8 (gives v) (gives w) h k = tt
-both_no8 (gives v) (refuses r) h k = k
-both_no8 (refuses r) b h k = h
+both_low : {A B : Type 0} (a : Judged A) (b : Judged B) → Low a → Low b → Low (both a b)
+both_low (gives v) (gives w) h k = tt
+both_low (gives v) (refuses r) h k = k
+both_low (refuses r) b h k = h
 
-widened_no8 : (a b w : ℕ) → No8 (widened_of a b w)
+widened_low : (a b w : ℕ) → Low (widened_of a b w)
 unfolding widened_of worn_fault fault_of
-widened_no8 a b w = go (finite w) (finites a b) (at_most a b) (both_no8 (sub_down a w) (add_up b w) (answer_no8 (sub down) a w) (answer_no8 (add up) b w))
+widened_low a b w = go (finite w) (finites a b) (at_most a b) (both_low (sub_down a w) (add_up b w) (answer_low (sub down) a w) (answer_low (add up) b w))
   where
-    go : (r s t : Bool) → No8 (outward_of a b w)
-        → No8 (then (then (unless r NotFinite) (cond s (cond t done (refuses Crossed)) (refuses NotFinite))) (outward_of a b w))
+    go : (r s t : Bool) → Low (outward_of a b w)
+        → Low (then (then (unless r NotFinite) (cond s (cond t done (refuses Crossed)) (refuses NotFinite))) (outward_of a b w))
     go true true true h = h
-    go true true false h = λ e. omega arith
-    go true false t h = λ e. omega arith
-    go false s t h = λ e. omega arith
+    go true true false h = omega arith
+    go true false t h = omega arith
+    go false s t h = omega arith
 
-abbrev NotBy8 : Answer ℕ → Type 0
-NotBy8 (gives v) = Unit {0}
-NotBy8 (refuses x) = number_of x.reason ≡ 8 → ⊥
+-- nor is it said of an amount: 6, 10 and 14 are other numbers too
+abbrev No8 : Answer ℕ → Type 0
+No8 (gives v) = Unit {0}
+No8 (refuses x) = number_of x.reason ≡ 8 → ⊥
 
-amount_no8 : (kind : Kind) (amounts : List ℕ) (r : Record) → NotBy8 (cell_amount kind amounts r)
+amount_no8 : (kind : Kind) (amounts : List ℕ) (r : Record) → No8 (cell_amount kind amounts r)
 unfolding check_wear cell_amount
 amount_no8 Classes amounts r = go (ltb 255 r.wear) (leb r.wear 7)
   where
-    go : (t u : Bool) → NotBy8 (then (cond t (refuse WrongLayout) (unless u (of_cell UnknownClass 0 r.row r.column))) (gives (wear_amount Classes amounts r.wear)))
+    go : (t u : Bool) → No8 (then (cond t (refuse WrongLayout) (unless u (of_cell UnknownClass 0 r.row r.column))) (gives (wear_amount Classes amounts r.wear)))
     go true u = λ e. omega arith
     go false true = tt
     go false false = λ e. omega arith
 amount_no8 Amounts amounts r = go (below_zero r.wear)
   where
-    go : (t : Bool) → NotBy8 (then (unless (not t) (of_cell NegativeAmount 0 r.row r.column)) (gives (wear_amount Amounts amounts r.wear)))
+    go : (t : Bool) → No8 (then (unless (not t) (of_cell NegativeAmount 0 r.row r.column)) (gives (wear_amount Amounts amounts r.wear)))
     go true = λ e. omega arith
     go false = tt
 
@@ -124,13 +126,13 @@ module _ (kind : Kind) (amounts : List ℕ) (rows columns : ℕ) (q r : Record) 
       no : (x : Refusal) → refuses x ≡ refuse {A = Cell} NotRising → (number_of x.reason ≡ 8 → ⊥) → ⊥
       no x k n = n (let z : x ≡ of_matrix NotRising 0 = cc in ap (λ (y : Refusal). number_of y.reason) z)
 
-      bounds : (x : Judged (ℕ × ℕ)) → No8 x → cell_from columns r x ≡ refuse NotRising → ⊥
+      bounds : (x : Judged (ℕ × ℕ)) → Low x → cell_from columns r x ≡ refuse NotRising → ⊥
       bounds (gives x) l k = not_both (sym k)
-      bounds (refuses x) l k = no _ k l
+      bounds (refuses x) l k = no _ k (λ n. omega arith)
 
-      go : (a : Answer ℕ) → NotBy8 a → and_then a (worn_cell columns r) ≡ refuse NotRising → ⊥
+      go : (a : Answer ℕ) → No8 a → and_then a (worn_cell columns r) ≡ refuse NotRising → ⊥
       go (refuses x) n k = no x k n
-      go (gives w) n k = bounds (widened_of r.lower r.upper w) (widened_no8 r.lower r.upper w) k
+      go (gives w) n k = bounds (widened_of r.lower r.upper w) (widened_low r.lower r.upper w) k
 
   pub unordered_is : (judge_of rule rows columns (position_of columns q + 1) r ≡ refuse NotRising) ↔ (Later → ⊥)
   unordered_is = (ordered, unordered)
