@@ -2,7 +2,9 @@
 use mathlib.Core.Path.{◌≡◌, ap, ◌∙◌}
 use Prim.Native.Nat.{ℕ, ◌≤◌}
 use Rattle.std.specs.Prelude.{Result}
-use Rattle.refusals.specs.Answer.{Answer, gives, refuses, coded}
+use Rattle.refusals.specs.declared.reason.Reason.{Reason}
+use Rattle.refusals.specs.Refusal.{of_matrix, code_of}
+use Rattle.refusals.specs.Answer.{Answer, Judged, gives, refuses, unplaced, coded}
 use Rattle.refusals.proofs.SizeLaws.{Fitting}
 use Rattle.sheets.specs.declared.Sizes.{Sizes}
 use Rattle.sheets.specs.Reading.{sizes}
@@ -19,9 +21,13 @@ pub small_sizes : (a : Answer Sizes) {o : Answer Sizes} {l u : ℕ} → a ≡ o 
 small_sizes (gives z) e h = let f = h z.rows z.columns e in (f.rows, f.columns)
 small_sizes (refuses x) e h = tt
 
--- a refused conversion leaves both words as they were. Its answer `a` refuses with a reason, and `placed` makes the answer of the call of it (`unplaced`);
--- of an answer that has the whole refusal already, `placed` changes nothing
+-- a call that is refused leaves both words as they were. What it is refused with, `placed` makes a whole refusal of
 pub words_kept : {E : Type 0} {x : E} {a : Result (ℕ × ℕ) E} {r : ℕ} (placed : Result (ℕ × ℕ) E → Answer (ℕ × ℕ)) (d e : ℕ)
     → r ≡ coded (λ _. 0) (placed (refuses x)) → refuses x ≡ a
     → (r ≡ coded (λ _. 0) (placed a)) × ((d ≡ first_after a d) × (e ≡ second_after a e))
 words_kept placed d e k h = (k ∙ ap (λ z. coded (λ _. 0) (placed z)) h, (ap (λ z. first_after z d) h, ap (λ z. second_after z e) h))
+
+-- so a conversion, which is refused with a reason alone: for `midrad_of` and `bounds_of`
+pub conversion_kept : {x : Reason} {a : Judged (ℕ × ℕ)} {r : ℕ} (d e : ℕ) → r ≡ code_of (of_matrix x 0) → refuses x ≡ a
+    → (r ≡ coded (λ _. 0) (unplaced a)) × ((d ≡ first_after a d) × (e ≡ second_after a e))
+conversion_kept d e k h = words_kept unplaced d e k h

@@ -83,7 +83,7 @@ widened_low a b w = go (finite w) (finites a b) (at_most a b) (both_low (sub_dow
     go false s t h = omega arith
 
 -- nor is it said of an amount: 6, 10 and 14 are other numbers too
-abbrev No8 : Answer ℕ → Type 0
+abbrev No8 : {A : Type 0} → Answer A → Type 0
 No8 (gives v) = Unit {0}
 No8 (refuses x) = number_of x.reason ≡ 8 → ⊥
 
