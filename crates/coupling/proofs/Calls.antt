@@ -16,18 +16,18 @@ pub short : (w : Answer ℕ) {o : Answer ℕ} → w ≡ o → ((n : ℕ) → giv
 short (gives n) e h = h n e
 short (refuses x) e h = tt
 
--- sizes that are read are small, where the code's answer z is o
+-- sizes that are read are small, where the code's answer a is o
 pub small_sizes : (a : Answer Sizes) {o : Answer Sizes} {l u : ℕ} → a ≡ o → ((r c : ℕ) → gives (sizes r c) ≡ o → Fitting r c l u) → SmallSizes a
 small_sizes (gives z) e h = let f = h z.rows z.columns e in (f.rows, f.columns)
 small_sizes (refuses x) e h = tt
 
--- a call that is refused leaves both words as they were. What it is refused with, `placed` makes a whole refusal of
-pub words_kept : {E : Type 0} {x : E} {a : Result (ℕ × ℕ) E} {r : ℕ} (placed : Result (ℕ × ℕ) E → Answer (ℕ × ℕ)) (d e : ℕ)
-    → r ≡ coded (λ _. 0) (placed (refuses x)) → refuses x ≡ a
-    → (r ≡ coded (λ _. 0) (placed a)) × ((d ≡ first_after a d) × (e ≡ second_after a e))
-words_kept placed d e k h = (k ∙ ap (λ z. coded (λ _. 0) (placed z)) h, (ap (λ z. first_after z d) h, ap (λ z. second_after z e) h))
+-- where a call is refused with x, r and two words that stay as they were are what its answer a asks for; `whole` makes of a the answer with matrix, row and column
+pub words_kept : {E : Type 0} {x : E} {a : Result (ℕ × ℕ) E} {r : ℕ} (whole : Result (ℕ × ℕ) E → Answer (ℕ × ℕ)) (d e : ℕ)
+    → r ≡ coded (λ _. 0) (whole (refuses x)) → refuses x ≡ a
+    → (r ≡ coded (λ _. 0) (whole a)) × ((d ≡ first_after a d) × (e ≡ second_after a e))
+words_kept whole d e k h = (k ∙ ap (λ z. coded (λ _. 0) (whole z)) h, (ap (λ z. first_after z d) h, ap (λ z. second_after z e) h))
 
--- so a conversion, which is refused with a reason alone: for `midrad_of` and `bounds_of`
+-- the same of a conversion, whose answer (`midrad_of`, `bounds_of`) has a reason alone: matrix, row and column are zero
 pub conversion_kept : {x : Reason} {a : Judged (ℕ × ℕ)} {r : ℕ} (d e : ℕ) → r ≡ code_of (of_matrix x 0) → refuses x ≡ a
     → (r ≡ coded (λ _. 0) (unplaced a)) × ((d ≡ first_after a d) × (e ≡ second_after a e))
 conversion_kept d e k h = words_kept unplaced d e k h

@@ -50,9 +50,9 @@ module _ (n i j k l : ℕ) (hj : j < n) (hl : l < n) where
   from (inl h) = omega (arith, digits_lt h hj)
   from (inr (e, h)) = let m : i * n ≡ k * n = ap (λ (x : ℕ). x * n) e in omega arith
 
--- ---- 8 is said of the order alone: no bound and no amount is refused with it
+-- ---- 8, `NotRising`, is said of the order alone: no bound and no amount is refused with it
 
--- a refusal's number is 5 or less: 3, 4 and 5 are said of bounds
+-- the number of a reason is 5 or less: a cell's widening is refused with 3, 4 or 5
 abbrev Low : {A : Type 0} → Judged A → Type 0
 Low (gives v) = Unit {0}
 Low (refuses x) = number_of x ≤ 5
@@ -82,7 +82,7 @@ widened_low a b w = go (finite w) (finites a b) (at_most a b) (both_low (sub_dow
     go true false t h = omega arith
     go false s t h = omega arith
 
--- nor is it said of an amount: 6, 10 and 14 are other numbers too
+-- nor is an amount refused with 8: 6, 10 and 14 are other numbers too
 abbrev No8 : {A : Type 0} → Answer A → Type 0
 No8 (gives v) = Unit {0}
 No8 (refuses x) = number_of x.reason ≡ 8 → ⊥
