@@ -1,5 +1,4 @@
--- A running entry's value in a lent slice: the numbers of a value are read back as it, what a call on it answers and leaves, and that histories of calls go on
--- from slice to slice. Assumes nothing.
+-- A running entry's value in a lent slice: the numbers of a value are read back as it, and histories of calls go on from slice to slice. Assumes nothing.
 use mathlib.Core.Path.{◌≡◌, refl, sym, ap, subst, ◌∙◌}
 use mathlib.Core.List.{List, [], ◌∷◌, ◌++◌}
 use Prim.Native.Nat.{ℕ, ◌≤◌}

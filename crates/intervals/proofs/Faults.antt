@@ -1,4 +1,4 @@
--- Laws of `fault_of`, one for each way that the code returns; what a pair of bounds without a fault is. Assumes nothing.
+-- Laws of `fault_of`: its answer by the order of two numbers; and what a pair of bounds without a fault is. Assumes nothing.
 use mathlib.Core.Path.{◌≡◌, refl, sym, ap₂}
 use mathlib.Core.Bool.{Bool, true, false, cond}
 use Prim.Native.Nat.{ℕ}

@@ -1,4 +1,4 @@
--- What is worked out of a midpoint and a radius: one law for each kind, from what the calls give.
+-- What is worked out of a midpoint and a radius, from what the calls give: a part, the outer radius, and that radius raised by a factor; of one cell and of all.
 use mathlib.Core.Path.{◌≡◌, refl, sym, ap, ap₂, ◌∙◌}
 use mathlib.Core.List.{List}
 use mathlib.Core.Option.{Option, none, some, bind}

@@ -1,4 +1,4 @@
--- The running sums of method 3 taken apart: they go on, or one of them is refused; the centre with the other sign; and 2^-125 more in the radius.
+-- The running sums of method 3 taken apart: the centre with the other sign, and 2^-125 more in the radius.
 use mathlib.Core.Path.{◌≡◌, refl, sym, ap, ◌∙◌, subst}
 use mathlib.Core.Option.{Option, some, bind}
 use Prim.Native.Nat.{ℕ, ◌^◌, ◌≤◌}

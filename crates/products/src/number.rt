@@ -14,10 +14,10 @@ use unpacked::{BIAS, LARGEST_EXPONENT, Number, ZERO_EXPONENT};
 pub const PAST_LARGEST: u64 = 0x100_0000;
 
 // How many bits of a sum are dropped when it is rounded to 24: it is first shifted up to 62 bits, and 62 - 24 is 38.
-const DROPPED: u32 = 38;
+pub const DROPPED: u32 = 38;
 
 // Dropping 38 bits, of which 36 are guard bits, adds 2 to the exponent.
-const GAIN: u32 = DROPPED - GUARD;
+pub const GAIN: u32 = DROPPED - GUARD;
 
 // Whether |x| is at most the largest number.
 #[tactic(auto, using(unpacked::proofs::Worths::fits_below, unpacked::proofs::Worths::fits_beyond, unpacked::proofs::Worths::fits_last))]

@@ -1,4 +1,4 @@
--- Laws of 1 and 2: one for each way out of the tests, and what passing them tells. Assumes nothing.
+-- Laws of refusals 1 and 2: what passing the tests of sizes and lengths tells. Assumes nothing.
 use mathlib.Core.Path.{◌≡◌, sym, subst}
 use mathlib.Core.Bool.{true}
 use Prim.Native.Nat.{ℕ, ◌*◌, ◌≤◌}

@@ -1,4 +1,4 @@
--- Laws of a sheet's bytes: numbers, zeros, records. Assumes nothing.
+-- Laws of a sheet's bytes: zeros, and the wear of a class sheet's cell. Assumes nothing.
 use mathlib.Core.Path.{◌≡◌, refl, sym, ap}
 use mathlib.Core.Bool.{Bool, true, false, cond}
 use mathlib.Core.List.{List}

@@ -1,4 +1,4 @@
--- Laws of a load: the test of its first amount, the amounts that the code gives, and what a read with it tells. Assumes nothing.
+-- Laws of a load: its amounts tested one by one, and what a read with it answers and tells. Assumes nothing.
 use mathlib.Core.Path.{◌≡◌, sym, ap, ◌∙◌}
 use mathlib.Core.List.{List}
 use Prim.Native.Nat.{ℕ, ◌+◌}
