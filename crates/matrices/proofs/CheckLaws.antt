@@ -1,4 +1,4 @@
--- The checks of a product: one law for each way that the code returns.
+-- The checks of a product: of its cells one after another, and all checks in their order.
 use mathlib.Core.Path.{◌≡◌, sym, ap, ◌∙◌}
 use mathlib.Core.Bool.{Bool, cond}
 use Prim.Native.Nat.{ℕ, ◌+◌, ◌*◌, ◌/◌, ◌%◌, ◌<◌}

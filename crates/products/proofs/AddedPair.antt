@@ -1,4 +1,4 @@
--- A pair of cells added to the sums of an entry: the fault of sums and cells by the tests of the code, and the answer from the running sums after the step.
+-- A pair of cells added to the sums of an entry: sums and cells without a fault, and the answer from the running sums after the step.
 use mathlib.Core.Path.{◌≡◌, refl, sym, ap}
 use mathlib.Core.Bool.{Bool, true}
 use Rattle.std.specs.Prelude.{Some, None}

@@ -1,4 +1,4 @@
--- What is worked out of a midpoint and a radius, from what the calls give: a part, the outer radius, and that radius raised by a factor; of one cell and of all.
+-- What is worked out of a midpoint and a radius, from what the calls give: the part, |m| + r, and (c × |m|) + r; of one cell, and of the first cells of a list.
 use mathlib.Core.Path.{◌≡◌, refl, sym, ap, ap₂, ◌∙◌}
 use mathlib.Core.List.{List}
 use mathlib.Core.Option.{Option, none, some, bind}

@@ -1,4 +1,4 @@
--- One entry of method 5: what `five::entry` computes from midpoints, parts and |m| + r is the entry of the definition.
+-- One entry of method 5: what `Five::finish` computes from midpoints, parts and |m| + r is the entry of the definition.
 use mathlib.Core.Path.{◌≡◌, refl, sym, ap, ap₂, ◌∙◌, subst}
 use mathlib.Core.List.{List}
 use Rattle.std.specs.Prelude.{Option as Maybe}
@@ -103,7 +103,7 @@ module _ (p : Spot) (q : Lists) where
         let w = finite_number (get_or q.pa (p.i * p.k + l) 0) (number parts l) (held_number _ _ (made l h).first) (P.part_row.each l h) in
         (w.0, w.1 ∙ held_value _ _ (made l h).first)
 
-    -- ---- what `five::entry` asks for
+    -- ---- what the calls of `Five::finish` ask for
     pub outers_reach : Reaches outers
     outers_reach = reaches p q.wa q.wb (m * p.k) read P.a_outers.long P.b_outers.long
 

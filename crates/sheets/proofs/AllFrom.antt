@@ -1,4 +1,4 @@
--- Laws of a test at each of several places: one place more, and all of them. Assumes nothing.
+-- Laws of a test at each of several places: what passing all of them tells, and the places of a range and of a list. Assumes nothing.
 use mathlib.Core.Path.{◌≡◌, refl, ap, ◌∙◌, subst}
 use mathlib.Core.Bool.{Bool, true, false, cond, ◌&&◌}
 use mathlib.Core.List.{List}

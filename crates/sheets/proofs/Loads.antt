@@ -1,4 +1,4 @@
--- Laws of a load: its amounts tested one by one, and what a read with it answers and tells. Assumes nothing.
+-- Laws of a load: the tests of its eight amounts, a load of another length, the amounts that the code gives, and what a read with it answers and tells. Assumes nothing.
 use mathlib.Core.Path.{◌≡◌, sym, ap, ◌∙◌}
 use mathlib.Core.List.{List}
 use Prim.Native.Nat.{ℕ, ◌+◌}
