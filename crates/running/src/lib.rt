@@ -84,11 +84,8 @@ impl Running {
     pub fn exchange(self, bytes: &[u8]) -> Result<Running, Refusal>
         ensures { result ≡ exchange_of self bytes.now }
     {
-        // Not `?`: with it a call from C takes 1.2 to 1.6 of this time, since the compiler then puts the value's first word together of bytes.
-        match load::read(bytes) {
-            Ok(amounts) => Ok(Running { amounts, ..self }),
-            Err(reason) => Err(Refusal::from(reason)),
-        }
+        let amounts = load::read(bytes)?;
+        Ok(Running { amounts, ..self })
     }
 
     // The range so far and the number of pairs taken. For a value carried on by these calls from its beginning the range is the entry by method 1 over
